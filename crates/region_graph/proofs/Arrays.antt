@@ -1,0 +1,144 @@
+-- Arrays whose first places hold a list: filling one, putting an element in the middle, and reading, for any element, store and size.
+use mathlib.Core.Path.{_≡_, refl, sym, ap, _∙_}
+use mathlib.Core.Bool.{Bool, true, false}
+use mathlib.Core.List.{List, [], _∷_, _++_, map, append-assoc}
+use Prim.Native.Nat.{ℕ, zero, suc, _+_, _-_, _≤_, _<_}
+use native.Mathlib.Numerals.{add-one}
+use native.Mathlib.Nat.{sub-zero}
+use native.Mathlib.Omega.{arith}
+use lib.ListN.{length, getD, take, drop, set, replicate, length-append, length-replicate, length-map, length-set, length-drop, List·getD-append, List·getD-map}
+use lib.Seq.{take-suc, drop-cons, set-at, append-snoc, take-at, drop-at, take-length, drop-length, take-take, take-set-le, set-split, getD-take, length-take-le, drop-append-add}
+use Rattle.region_graph.specs.Lists.{keep, any, position}
+use Rattle.region_graph.specs.Record.{places}
+use Rattle.region_graph.proofs.Lists.{keep-took, keep-left, map-append, any-found, any-missed}
+
+module _ {A B : Type 0} (f : A → B) where
+  pub map-take : (n : ℕ) (xs : List A) → map f (take n xs) ≡ take n (map f xs)
+  map-take zero xs = refl
+  map-take (suc n) [] = refl
+  map-take (suc n) (x ∷ xs) = ap (λ (l : List B). f x ∷ l) (map-take n xs)
+
+  pub getD-map-in : (xs : List A) (i : ℕ) (e : B) (d : A) → i < length xs → getD (map f xs) i e ≡ f (getD xs i d)
+  getD-map-in [] i e d h = absurd (omega arith)
+  getD-map-in (x ∷ xs) zero e d h = refl
+  getD-map-in (x ∷ xs) (suc i) e d h = getD-map-in xs i e d (omega arith)
+
+pub drop-past : {A : Type 0} (ps : List A) (y : A) (ys : List A) → drop (suc (length ps)) (ps ++ (y ∷ ys)) ≡ ys
+drop-past [] y ys = refl
+drop-past (p ∷ ps) y ys = drop-past ps y ys
+
+-- the array's first `count` places hold xs, and each other place `none`
+pub record Filled {A B : Type 0} (store : A → B) (none : B) (size : ℕ) (items : List B) (count : ℕ) (xs : List A) : Type 0 where
+  pub shape : items ≡ places store none size xs
+  pub counted : count ≡ length xs
+  pub room : length xs ≤ size
+
+module _ {A B : Type 0} {store : A → B} {none : B} {size : ℕ} where
+  pub filled-none : Filled store none size (replicate size none) 0 []
+  filled-none = record { shape = rw sub-zero; counted = refl; room = omega arith }
+
+  module _ {items : List B} {count : ℕ} {xs : List A} (h : Filled store none size items count xs) where
+    pub filled-length : length items ≡ size
+    filled-length = rw (h .shape, length-append, length-replicate, length-map) (omega (arith, h .room))
+
+    -- what stands at a place
+    pub filled-at : (i : ℕ) (e : B) (d : A) → i < count → getD items i e ≡ store (getD xs i d)
+    filled-at i e d k =
+        let l : i < length xs = omega (arith, h .counted) in
+        rw (h .shape) (List·getD-append (map store xs) (replicate (size - length xs) none) e i (rw length-map l) ∙ getD-map-in store xs i e d l)
+
+    pub filled-inside : (i : ℕ) → i < count → i < length xs
+    filled-inside i k = omega (arith, h .counted)
+
+    -- what the value at a place means
+    pub filled-means : (out : B → A) → ((x : A) → out (store x) ≡ x) → (i : ℕ) (e : B) (d : A) → i < count → out (getD items i e) ≡ getD xs i d
+    filled-means out back i e d k = ap out (filled-at i e d k) ∙ back (getD xs i d)
+
+    -- a search by place that ended within the count, and one that did not
+    pub filled-found : (p : A → Bool) {k : ℕ} → k ≡ position p xs → k < count → any p xs ≡ true
+    filled-found p e l = any-found p xs (omega (arith, h .counted))
+
+    pub filled-missed : (p : A → Bool) {k : ℕ} → k ≡ position p xs → count ≤ k → any p xs ≡ false
+    filled-missed p e l = any-missed p xs (omega (arith, h .counted))
+
+    -- the next place takes one element more
+    pub filled-more : (x : A) → count < size → Filled store none size (set items count (store x)) (count + 1) (xs ++ (x ∷ []))
+    filled-more x r = record {
+      shape =
+          let n = size - (length xs + 1) in
+          let e : size - length xs ≡ suc n = omega (arith, h .counted) in
+          rw (h .shape, length-append xs (x ∷ []), map-append store xs (x ∷ []), e)
+          (set-at (map store xs) none (replicate n none) (store x) count (length-map xs store ∙ sym (h .counted))
+          ∙ sym (append-snoc (map store xs) (store x) (replicate n none)));
+      counted = rw length-append (ap (λ (n : ℕ). n + 1) (h .counted));
+      room = rw length-append (omega (arith, h .counted));
+    }
+
+  -- a turn of a loop over xs that takes the elements that pass p
+  module _ (p : A → Bool) {items : List B} {n : ℕ} (xs : List A) (i : ℕ) (d : A) (l : i < length xs)
+      (h : Filled store none size items n (keep p (take i xs))) where
+    pub filled-took : {b : B} → n < size → b ≡ store (getD xs i d) → p (getD xs i d) ≡ true
+        → Filled store none size (set items n b) (n + 1) (keep p (take (i + 1) xs))
+    filled-took r e t = rw (keep-took p xs i d l t, e) (filled-more h (getD xs i d) r)
+
+    pub filled-left : p (getD xs i d) ≡ false → Filled store none size items n (keep p (take (i + 1) xs))
+    filled-left t = rw (keep-left p xs i d l t) h
+
+  -- a turn of a loop that takes every element
+  pub filled-next : {items : List B} (xs : List A) (i : ℕ) (d : A) → i < length xs → Filled store none size items i (take i xs) → i < size
+      → Filled store none size (set items i (store (getD xs i d))) (i + 1) (take (i + 1) xs)
+  filled-next xs i d l h r = rw (add-one i, take-suc xs i d l, ← add-one i) (filled-more h (getD xs i d) r)
+
+-- the places from i on have moved up by one, and what stands at i does not count
+pub record Opened {A B : Type 0} (store : A → B) (none : B) (size : ℕ) (items : List B) (i : ℕ) (xs : List A) : Type 0 where
+  pub low : take i items ≡ map store (take i xs)
+  pub high : drop (suc i) items ≡ map store (drop i xs) ++ replicate (size - suc (length xs)) none
+  pub long : length items ≡ size
+
+module _ {A B : Type 0} {store : A → B} {none : B} {size : ℕ} where
+  -- nothing has moved yet
+  pub opened-start : {items : List B} {count : ℕ} {xs : List A} → Filled store none size items count xs → count < size → Opened store none size items count xs
+  opened-start {items} {count} {xs} h r =
+      let n = size - suc (length xs) in
+      let e : size - length xs ≡ suc n = omega (arith, h .counted) in
+      let s : items ≡ map store xs ++ (none ∷ replicate n none) = rw (h .shape, e) in
+      record {
+        low = rw (s, h .counted, take-length) (take-at (map store xs) (none ∷ replicate n none) (length xs) (length-map xs store));
+        high =
+            rw (s, h .counted, drop-length)
+            (ap (λ (k : ℕ). drop (suc k) (map store xs ++ (none ∷ replicate n none))) (sym (length-map xs store))
+            ∙ drop-past (map store xs) none (replicate n none));
+        long = filled-length h;
+      }
+
+  -- one element moves up
+  pub opened-step : {items : List B} {xs : List A} (i j : ℕ) (e : B) (d : A) → i ≡ suc j → i ≤ length xs → length xs < size
+      → Opened store none size items i xs → Opened store none size (set items i (getD items j e)) j xs
+  opened-step {items} {xs} i j e d q l r h =
+      let k : i < length items = omega (arith, h .long) in
+      let m : j < length xs = omega arith in
+      let v : getD items j e ≡ store (getD xs j d)
+      = sym (getD-take i items j e (omega arith)) ∙ ap (λ (t : List B). getD t j e) (h .low)
+      ∙ getD-map-in store (take i xs) j e d (rw (length-take-le i xs l) (omega arith)) ∙ ap store (getD-take i xs j d (omega arith)) in
+      record {
+        low =
+            take-set-le j items i (getD items j e) (omega arith) ∙ sym (take-take j i items (omega arith)) ∙ ap (take j) (h .low)
+            ∙ sym (map-take store j (take i xs)) ∙ ap (map store) (take-take j i xs (omega arith));
+        high =
+            rw (set-split items i (getD items j e) k, drop-cons xs j d m, ← q)
+            (drop-at (take i items) (getD items j e ∷ drop (suc i) items) i (length-take-le i items (omega arith)) ∙ rw (v, h .high, q));
+        long = length-set items i (getD items j e) ∙ h .long;
+      }
+
+  -- the free place takes the new element
+  pub opened-end : {items : List B} {count : ℕ} {xs : List A} {b : B} (i : ℕ) (x : A) → count ≡ length xs → i ≤ length xs → length xs < size
+      → b ≡ store x → Opened store none size items i xs → Filled store none size (set items i b) (count + 1) (take i xs ++ (x ∷ drop i xs))
+  opened-end {items} {count} {xs} {b} i x c l r e h =
+      let n : length (take i xs ++ (x ∷ drop i xs)) ≡ suc (length xs)
+      = length-append (take i xs) (x ∷ drop i xs) ∙ rw (length-take-le i xs l, length-drop) (omega arith) in
+      record {
+        shape =
+            rw (set-split items i b (omega (arith, h .long)), e, h .low, h .high, n, map-append store (take i xs) (x ∷ drop i xs), append-assoc);
+        counted = rw (n, c) (add-one (length xs));
+        room = rw n r;
+      }

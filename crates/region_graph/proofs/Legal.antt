@@ -1,0 +1,283 @@
+-- The model keeps all that document 01 says of R, B and F.
+use mathlib.Core.Path.{_≡_, refl, sym, ap, _∙_}
+use mathlib.Core.Bool.{Bool, true, false, not, _||_}
+use mathlib.Core.List.{List, [], _∷_, _++_}
+use Prim.Native.Nat.{ℕ, _≤_, _<_}
+use native.Mathlib.Omega.{arith}
+use lib.Dec.{eqb, ltb}
+use lib.ListN.{length}
+use borrow.Author.Tests.{leb-true, ltb-true, eqb-true, eqb-false, not-true}
+use Rattle.region_graph.specs.Size.{regions, most-bundles, most-connections, most-provided, most-listed}
+use Rattle.region_graph.specs.Refusals.{not-refused}
+use Rattle.region_graph.specs.Lists.{pick, keep, any, All, member, insert, ascends}
+use Rattle.region_graph.specs.Model.{Word, Model, Bundle, Part, Connection, NumberedPart, LegalBundle, LegalConnection, Legal, nothing, bundle-before, connection-before}
+use Rattle.region_graph.specs.Calls.{Call, Question, first-no, questions, number, accepted, after, run, Words, PartWords, at-location, in-region, joins, touches, within, part-within, part-ascends}
+use Rattle.region_graph.specs.Places.{ShortPart}
+use Rattle.region_graph.specs.Promise.{part}
+use Rattle.region_graph.proofs.Lists.{eqb-sym, and-fst, and-snd, false-true, pick-yes, keep-length, any-insert, insert-length, any-none, all-map, all-kept, all-insert}
+use Rattle.region_graph.proofs.Ascending.{Strict, or-right, ascends-keep, ascends-insert, strict-numbers, strict-bundles, strict-connections, numbers-differ, connections-differ}
+
+-- neither of two tests
+not-or : (a b : Bool) → not (a || b) ≡ true → (not a ≡ true) × (not b ≡ true)
+not-or true b e = false-true e
+not-or false b e = (refl, e)
+
+-- no refusal: each question is answered yes
+pub all-yes : (qs : List Question) → All (λ q. eqb (q .number) not-refused ≡ false) qs → first-no qs ≡ not-refused → All (λ q. q .yes ≡ true) qs
+all-yes [] n e = tt
+all-yes (q ∷ qs) n e = go (q .yes) refl (all-yes qs (n .1)) e
+  where
+    go : (b : Bool) → q .yes ≡ b → (first-no qs ≡ not-refused → All (λ q. q .yes ≡ true) qs) → pick b (first-no qs) (q .number) ≡ not-refused
+        → (q .yes ≡ true) × All (λ q. q .yes ≡ true) qs
+    go true h r k = (h, r k)
+    go false h r k = absurd (eqb-false (q .number) not-refused (n .0) k)
+
+-- questions that follow others
+pub first-no-stops : (qs rs : List Question) {k : ℕ} → first-no qs ≡ k → eqb k not-refused ≡ false → first-no (qs ++ rs) ≡ k
+first-no-stops [] rs {k} e n = absurd (eqb-false k not-refused n (sym e))
+first-no-stops (q ∷ qs) rs {k} e n = go (q .yes) (λ f. first-no-stops qs rs f n) e
+  where
+    go : (b : Bool) → (first-no qs ≡ k → first-no (qs ++ rs) ≡ k) → pick b (first-no qs) (q .number) ≡ k
+        → pick b (first-no (qs ++ rs)) (q .number) ≡ k
+    go true f h = f h
+    go false f h = h
+
+pub first-no-goes-on : (qs rs : List Question) → All (λ q. q .yes ≡ true) qs → first-no (qs ++ rs) ≡ first-no rs
+first-no-goes-on [] rs h = refl
+first-no-goes-on (q ∷ qs) rs h = pick-yes (first-no (qs ++ rs)) (q .number) (h .0) ∙ first-no-goes-on qs rs (h .1)
+
+-- what an accepted install has passed
+pub record Installable (m : Model) (b : Bundle) : Type 0 where
+  pub region : member (b .region) (m .regions) ≡ true
+  pub few-packages : length (b .packages) ≤ most-provided
+  pub few-services : length (b .services) ≤ most-provided
+  pub packages-ascend : ascends ltb (b .packages) ≡ true
+  pub services-ascend : ascends ltb (b .services) ≡ true
+  pub absent : any (at-location (b .location)) (m .bundles) ≡ false
+  pub room : length (m .bundles) < most-bundles
+
+pub installable : (m : Model) (b : Bundle) → number m (Call.install b) ≡ not-refused → Installable m b
+installable m b e =
+    let h = all-yes (questions m (Call.install b)) (refl, (refl, (refl, (refl, (refl, (refl, (refl, tt))))))) e in
+    record {
+      region = h .1 .0;
+      few-packages = leb-true _ _ (and-fst (within most-provided (b .packages)) _ (h .1 .1 .0));
+      few-services = leb-true _ _ (and-snd (within most-provided (b .packages)) _ (h .1 .1 .0));
+      packages-ascend = and-fst (ascends ltb (b .packages)) _ (h .1 .1 .1 .0);
+      services-ascend = and-snd (ascends ltb (b .packages)) _ (h .1 .1 .1 .0);
+      absent = not-true _ (h .1 .1 .1 .1 .0);
+      room = ltb-true _ _ (h .1 .1 .1 .1 .1 .1 .0);
+    }
+
+-- what an accepted connect has passed
+pub record Connectable (m : Model) (c : Connection) : Type 0 where
+  pub source : member (c .source) (m .regions) ≡ true
+  pub target : member (c .target) (m .regions) ≡ true
+  pub differ : eqb (c .source) (c .target) ≡ false
+  pub absent : any (joins (c .source) (c .target)) (m .connections) ≡ false
+  pub bundles-few : length (c .filter .bundles) ≤ most-listed
+  pub packages-within : part-within (c .filter .packages) ≡ true
+  pub services-within : part-within (c .filter .services) ≡ true
+  pub bundles-ascend : ascends ltb (c .filter .bundles) ≡ true
+  pub packages-ascend : part-ascends (c .filter .packages) ≡ true
+  pub services-ascend : part-ascends (c .filter .services) ≡ true
+  pub room : length (m .connections) < most-connections
+
+pub connectable : (m : Model) (c : Connection) → number m (Call.connect c) ≡ not-refused → Connectable m c
+connectable m c e =
+    let h = all-yes (questions m (Call.connect c)) (refl, (refl, (refl, (refl, (refl, (refl, (refl, tt))))))) e in
+    let few = h .1 .1 .1 .1 .0 in
+    let ascend = h .1 .1 .1 .1 .1 .0 in
+    let parts-few = and-snd (within most-listed (c .filter .bundles)) _ few in
+    let parts-ascend = and-snd (ascends ltb (c .filter .bundles)) _ ascend in
+    record {
+      source = and-fst (member (c .source) (m .regions)) _ (h .1 .0);
+      target = and-snd (member (c .source) (m .regions)) _ (h .1 .0);
+      differ = not-true _ (h .1 .1 .0);
+      absent = not-true _ (h .1 .1 .1 .0);
+      bundles-few = leb-true _ _ (and-fst (within most-listed (c .filter .bundles)) _ few);
+      packages-within = and-fst (part-within (c .filter .packages)) _ parts-few;
+      services-within = and-snd (part-within (c .filter .packages)) _ parts-few;
+      bundles-ascend = and-fst (ascends ltb (c .filter .bundles)) _ ascend;
+      packages-ascend = and-fst (part-ascends (c .filter .packages)) _ parts-ascend;
+      services-ascend = and-snd (part-ascends (c .filter .packages)) _ parts-ascend;
+      room = ltb-true _ _ (h .1 .1 .1 .1 .1 .1 .0);
+    }
+
+-- what bundles and connections have in common: few, ascending, and each with a property
+record Kept {A : Type 0} (most : ℕ) (before : A → A → Bool) (P : A → Type 0) (xs : List A) : Type 0 where
+  few : length xs ≤ most
+  ascend : ascends before xs ≡ true
+  each : All P xs
+
+module _ {A : Type 0} {most : ℕ} {before : A → A → Bool} {xs : List A} where
+  kept-map : (P Q : A → Type 0) → ((x : A) → P x → Q x) → Kept most before P xs → Kept most before Q xs
+  kept-map P Q f k = record { few = k .few; ascend = k .ascend; each = all-map P Q f xs (k .each) }
+
+  module _ (strict : Strict before) where
+    kept-keep : (p : A → Bool) (P Q : A → Type 0) → ((x : A) → p x ≡ true → P x → Q x) → Kept most before P xs → Kept most before Q (keep p xs)
+    kept-keep p P Q f k =
+        record {
+          few = omega (arith, keep-length p xs, k .few);
+          ascend = ascends-keep before strict p xs (k .ascend);
+          each = all-kept p P Q f xs (k .each);
+        }
+
+    -- an element joins, unlike all others by a test
+    kept-insert : (P : A → Type 0) (x : A) (same : A → Bool) → ((y : A) → same y ≡ false → before x y ≡ false → before y x ≡ true)
+        → P x → any same xs ≡ false → length xs < most → Kept most before P xs → Kept most before P (insert before x xs)
+    kept-insert P x same differ h absent room k =
+        record {
+          few = rw insert-length room;
+          ascend =
+              ascends-insert before strict x xs
+              (all-map (λ y. same y ≡ false) (λ y. before x y ≡ false → before y x ≡ true) differ xs (any-none same xs absent)) (k .ascend);
+          each = all-insert P before x xs h (k .each);
+        }
+
+-- the bundles and connections of a model on regions rs
+abbrev KeptBundles : List ℕ → List Bundle → Type 0
+KeptBundles rs bs = Kept most-bundles bundle-before (LegalBundle rs) bs
+
+abbrev KeptConnections : List ℕ → List Connection → Type 0
+KeptConnections rs cs = Kept most-connections connection-before (LegalConnection rs) cs
+
+legal : {rs : List ℕ} {bs : List Bundle} {cs : List Connection} → All (λ r. r < regions) rs → ascends ltb rs ≡ true
+    → KeptBundles rs bs → KeptConnections rs cs → Legal (record { regions = rs; bundles = bs; connections = cs })
+legal numbers ascend b c =
+    record {
+      region-numbers = numbers;
+      regions-ascend = ascend;
+      bundles-few = b .few;
+      bundles-ascend = b .ascend;
+      bundles-legal = b .each;
+      connections-few = c .few;
+      connections-ascend = c .ascend;
+      connections-legal = c .each;
+    }
+
+module _ {m : Model} (l : Legal m) where
+  kept-bundles : KeptBundles (m .regions) (m .bundles)
+  kept-bundles = record { few = l .bundles-few; ascend = l .bundles-ascend; each = l .bundles-legal }
+
+  kept-connections : KeptConnections (m .regions) (m .connections)
+  kept-connections = record { few = l .connections-few; ascend = l .connections-ascend; each = l .connections-legal }
+
+-- a bundle or a connection stays legal where its regions stay
+module _ (rs ts : List ℕ) where
+  legal-bundle : (b : Bundle) → (member (b .region) rs ≡ true → member (b .region) ts ≡ true) → LegalBundle rs b → LegalBundle ts b
+  legal-bundle b f h = record { location = h .location; region = f (h .region); packages = h .packages; services = h .services }
+
+  legal-connection : (c : Connection) → (member (c .source) rs ≡ true → member (c .source) ts ≡ true)
+      → (member (c .target) rs ≡ true → member (c .target) ts ≡ true) → LegalConnection rs c → LegalConnection ts c
+  legal-connection c f g h = record { source = f (h .source); target = g (h .target); differ = h .differ; filter = h .filter }
+
+-- a number that passes the test stays
+member-keep : (n : ℕ) (p : ℕ → Bool) (xs : List ℕ) → p n ≡ true → member n xs ≡ true → member n (keep p xs) ≡ true
+member-keep n p [] t h = h
+member-keep n p (x ∷ xs) t h = go (p x) refl (eqb n x) refl (member-keep n p xs t) h
+  where
+    go : (b : Bool) → p x ≡ b → (d : Bool) → eqb n x ≡ d → (member n xs ≡ true → member n (keep p xs) ≡ true) → (d || member n xs) ≡ true
+        → member n (pick b (x ∷ keep p xs) (keep p xs)) ≡ true
+    go true e true f r k = rw f
+    go true e false f r k = rw f (r k)
+    go false e true f r k = false-true (sym e ∙ sym (ap p (eqb-true n x f)) ∙ t)
+    go false e false f r k = r k
+
+-- a part of a filter that was handed over
+numbered-part : (p : Part) → PartWords p → part-within p ≡ true → part-ascends p ≡ true → NumberedPart p
+numbered-part (Part.listed xs) w f a = record { few = leb-true (length xs) most-listed f; words = w; ascend = a }
+numbered-part Part.everything w f a = tt
+
+pub legal-nothing : Legal nothing
+legal-nothing = legal tt refl (record { few = omega arith; ascend = refl; each = tt }) (record { few = omega arith; ascend = refl; each = tt })
+
+-- an accepted call
+pub legal-accepted : (m : Model) (c : Call) → Legal m → Words c → number m c ≡ not-refused → Legal (accepted m c)
+legal-accepted m (Call.add-region r) l w e =
+    let h = all-yes (questions m (Call.add-region r)) (refl, (refl, tt)) e in
+    legal (all-insert (λ s. s < regions) ltb r (m .regions) (ltb-true r regions (h .0)) (l .region-numbers))
+    (ascends-insert ltb strict-numbers r (m .regions)
+    (all-map (λ s. eqb r s ≡ false) (λ s. ltb r s ≡ false → ltb s r ≡ true) (λ s n. numbers-differ r s (eqb-false r s n)) (m .regions)
+    (any-none (eqb r) (m .regions) (not-true _ (h .1 .0)))) (l .regions-ascend))
+    (kept-map (LegalBundle (m .regions)) (LegalBundle rs) (λ b. legal-bundle (m .regions) rs b (stays (b .region))) (kept-bundles l))
+    (kept-map (LegalConnection (m .regions)) (LegalConnection rs)
+    (λ c. legal-connection (m .regions) rs c (stays (c .source)) (stays (c .target))) (kept-connections l))
+  where
+    rs : List ℕ
+    rs = insert ltb r (m .regions)
+
+    stays : (n : ℕ) → member n (m .regions) ≡ true → member n rs ≡ true
+    stays n h = any-insert (eqb n) ltb r (m .regions) ∙ or-right (eqb n r) h
+legal-accepted m (Call.remove-region r) l w e =
+    legal (all-kept other (λ s. s < regions) (λ s. s < regions) (λ s _ h. h) (m .regions) (l .region-numbers))
+    (ascends-keep ltb strict-numbers other (m .regions) (l .regions-ascend))
+    (kept-keep strict-bundles (λ b. not (in-region r b)) (LegalBundle (m .regions)) (LegalBundle rs)
+    (λ b t. legal-bundle (m .regions) rs b (stays (b .region) t)) (kept-bundles l))
+    (kept-keep strict-connections (λ c. not (touches r c)) (LegalConnection (m .regions)) (LegalConnection rs)
+    (λ c t. let n = not-or (eqb (c .source) r) (eqb (c .target) r) t in
+    legal-connection (m .regions) rs c (stays (c .source) (n .0)) (stays (c .target) (n .1))) (kept-connections l))
+  where
+    other : ℕ → Bool
+    other s = not (eqb r s)
+
+    rs : List ℕ
+    rs = keep other (m .regions)
+
+    stays : (n : ℕ) → not (eqb n r) ≡ true → member n (m .regions) ≡ true → member n rs ≡ true
+    stays n t = member-keep n other (m .regions) (ap not (eqb-sym r n) ∙ t)
+legal-accepted m (Call.install b) l w e =
+    let h = installable m b e in
+    legal (l .region-numbers) (l .regions-ascend)
+    (kept-insert strict-bundles (LegalBundle (m .regions)) b (at-location (b .location))
+    (λ c n. numbers-differ (b .location) (c .location) (λ q. eqb-false (c .location) (b .location) n (sym q)))
+    (record {
+      location = w .0;
+      region = h .region;
+      packages = record { few = h .few-packages; words = w .1; ascend = h .packages-ascend };
+      services = record { few = h .few-services; words = w .2; ascend = h .services-ascend };
+    })
+    (h .absent) (h .room) (kept-bundles l)) (kept-connections l)
+legal-accepted m (Call.uninstall n) l w e =
+    legal (l .region-numbers) (l .regions-ascend)
+    (kept-keep strict-bundles (λ b. not (at-location n b)) (LegalBundle (m .regions)) (LegalBundle (m .regions)) (λ b _ h. h) (kept-bundles l))
+    (kept-connections l)
+legal-accepted m (Call.connect c) l w e =
+    let h = connectable m c e in
+    legal (l .region-numbers) (l .regions-ascend) (kept-bundles l)
+    (kept-insert strict-connections (LegalConnection (m .regions)) c (joins (c .source) (c .target)) (connections-differ c)
+    (record {
+      source = h .source;
+      target = h .target;
+      differ = h .differ;
+      filter = record {
+        bundles = record { few = h .bundles-few; words = w .0; ascend = h .bundles-ascend };
+        packages = numbered-part (c .filter .packages) (w .1) (h .packages-within) (h .packages-ascend);
+        services = numbered-part (c .filter .services) (w .2) (h .services-within) (h .services-ascend);
+      };
+    })
+    (h .absent) (h .room) (kept-connections l))
+legal-accepted m (Call.disconnect r s) l w e =
+    legal (l .region-numbers) (l .regions-ascend) (kept-bundles l)
+    (kept-keep strict-connections (λ c. not (joins r s c)) (LegalConnection (m .regions)) (LegalConnection (m .regions)) (λ c _ h. h)
+    (kept-connections l))
+
+pub legal-after : (m : Model) (c : Call) → Legal m → Words c → Legal (after m c)
+legal-after m c l w = go (eqb (number m c) not-refused) refl
+  where
+    go : (b : Bool) → eqb (number m c) not-refused ≡ b → Legal (pick b (accepted m c) m)
+    go true e = legal-accepted m c l w (eqb-true (number m c) not-refused e)
+    go false e = l
+
+pub legal-run : (m : Model) (cs : List Call) → Legal m → All Words cs → Legal (run m cs)
+legal-run m [] l w = l
+legal-run m (c ∷ cs) l w = legal-run (after m c) cs (legal-after m c l (w .0)) (w .1)
+
+-- a part that was handed over as a flag and a list
+pub part-words : (all : Bool) (xs : List ℕ) → All Word xs → PartWords (part all xs)
+part-words true xs h = tt
+part-words false xs h = h
+
+pub part-short : (p : Part) → part-within p ≡ true → ShortPart p
+part-short (Part.listed xs) e = leb-true (length xs) most-listed e
+part-short Part.everything e = tt

@@ -1,0 +1,287 @@
+-- The record that stores a model and the model that a record means: each gives the other back.
+use mathlib.Core.Path.{_≡_, refl, sym, ap, _∙_, subst}
+use mathlib.Core.Bool.{Bool, true, false, not, _&&_, _||_, and-false, or-comm}
+use mathlib.Core.List.{List, [], _∷_, _++_, map}
+use Prim.Native.Nat.{ℕ, zero, suc, _+_, _-_, _≤_, _<_, _^_}
+use native.Mathlib.Omega.{arith}
+use lib.Bits.{bitAnd, bitOr}
+use lib.Dec.{eqb, ltb}
+use borrow.Author.Tests.{lt-ltb}
+use lib.ListN.{length, getD, take, replicate, length-map, List·getD-map}
+use lib.Seq.{take-at, getD-take}
+use Rattle.region_graph.specs.Size.{regions, most-bundles, most-connections, most-listed, most-provided}
+use Rattle.region_graph.specs.Refusals.{not-refused}
+use Rattle.region_graph.specs.Lists.{All, member, keep, insert, count-from}
+use Rattle.region_graph.specs.Sets.{has, one, members, set-of}
+use Rattle.region_graph.specs.Model.{Model, Bundle, Filter, Part, Connection, Legal, LegalBundle, LegalConnection, NumberedPart, nothing}
+use Rattle.region_graph.specs.Calls.{Call, number, after, accepted, Words}
+use Rattle.region_graph.specs.Record
+use Rattle.region_graph.specs.Record.{places, Stored, Valid, store, meaning, store-numbers, numbers-of, store-part, part-in, store-bundle, bundle-in, store-bundles, bundles-of, store-connection, connection-in, store-connections, connections-of, no-bundle, no-connection}
+use Rattle.region_graph.specs.Places.{Short, ShortPart, ShortBundle, ShortConnection, Row, NumbersStored, PartStored, BundleStored, BundlesStored, ConnectionStored, ConnectionsStored}
+use Rattle.region_graph.specs.declared.numbers.Numbers.{Numbers}
+use Rattle.region_graph.specs.declared.bundles.StoredBundle.{StoredBundle}
+use Rattle.region_graph.specs.declared.bundles.Bundles.{Bundles}
+use Rattle.region_graph.specs.declared.connections.StoredPart.{StoredPart}
+use Rattle.region_graph.specs.declared.connections.StoredConnection.{StoredConnection}
+use Rattle.region_graph.specs.declared.connections.Connections.{Connections}
+use Rattle.region_graph.specs.declared.Graph.{Graph}
+use Rattle.region_graph.specs.Promise.{Empty, Follows}
+use Rattle.region_graph.specs.declared.Changed.{Changed}
+use Rattle.region_graph.proofs.Lists.{all-map, all-at, keep-same, member-all, member-kept, any-insert, eqb-sym}
+use Rattle.region_graph.proofs.Ascending.{members-back}
+use Rattle.region_graph.proofs.Bits.{has-set, set-ext, set-join, set-leave}
+use Rattle.region_graph.proofs.Legal.{legal-accepted, legal-nothing}
+use Rattle.region_graph.proofs.Arrays.{Filled, filled-none, filled-at, filled-inside}
+
+-- the used places hold the list
+took : {A B : Type 0} (f : A → B) (none : B) (n : ℕ) (xs : List A) → take (length xs) (map f xs ++ replicate n none) ≡ map f xs
+took f none n xs = take-at (map f xs) (replicate n none) (length xs) (length-map xs f)
+
+map-id : {A : Type 0} (xs : List A) → map (λ x. x) xs ≡ xs
+map-id [] = refl
+map-id {A} (x ∷ xs) = ap (λ (l : List A). x ∷ l) (map-id xs)
+
+map-back : {A B : Type 0} (f : A → B) (g : B → A) → ((x : A) → g (f x) ≡ x) → (xs : List A) → map g (map f xs) ≡ xs
+map-back f g h [] = refl
+map-back f g h (x ∷ xs) = λ i. h x i ∷ map-back f g h xs i
+
+pub numbers-back : (xs : List ℕ) → numbers-of (store-numbers xs) ≡ xs
+unfolding numbers-of store-numbers
+numbers-back xs = took (λ x. x) 0 (most-listed - length xs) xs ∙ map-id xs
+
+pub part-back : (p : Part) → part-in (store-part p) ≡ p
+part-back (Part.listed xs) = ap Part.listed (numbers-back xs)
+part-back Part.everything = refl
+
+pub bundle-back : (b : Bundle) → bundle-in (store-bundle b) ≡ b
+bundle-back b = λ i. record {
+  location = b .location;
+  region = b .region;
+  packages = numbers-back (b .packages) i;
+  services = numbers-back (b .services) i;
+}
+
+pub connection-back : (c : Connection) → connection-in (store-connection c) ≡ c
+connection-back c = λ i. record {
+  source = c .source;
+  target = c .target;
+  filter = record {
+    bundles = numbers-back (c .filter .bundles) i;
+    packages = part-back (c .filter .packages) i;
+    services = part-back (c .filter .services) i;
+  };
+}
+
+pub bundles-back : (bs : List Bundle) → bundles-of (store-bundles bs) ≡ bs
+unfolding bundles-of store-bundles
+bundles-back bs =
+    ap (map bundle-in) (took store-bundle (store-bundle no-bundle) (most-bundles - length bs) bs) ∙ map-back store-bundle bundle-in bundle-back bs
+
+pub connections-back : (cs : List Connection) → connections-of (store-connections cs) ≡ cs
+unfolding connections-of store-connections
+connections-back cs =
+    ap (map connection-in) (took store-connection (store-connection no-connection) (most-connections - length cs) cs)
+    ∙ map-back store-connection connection-in connection-back cs
+
+-- what is stored from a short value is stored in the one way
+module _ {A B : Type 0} (put : A → B) (out : B → A) (back : (x : A) → out (put x) ≡ x) (Good : A → Type 0) where
+  pub stored-as : {b : B} (x : A) → b ≡ put x → Good x → Stored put out Good b
+  stored-as {b} x e h =
+      let f : out b ≡ x = ap out e ∙ back x in
+      record { stored = e ∙ ap put (sym f); good = subst Good (sym f) h }
+
+-- the arrays of a stored record hold the lists that they mean
+pub numbers-filled : (n : Numbers) → NumbersStored n → Filled (λ x. x) 0 most-listed (n .items) (n .count) (numbers-of n)
+unfolding store-numbers
+numbers-filled n s = record { shape = ap (λ (m : Numbers). m .items) (s .stored); counted = ap (λ (m : Numbers). m .count) (s .stored); room = s .good }
+
+pub bundles-filled : (bs : Bundles) → BundlesStored bs
+    → Filled store-bundle (store-bundle no-bundle) most-bundles (bs .items) (bs .count) (bundles-of bs)
+unfolding store-bundles
+bundles-filled bs s =
+    record { shape = ap (λ (m : Bundles). m .items) (s .stored); counted = ap (λ (m : Bundles). m .count) (s .stored); room = s .good .few }
+
+pub connections-filled : (cs : Connections) → ConnectionsStored cs
+    → Filled store-connection (store-connection no-connection) most-connections (cs .items) (cs .count) (connections-of cs)
+unfolding store-connections
+connections-filled cs s =
+    record { shape = ap (λ (m : Connections). m .items) (s .stored); counted = ap (λ (m : Connections). m .count) (s .stored); room = s .good .few }
+
+-- the value at a place, and the lists in it, are stored too
+pub bundle-stored : (bs : Bundles) → BundlesStored bs → (i : ℕ) (e : StoredBundle) → i < bs .count → BundleStored (getD (bs .items) i e)
+bundle-stored bs s i e l =
+    let h = bundles-filled bs s in
+    stored-as store-bundle bundle-in bundle-back ShortBundle (getD (bundles-of bs) i no-bundle) (filled-at h i e no-bundle l)
+    (all-at ShortBundle (bundles-of bs) i no-bundle (filled-inside h i l) (s .good .each))
+
+pub connection-stored : (cs : Connections) → ConnectionsStored cs → (i : ℕ) (e : StoredConnection) → i < cs .count
+    → ConnectionStored (getD (cs .items) i e)
+connection-stored cs s i e l =
+    let h = connections-filled cs s in
+    stored-as store-connection connection-in connection-back ShortConnection (getD (connections-of cs) i no-connection) (filled-at h i e no-connection l)
+    (all-at ShortConnection (connections-of cs) i no-connection (filled-inside h i l) (s .good .each))
+
+pub packages-stored : (b : StoredBundle) → BundleStored b → NumbersStored (b .packages)
+packages-stored b s = record { stored = ap (λ (x : StoredBundle). x .packages) (s .stored); good = s .good .packages }
+
+pub services-stored : (b : StoredBundle) → BundleStored b → NumbersStored (b .services)
+services-stored b s = record { stored = ap (λ (x : StoredBundle). x .services) (s .stored); good = s .good .services }
+
+pub named-stored : (c : StoredConnection) → ConnectionStored c → NumbersStored (c .bundles)
+named-stored c s = record { stored = ap (λ (x : StoredConnection). x .bundles) (s .stored); good = s .good .bundles }
+
+pub package-part-stored : (c : StoredConnection) → ConnectionStored c → PartStored (c .packages)
+package-part-stored c s = record { stored = ap (λ (x : StoredConnection). x .packages) (s .stored); good = s .good .packages }
+
+pub service-part-stored : (c : StoredConnection) → ConnectionStored c → PartStored (c .services)
+service-part-stored c s = record { stored = ap (λ (x : StoredConnection). x .services) (s .stored); good = s .good .services }
+
+pub listed-stored : (p : StoredPart) → PartStored p → p .all ≡ false → NumbersStored (p .numbers)
+listed-stored p s e = record { stored = ap (λ (x : StoredPart). x .numbers) (rw e at (s .stored)); good = rw e at (s .good) }
+
+-- an empty array of places
+pub no-numbers : {n : Numbers} → n ≡ store-numbers [] → Filled (λ x. x) 0 most-listed (n .items) 0 []
+unfolding store-numbers
+no-numbers e = rw e filled-none
+
+pub no-bundles : {bs : Bundles} → bs ≡ store-bundles [] → Filled store-bundle (store-bundle no-bundle) most-bundles (bs .items) 0 []
+unfolding store-bundles
+no-bundles e = rw e filled-none
+
+pub no-connections : {cs : Connections} → cs ≡ store-connections []
+    → Filled store-connection (store-connection no-connection) most-connections (cs .items) 0 []
+unfolding store-connections
+no-connections e = rw e filled-none
+
+-- and an array that holds a list is what stores it
+pub filled-numbers : {items : List ℕ} {count : ℕ} {xs : List ℕ} → Filled (λ x. x) 0 most-listed items count xs
+    → _≡_ {A = Numbers} (record { count = count; items = items }) (store-numbers xs)
+unfolding store-numbers
+filled-numbers h = λ i. record { count = h .counted i; items = h .shape i }
+
+pub filled-bundles : {items : List StoredBundle} {count : ℕ} {bs : List Bundle}
+    → Filled store-bundle (store-bundle no-bundle) most-bundles items count bs
+    → _≡_ {A = Bundles} (record { count = count; items = items }) (store-bundles bs)
+unfolding store-bundles
+filled-bundles h = λ i. record { count = h .counted i; items = h .shape i }
+
+pub filled-connections : {items : List StoredConnection} {count : ℕ} {cs : List Connection}
+    → Filled store-connection (store-connection no-connection) most-connections items count cs
+    → _≡_ {A = Connections} (record { count = count; items = items }) (store-connections cs)
+unfolding store-connections
+filled-connections h = λ i. record { count = h .counted i; items = h .shape i }
+
+all-counted : (P : ℕ → Type 0) (a k : ℕ) → ((n : ℕ) → n < a + k → P n) → All P (count-from a k)
+all-counted P a zero f = tt
+all-counted P a (suc k) f = (f a (omega arith), all-counted P (suc a) k (λ n h. f n (omega arith)))
+
+-- the regions that a set of a legal model's regions has
+regions-back : (m : Model) → Legal m → members (set-of (λ r. member r (m .regions))) ≡ m .regions
+regions-back m h =
+    keep-same (has (set-of (λ r. member r (m .regions)))) (λ r. member r (m .regions)) (count-from 0 regions)
+    (all-counted (λ r. has (set-of (λ s. member s (m .regions))) r ≡ member r (m .regions)) 0 regions
+    (λ r l. has-set (λ s. member s (m .regions)) r ∙ rw (lt-ltb r regions (omega arith))))
+    ∙ members-back regions (m .regions) (h .region-numbers) (h .regions-ascend)
+
+pub meaning-back : (m : Model) → Legal m → meaning (store m) ≡ m
+unfolding meaning store
+meaning-back m h = λ i. record { regions = regions-back m h i; bundles = bundles-back (m .bundles) i; connections = connections-back (m .connections) i }
+
+-- two valid records with one meaning are equal
+pub meaning-injective : (g h : Graph) → Valid g → Valid h → meaning g ≡ meaning h → g ≡ h
+meaning-injective g h v w e = v .stored ∙ ap store e ∙ sym (w .stored)
+
+-- legal lists are short enough for their places
+short-part : (p : Part) → NumberedPart p → ShortPart p
+short-part (Part.listed xs) h = h .few
+short-part Part.everything h = tt
+
+short-bundle : {rs : List ℕ} {b : Bundle} → LegalBundle rs b → ShortBundle b
+short-bundle h = record { packages = omega (arith, h .packages .few); services = omega (arith, h .services .few) }
+
+short-connection : {rs : List ℕ} {c : Connection} → LegalConnection rs c → ShortConnection c
+short-connection {c = c} h = record {
+  bundles = h .filter .bundles .few;
+  packages = short-part (c .filter .packages) (h .filter .packages);
+  services = short-part (c .filter .services) (h .filter .services);
+}
+
+-- the parts of a valid record
+module _ (g : Graph) (v : Valid g) where
+  pub regions-stored : g .regions ≡ set-of (λ r. member r (meaning g .regions))
+  unfolding store
+  regions-stored = ap (λ (k : Graph). k .regions) (v .stored)
+
+  -- the test of a set is the model's
+  pub has-region : (r : ℕ) → has (g .regions) r ≡ member r (meaning g .regions)
+  has-region r = ap (λ (x : ℕ). has x r) regions-stored ∙ has-set (λ s. member s (meaning g .regions)) r ∙ go (member r (meaning g .regions)) refl
+    where
+      go : (b : Bool) → member r (meaning g .regions) ≡ b → (ltb r regions && b) ≡ b
+      go true e = rw (lt-ltb r regions (member-all (λ s. s < regions) r (meaning g .regions) (v .good .region-numbers) e))
+      go false e = and-false (ltb r regions)
+
+  pub bundles-stored : BundlesStored (g .bundles)
+  unfolding store meaning
+  bundles-stored = record {
+    stored = ap (λ (k : Graph). k .bundles) (v .stored);
+    good = record {
+      few = v .good .bundles-few;
+      each = all-map (LegalBundle (meaning g .regions)) ShortBundle (λ b h. short-bundle h) (meaning g .bundles) (v .good .bundles-legal);
+    };
+  }
+
+  pub connections-stored : ConnectionsStored (g .connections)
+  unfolding store meaning
+  connections-stored = record {
+    stored = ap (λ (k : Graph). k .connections) (v .stored);
+    good = record {
+      few = v .good .connections-few;
+      each = all-map (LegalConnection (meaning g .regions)) ShortConnection (λ c h. short-connection h) (meaning g .connections) (v .good .connections-legal);
+    };
+  }
+
+-- a region joins a set of regions, or leaves it
+pub set-insert : {x : ℕ} (rs : List ℕ) (r : ℕ) → x ≡ set-of (λ n. member n rs) → bitOr x (one r) ≡ set-of (λ n. member n (insert ltb r rs))
+set-insert rs r e =
+    ap (λ (x : ℕ). bitOr x (one r)) e ∙ set-join (λ n. member n rs) r
+    ∙ set-ext (λ n. member n rs || eqb r n) (λ n. member n (insert ltb r rs))
+    (λ n h. or-comm (member n rs) (eqb r n) ∙ ap (λ (b : Bool). b || member n rs) (eqb-sym r n) ∙ sym (any-insert (eqb n) ltb r rs))
+
+pub set-remove : {x : ℕ} (rs : List ℕ) (r : ℕ) → x ≡ set-of (λ n. member n rs)
+    → bitAnd x (2 ^ 64 - 1 - one r) ≡ set-of (λ n. member n (keep (λ s. not (eqb r s)) rs))
+set-remove rs r e =
+    ap (λ (x : ℕ). bitAnd x (2 ^ 64 - 1 - one r)) e ∙ set-leave (λ n. member n rs) r
+    ∙ set-ext (λ n. member n rs && not (eqb r n)) (λ n. member n (keep (λ s. not (eqb r s)) rs))
+    (λ n h. sym (member-kept (λ s. not (eqb r s)) n rs))
+
+-- the parts of a record that stores a model
+pub stored-graph : (m : Model) {x : ℕ} {bs : Bundles} {cs : Connections} → x ≡ set-of (λ r. member r (m .regions))
+    → bs ≡ store-bundles (m .bundles) → cs ≡ store-connections (m .connections)
+    → _≡_ {A = Graph} (record { regions = x; bundles = bs; connections = cs }) (store m)
+unfolding store
+stored-graph m e f h = λ i. record { regions = e i; bundles = f i; connections = h i }
+
+-- a record that stores a legal model means it and is valid
+pub stores-valid : {g : Graph} (m : Model) → Legal m → g ≡ store m → Valid g
+stores-valid {g} m h e =
+    let f : meaning g ≡ m = ap meaning e ∙ meaning-back m h in
+    record { good = subst Legal (sym f) h; stored = e ∙ ap store (sym f) }
+
+pub stores-means : {g : Graph} (m : Model) → Legal m → g ≡ store m → meaning g ≡ m
+stores-means m h e = ap meaning e ∙ meaning-back m h
+
+pub stores-nothing : {g : Graph} → g ≡ store nothing → Empty g
+stores-nothing e = record { valid = stores-valid nothing legal-nothing e; sets = stores-means nothing legal-nothing e }
+
+-- a refused call hands back the record that it got
+pub refused : (g : Graph) (c : Call) {k : ℕ} → Valid g → number (meaning g) c ≡ k → eqb k not-refused ≡ false
+    → Follows g c (record { graph = g; number = k })
+refused g c v e n = record { valid = v; number = sym e; next = sym (rw (e, n)); kept = λ f. refl }
+
+-- an accepted call hands back the record that stores the model after it
+pub accepts : (g : Graph) (c : Call) {h : Graph} → Valid g → Words c → number (meaning g) c ≡ not-refused → h ≡ store (accepted (meaning g) c)
+    → Follows g c (record { graph = h; number = not-refused })
+accepts g c v w e s =
+    let m = accepted (meaning g) c in
+    let l : Legal m = legal-accepted (meaning g) c (v .good) w e in
+    record { valid = stores-valid m l s; number = sym e; next = stores-means m l s ∙ sym (rw e); kept = λ f. absurd (f refl) }

@@ -1,0 +1,212 @@
+-- What the layers above read of a record: the place of a location, and the sets of holders and successors as bundles and connections join.
+use mathlib.Core.Path.{_≡_, refl, sym, ap, ap₂, _∙_, subst}
+use mathlib.Core.Bool.{Bool, true, false, _&&_, _||_, and-true, and-false, or-false}
+use mathlib.Core.List.{List, [], _∷_, map}
+use Prim.Native.Nat.{ℕ, zero, suc, _+_, _≤_, _<_}
+use native.Mathlib.Numerals.{add-one}
+use native.Mathlib.Omega.{arith}
+use lib.Dec.{eqb}
+use lib.Bits.{bitOr}
+use lib.ListN.{length, getD, take, set}
+use lib.Seq.{take-suc}
+use borrow.Author.Tests.{eqb-true, eq-eqb, ne-eqb}
+use Rattle.region_graph.specs.Size.{regions}
+use Rattle.region_graph.specs.Lists.{pick, any, All, member, position, count-from}
+use Rattle.region_graph.specs.Sets.{one, set-of}
+use Rattle.region_graph.specs.Model.{Bundle, Filter, Part, Connection, LegalConnection}
+use Rattle.region_graph.specs.Calls.{at-location}
+use Rattle.region_graph.specs.Items.{provided, part-of, provides, passes}
+use Rattle.region_graph.specs.Record.{Valid, meaning, connections-of, no-bundle, no-connection}
+use Rattle.region_graph.specs.Promise.{place-of}
+use Rattle.region_graph.specs.declared.Graph.{Graph}
+use Rattle.region_graph.specs.declared.Item.{Item}
+use Rattle.region_graph.specs.declared.Place.the-variants.{Within, Nowhere}
+use Rattle.region_graph.specs.declared.connections.StoredConnection.{StoredConnection}
+use Rattle.region_graph.proofs.Lists.{any-append, all-at, false-true}
+use Rattle.region_graph.proofs.Bits.{set-ext, set-none, set-join}
+use Rattle.region_graph.proofs.Arrays.{filled-at, filled-inside}
+use Rattle.region_graph.proofs.Storing.{connections-stored, connections-filled}
+
+-- lists
+
+-- some element of one more passes
+any-more : {A : Type 0} (p : A → Bool) (xs : List A) (i : ℕ) (d : A) → i < length xs
+    → any p (take (i + 1) xs) ≡ (any p (take i xs) || p (getD xs i d))
+any-more p xs i d h =
+    rw (add-one, take-suc xs i d h)
+    (any-append p (take i xs) (getD xs i d ∷ []) ∙ ap (λ (t : Bool). any p (take i xs) || t) (or-false (p (getD xs i d))))
+
+-- what holds of each number of a list holds of a member
+all-member : (P : ℕ → Type 0) (n : ℕ) (xs : List ℕ) → member n xs ≡ true → All P xs → P n
+all-member P n [] e h = false-true e
+all-member P n (x ∷ xs) e h = go (eqb n x) refl (λ f. all-member P n xs f (h .1)) e
+  where
+    go : (b : Bool) → eqb n x ≡ b → (member n xs ≡ true → P n) → (b || member n xs) ≡ true → P n
+    go true f r k = subst P (sym (eqb-true n x f)) (h .0)
+    go false f r k = r k
+
+-- a list of the values of a function at consecutive numbers: what stands at a place
+counted-at : (f : ℕ → ℕ) (a k j n d : ℕ) → j < k → n ≡ a + j → getD (map f (count-from a k)) j d ≡ f n
+counted-at f a zero j n d h e = absurd (omega arith)
+counted-at f a (suc k) zero n d h e = ap f (omega arith)
+counted-at f a (suc k) (suc j) n d h e = counted-at f (suc a) k j n d (omega arith) (omega arith)
+
+-- functions that agree give one list
+counted-same : (f g : ℕ → ℕ) (a k : ℕ) → ((n : ℕ) → a ≤ n → f n ≡ g n) → map f (count-from a k) ≡ map g (count-from a k)
+counted-same f g a zero h = refl
+counted-same f g a (suc k) h = rw (h a (omega arith), counted-same f g (suc a) k (λ n l. h n (omega arith)))
+
+-- functions that agree but at one number give lists that differ at its place
+counted-set : (f g : ℕ → ℕ) (a k j n v : ℕ) → j < k → n ≡ a + j → v ≡ g n → ((m : ℕ) → (m ≡ n → ⊥) → f m ≡ g m)
+    → set (map f (count-from a k)) j v ≡ map g (count-from a k)
+counted-set f g a zero j n v l e w h = absurd (omega arith)
+counted-set f g a (suc k) zero n v l e w h =
+    let s : n ≡ a = omega arith in
+    rw (w, s, counted-same f g (suc a) k (λ m b. h m (λ q. omega arith)))
+counted-set f g a (suc k) (suc j) n v l e w h =
+    rw (h a (λ q. omega arith), counted-set f g (suc a) k j n v (omega arith) (omega arith) w h)
+
+-- items
+
+-- of a kind above 2 a bundle brings nothing
+pub provided-none : (k : ℕ) (b : Bundle) → (k ≡ 0 → ⊥) → (k ≡ 1 → ⊥) → (k ≡ 2 → ⊥) → provided k b ≡ []
+provided-none zero b f g h = absurd (f refl)
+provided-none (suc zero) b f g h = absurd (g refl)
+provided-none (suc (suc zero)) b f g h = absurd (h refl)
+provided-none (suc (suc (suc k))) b f g h = refl
+
+-- and a filter's part lists nothing
+pub part-none : (k : ℕ) (f : Filter) → (k ≡ 0 → ⊥) → (k ≡ 1 → ⊥) → (k ≡ 2 → ⊥) → part-of k f ≡ Part.listed []
+part-none zero p f g h = absurd (f refl)
+part-none (suc zero) p f g h = absurd (g refl)
+part-none (suc (suc zero)) p f g h = absurd (h refl)
+part-none (suc (suc (suc k))) p f g h = refl
+
+-- the region of a location
+
+module _ (l : ℕ) where
+  -- the first bundle at the location has it
+  pub place-found : (bs : List Bundle) → position (at-location l) bs < length bs
+      → Within (getD bs (position (at-location l) bs) no-bundle .region) ≡ place-of bs l
+  place-found [] h = absurd (omega arith)
+  place-found (b ∷ bs) h = go (at-location l b) (place-found bs) h
+    where
+      go : (t : Bool)
+          → (position (at-location l) bs < length bs → Within (getD bs (position (at-location l) bs) no-bundle .region) ≡ place-of bs l)
+          → pick t 0 (suc (position (at-location l) bs)) < suc (length bs)
+          → Within (getD (b ∷ bs) (pick t 0 (suc (position (at-location l) bs))) no-bundle .region) ≡ pick t (Within (b .region)) (place-of bs l)
+      go true r k = refl
+      go false r k = r (omega arith)
+
+  -- no bundle is at the location
+  pub place-missed : (bs : List Bundle) → length bs ≤ position (at-location l) bs → Nowhere ≡ place-of bs l
+  place-missed [] h = refl
+  place-missed (b ∷ bs) h = go (at-location l b) (place-missed bs) h
+    where
+      go : (t : Bool) → (length bs ≤ position (at-location l) bs → Nowhere ≡ place-of bs l)
+          → suc (length bs) ≤ pick t 0 (suc (position (at-location l) bs)) → Nowhere ≡ pick t (Within (b .region)) (place-of bs l)
+      go true r k = absurd (omega arith)
+      go false r k = r (omega arith)
+
+-- the set of the regions to which some element leads, as one element more comes in
+
+module _ {A : Type 0} (q : A → ℕ → Bool) (xs : List A) (i : ℕ) (d : A) (h : i < length xs) where
+  -- an element that leads to one region adds it
+  set-took : (r : ℕ) → ((n : ℕ) → q (getD xs i d) n ≡ eqb r n)
+      → bitOr (set-of (λ n. any (λ x. q x n) (take i xs))) (one r) ≡ set-of (λ n. any (λ x. q x n) (take (i + 1) xs))
+  set-took r f =
+      set-join (λ n. any (λ x. q x n) (take i xs)) r
+      ∙ set-ext (λ n. any (λ x. q x n) (take i xs) || eqb r n) (λ n. any (λ x. q x n) (take (i + 1) xs))
+      (λ n l. sym (any-more (λ x. q x n) xs i d h ∙ ap (λ (t : Bool). any (λ x. q x n) (take i xs) || t) (f n)))
+
+  -- an element that leads nowhere adds nothing
+  set-left : ((n : ℕ) → q (getD xs i d) n ≡ false)
+      → set-of (λ n. any (λ x. q x n) (take i xs)) ≡ set-of (λ n. any (λ x. q x n) (take (i + 1) xs))
+  set-left f =
+      set-ext (λ n. any (λ x. q x n) (take i xs)) (λ n. any (λ x. q x n) (take (i + 1) xs))
+      (λ n l.
+      sym (any-more (λ x. q x n) xs i d h ∙ ap (λ (t : Bool). any (λ x. q x n) (take i xs) || t) (f n) ∙ or-false (any (λ x. q x n) (take i xs))))
+
+-- holders
+
+-- a bundle brings the item to region r
+abbrev brings : Item → Bundle → ℕ → Bool
+brings item b r = eqb (b .region) r && provides item b
+
+-- the regions to which some bundle of the list brings the item
+unfoldable pub held : Item → List Bundle → ℕ
+held item bs = set-of (λ r. any (λ b. brings item b r) bs)
+
+-- no bundle brings it anywhere
+pub held-none : (item : Item) → 0 ≡ held item []
+unfolding held
+held-none item = sym set-none
+
+module _ (item : Item) (bs : List Bundle) (i : ℕ) (h : i < length bs) where
+  -- a bundle that provides the item adds its region
+  pub held-took : provides item (getD bs i no-bundle) ≡ true
+      → bitOr (held item (take i bs)) (one (getD bs i no-bundle .region)) ≡ held item (take (i + 1) bs)
+  unfolding held
+  held-took e =
+      set-took (brings item) bs i no-bundle h (getD bs i no-bundle .region)
+      (λ n. ap (λ (t : Bool). eqb (getD bs i no-bundle .region) n && t) e ∙ and-true (eqb (getD bs i no-bundle .region) n))
+
+  -- a bundle that does not adds nothing
+  pub held-left : provides item (getD bs i no-bundle) ≡ false → held item (take i bs) ≡ held item (take (i + 1) bs)
+  unfolding held
+  held-left e =
+      set-left (brings item) bs i no-bundle h
+      (λ n. ap (λ (t : Bool). eqb (getD bs i no-bundle .region) n && t) e ∙ and-false (eqb (getD bs i no-bundle .region) n))
+
+-- successors
+
+-- a connection leads with the item from region r to region s
+abbrev leads : Item → ℕ → Connection → ℕ → Bool
+leads item r c s = (eqb (c .source) r && eqb (c .target) s) && passes item (c .filter)
+
+-- the regions to which some connection of the list leads from region r
+abbrev reached : Item → List Connection → ℕ → ℕ
+reached item cs r = set-of (λ s. any (λ c. leads item r c s) cs)
+
+-- for each region the regions to which some connection of the list leads
+unfoldable pub led : Item → List Connection → List ℕ
+led item cs = map (reached item cs) (count-from 0 regions)
+
+-- no connection leads anywhere
+pub led-none : (item : Item) → map (λ r. 0) (count-from 0 regions) ≡ led item []
+unfolding led
+led-none item = counted-same (λ r. 0) (reached item []) 0 regions (λ r l. sym set-none)
+
+module _ (item : Item) (cs : List Connection) (i : ℕ) (h : i < length cs) where
+  -- a connection that passes the item adds its target to what its source reaches
+  pub led-took : {sets : List ℕ} {s x : ℕ} → sets ≡ led item (take i cs) → s ≡ getD cs i no-connection .source
+      → x ≡ one (getD cs i no-connection .target) → s < regions → passes item (getD cs i no-connection .filter) ≡ true
+      → set sets s (bitOr (getD sets s 0) x) ≡ led item (take (i + 1) cs)
+  unfolding led
+  led-took {sets} {s} {x} p f t l e =
+      let c = getD cs i no-connection in
+      ap (λ (ls : List ℕ). set ls s (bitOr (getD sets s 0) x)) p
+      ∙ counted-set (reached item (take i cs)) (reached item (take (i + 1) cs)) 0 regions s s (bitOr (getD sets s 0) x) l (omega arith)
+      (ap₂ bitOr (ap (λ (ls : List ℕ). getD ls s 0) p ∙ counted-at (reached item (take i cs)) 0 regions s s 0 l (omega arith)) t
+      ∙ set-took (leads item s) cs i no-connection h (c .target) (λ n. rw (e, eq-eqb (c .source) s (sym f)) (and-true (eqb (c .target) n))))
+      (λ r k. set-left (leads item r) cs i no-connection h (λ n. rw (ne-eqb (c .source) r (λ q. k (sym q ∙ sym f)))))
+
+  -- a connection that does not adds nothing
+  pub led-left : passes item (getD cs i no-connection .filter) ≡ false → led item (take i cs) ≡ led item (take (i + 1) cs)
+  unfolding led
+  led-left e =
+      let c = getD cs i no-connection in
+      counted-same (reached item (take i cs)) (reached item (take (i + 1) cs)) 0 regions
+      (λ r l. set-left (leads item r) cs i no-connection h (λ n. rw e (and-false (eqb (c .source) r && eqb (c .target) n))))
+
+-- the source of a valid record's connection is a region
+pub source-region : (g : Graph) → Valid g → (i : ℕ) (e : StoredConnection) → i < g .connections .count
+    → getD (g .connections .items) i e .source < regions
+unfolding meaning
+source-region g v i e l =
+    let h = connections-filled (g .connections) (connections-stored g v) in
+    let cs = connections-of (g .connections) in
+    rw (filled-at h i e no-connection l)
+    (all-member (λ r. r < regions) (getD cs i no-connection .source) (meaning g .regions)
+    (all-at (LegalConnection (meaning g .regions)) cs i no-connection (filled-inside h i l) (v .good .connections-legal) .source)
+    (v .good .region-numbers))

@@ -1,0 +1,94 @@
+use mathlib.Core.Path.{_≡_, sym, _∙_}
+use Prim.Native.Nat.{ℕ, _+_, _-_, _≤_, _<_}
+use native.Mathlib.Omega.{arith}
+use borrow.Author.Needs.{needs}
+use lib.ListN.{length}
+use Rattle.region_graph.specs.Size.{most-connections}
+use Rattle.region_graph.specs.Record.{connections-of, connection-in, store-connection, no-connection}
+use Rattle.region_graph.proofs.Arrays.{Opened, opened-start, opened-step, opened-end}
+use Rattle.region_graph.proofs.Storing.{connections-filled, filled-connections}
+use Rattle.region_graph.proofs.connections.Connections.with.Statement.{statement}
+use Rattle.region_graph.proofs.connections.Connections.with.Tie as tie
+
+abbrev Inv-loop : tie.InvT-loop
+Inv-loop place c items₀ count i₀ items i =
+    (place ≤ i)
+    × (i ≤ count)
+    × (count < most-connections)
+    × Opened store-connection (store-connection no-connection) most-connections items i (connections-of (record { count = count; items = items₀ }))
+
+abbrev μ-loop : tie.MeasureT-loop
+μ-loop place c items₀ count i₀ items i = i
+
+loop-holds : tie.Need-loop-holds Inv-loop μ-loop
+loop-holds c =
+    let s = c .before in
+    let h = connections-filled (s .args .self) (s .pre .0) in
+    let r : s .args .self .count < most-connections = omega (arith, h .counted, s .pre .1 .1 .1) in
+    (omega (arith, h .counted, s .pre .1 .1 .0), omega arith, r, opened-start h r)
+
+sub-moved : tie.Need-sub-moved Inv-loop μ-loop
+sub-moved c = search needs
+
+mul-moved : tie.Need-mul-moved Inv-loop μ-loop
+mul-moved c = search needs
+
+array-copy-out-moved : tie.Need-array-copy-out-moved Inv-loop μ-loop
+array-copy-out-moved c = search needs
+
+mul-items : tie.Need-mul-items Inv-loop μ-loop
+mul-items c = search needs
+
+array-set-from-items : tie.Need-array-set-from-items Inv-loop μ-loop
+array-set-from-items c = search needs
+
+sub-i : tie.Need-sub-i Inv-loop μ-loop
+sub-i c = search needs
+
+loop-less : tie.Need-loop-less Inv-loop μ-loop
+loop-less c = search needs
+
+loop-again : tie.Need-loop-again Inv-loop μ-loop
+loop-again c =
+    let a = c .before .before in
+    let s = a .before .before in
+    let h = connections-filled (s .args .self) (s .pre .0) in
+    (omega arith, omega arith, a .loop .inv .2, opened-step (a .loop .i) (a .loop .i - 1) _ no-connection (omega arith) (omega (arith, h .counted)) (s .pre .1 .1 .1) (a .loop .inv .3))
+
+mul-items-2 : tie.Need-mul-items-2 Inv-loop μ-loop
+mul-items-2 c = search needs
+
+array-set-from-items-2 : tie.Need-array-set-from-items-2 Inv-loop μ-loop
+array-set-from-items-2 c = search needs
+
+add-t16 : tie.Need-add-t16 Inv-loop μ-loop
+add-t16 c = search needs
+
+returns : tie.Need-returns Inv-loop μ-loop
+returns c =
+    let a = c .before in
+    let s = a .before .before in
+    let h = connections-filled (s .args .self) (s .pre .0) in
+    let e : a .loop .i ≡ s .args .place = omega arith in
+    filled-connections (opened-end (s .args .place) (connection-in (s .args .c)) (h .counted) (s .pre .1 .1 .0) (s .pre .1 .1 .1) (s .pre .1 .0 .stored)
+    (rw e at (a .loop .inv .3)))
+
+pub with-spec : {M : Type 1} → statement M
+with-spec =
+    tie.close
+    (tie.spec
+    Inv-loop
+    μ-loop
+    loop-holds
+    sub-moved
+    mul-moved
+    array-copy-out-moved
+    mul-items
+    array-set-from-items
+    sub-i
+    loop-less
+    loop-again
+    mul-items-2
+    array-set-from-items-2
+    add-t16
+    returns)

@@ -1,0 +1,68 @@
+use borrow.Author.Needs.{needs}
+use mathlib.Core.Path.{_≡_, sym}
+use mathlib.Core.Bool.{or-false}
+use native.Mathlib.Omega.{arith}
+use borrow.Author.Tests.{eq-eqb, ne-eqb, le-ltb}
+use Rattle.region_graph.proofs.Storing.{named-stored}
+use Rattle.region_graph.proofs.connections.connection_meets.Statement.{statement}
+use Rattle.region_graph.proofs.connections.connection_meets.Tie as tie
+
+enum-known-test : tie.Need-enum-known-test
+enum-known-test c = search needs
+
+returns : tie.Need-returns
+returns c = rw (c .before .before .before .before .test .given .1, eq-eqb _ _ (c .before .if1 .taken))
+
+enum-known-test-2 : tie.Need-enum-known-test-2
+enum-known-test-2 c = search needs
+
+returns-2 : tie.Need-returns-2
+returns-2 c = rw (c .before .before .before .test2 .given .1, eq-eqb _ _ (c .if2 .taken))
+
+enum-known-test-3 : tie.Need-enum-known-test-3
+enum-known-test-3 c = search needs
+
+lists-requires : tie.Need-lists-requires
+lists-requires c κs = named-stored (c .before .before .before .before .before .before .args .c) (c .before .before .before .before .before .before .pre)
+
+returns-3 : tie.Need-returns-3
+returns-3 c = rw (c .before .before .before .before .before .test3 .given .1, eq-eqb _ _ (c .before .before .if3 .taken)) (c .lists .ensures)
+
+enum-known-test-4 : tie.Need-enum-known-test-4
+enum-known-test-4 c = search needs
+
+returns-4 : tie.Need-returns-4
+returns-4 c =
+    let r = c .before .before .before .before .test4 .given .0 .0 in
+    let s = c .before .before .before .before .before .before .args .c .source in
+    rw (c .before .before .before .before .test4 .given .1, le-ltb r s (omega (arith, c .before .if4 .taken)), eq-eqb _ _ (c .before .if4 .taken))
+
+returns-5 : tie.Need-returns-5
+returns-5 c = rw (c .before .before .before .test .given .1, ne-eqb _ _ (c .if1 .left))
+
+returns-6 : tie.Need-returns-6
+returns-6 c = rw (c .before .before .before .before .test2 .given .1, ne-eqb _ _ (c .before .if2 .left))
+
+returns-7 : tie.Need-returns-7
+returns-7 c = rw (c .before .before .before .test3 .given .1, ne-eqb _ _ (c .if3 .left))
+
+returns-8 : tie.Need-returns-8
+returns-8 c = rw (c .before .before .before .before .test4 .given .1, ne-eqb _ _ (c .before .if4 .left)) (sym (or-false _))
+
+pub connection-meets-spec : {M : Type 1} → statement M
+connection-meets-spec =
+    tie.close
+    (tie.spec
+    enum-known-test
+    returns
+    enum-known-test-2
+    returns-2
+    enum-known-test-3
+    lists-requires
+    returns-3
+    enum-known-test-4
+    returns-4
+    returns-5
+    returns-6
+    returns-7
+    returns-8)

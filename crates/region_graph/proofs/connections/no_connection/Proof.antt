@@ -1,0 +1,20 @@
+use borrow.Author.Needs.{needs}
+use mathlib.Core.Bool.{false}
+use mathlib.Core.Path.{_≡_}
+use Rattle.region_graph.proofs.connections.no_connection.Statement.{statement}
+use Rattle.region_graph.proofs.connections.no_connection.Tie as tie
+
+no-numbers-requires : tie.Need-no-numbers-requires
+no-numbers-requires c κs = search needs
+
+returns : tie.Need-returns
+returns c = λ i. record {
+  source = 0;
+  target = 0;
+  bundles = c .no-numbers .ensures i;
+  packages = record { all = false; numbers = c .no-numbers .ensures i };
+  services = record { all = false; numbers = c .no-numbers .ensures i };
+}
+
+pub no-connection-spec : {M : Type 1} → statement M
+no-connection-spec = tie.close (tie.spec no-numbers-requires returns)

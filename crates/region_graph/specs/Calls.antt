@@ -1,0 +1,153 @@
+-- Document 01, "The questions, in order", and what an accepted call does: the six changing calls on the model.
+use mathlib.Core.Bool.{Bool, true, false, not, _&&_, _||_}
+use mathlib.Core.List.{List, [], _∷_, _++_}
+use Prim.Native.Nat.{ℕ}
+use lib.Dec.{eqb, leb, ltb}
+use lib.ListN.{length}
+use Rattle.region_graph.specs.Size.{regions, most-bundles, most-connections, most-provided, most-listed}
+use Rattle.region_graph.specs.Refusals.{not-refused, not-a-region, region-used, no-such-region, ends-equal, connected, not-connected, list-too-long, list-out-of-order, installed, filtered, full, not-installed}
+use Rattle.region_graph.specs.Lists.{pick, keep, any, All, member, insert, ascends}
+use Rattle.region_graph.specs.Model.{Model, Bundle, Filter, Part, Connection, Word, bundle-before, connection-before}
+
+pub data Call : Type 0 where
+  add-region : ℕ → Call
+  remove-region : ℕ → Call
+  install : Bundle → Call
+  uninstall : ℕ → Call
+  connect : Connection → Call
+  disconnect : ℕ → ℕ → Call
+
+pub record Question : Type 0 where
+  pub number : ℕ
+  pub yes : Bool
+
+abbrev pub ask : ℕ → Bool → Question
+ask n b = record { number = n; yes = b }
+
+-- the number of the first question answered no, or 0
+abbrev pub first-no : List Question → ℕ
+first-no [] = not-refused
+first-no (q ∷ qs) = pick (q .yes) (first-no qs) (q .number)
+
+abbrev pub is-region : ℕ → Bool
+is-region r = ltb r regions
+
+abbrev pub at-location : ℕ → Bundle → Bool
+at-location l b = eqb (b .location) l
+
+abbrev pub in-region : ℕ → Bundle → Bool
+in-region r b = eqb (b .region) r
+
+abbrev pub joins : ℕ → ℕ → Connection → Bool
+joins r s c = eqb (c .source) r && eqb (c .target) s
+
+-- from the region or to it
+abbrev pub touches : ℕ → Connection → Bool
+touches r c = eqb (c .source) r || eqb (c .target) r
+
+-- a connection that leaves r names the location in its bundle part
+abbrev pub names : ℕ → ℕ → Connection → Bool
+names r l c = eqb (c .source) r && member l (c .filter .bundles)
+
+abbrev pub within : ℕ → List ℕ → Bool
+within most xs = leb (length xs) most
+
+abbrev pub part-within : Part → Bool
+part-within (Part.listed xs) = within most-listed xs
+part-within Part.everything = true
+
+abbrev pub part-ascends : Part → Bool
+part-ascends (Part.listed xs) = ascends ltb xs
+part-ascends Part.everything = true
+
+abbrev pub filter-within : Filter → Bool
+filter-within f = within most-listed (f .bundles) && (part-within (f .packages) && part-within (f .services))
+
+abbrev pub filter-ascends : Filter → Bool
+filter-ascends f = ascends ltb (f .bundles) && (part-ascends (f .packages) && part-ascends (f .services))
+
+-- the questions about a connection's two ends
+abbrev pub end-questions : Model → ℕ → ℕ → List Question
+end-questions m r s =
+    ask not-a-region (is-region r && is-region s)
+    ∷ ask no-such-region (member r (m .regions) && member s (m .regions))
+    ∷ ask ends-equal (not (eqb r s))
+    ∷ []
+
+-- the questions that each call passes, by number
+abbrev pub questions : Model → Call → List Question
+questions m (add-region r) =
+    ask not-a-region (is-region r)
+    ∷ ask region-used (not (member r (m .regions)))
+    ∷ []
+questions m (remove-region r) =
+    ask not-a-region (is-region r)
+    ∷ ask no-such-region (member r (m .regions))
+    ∷ []
+questions m (install b) =
+    ask not-a-region (is-region (b .region))
+    ∷ ask no-such-region (member (b .region) (m .regions))
+    ∷ ask list-too-long (within most-provided (b .packages) && within most-provided (b .services))
+    ∷ ask list-out-of-order (ascends ltb (b .packages) && ascends ltb (b .services))
+    ∷ ask installed (not (any (at-location (b .location)) (m .bundles)))
+    ∷ ask filtered (not (any (names (b .region) (b .location)) (m .connections)))
+    ∷ ask full (ltb (length (m .bundles)) most-bundles)
+    ∷ []
+questions m (uninstall l) =
+    ask not-installed (any (at-location l) (m .bundles))
+    ∷ []
+questions m (connect c) =
+    end-questions m (c .source) (c .target)
+    ++ ask connected (not (any (joins (c .source) (c .target)) (m .connections)))
+    ∷ ask list-too-long (filter-within (c .filter))
+    ∷ ask list-out-of-order (filter-ascends (c .filter))
+    ∷ ask full (ltb (length (m .connections)) most-connections)
+    ∷ []
+questions m (disconnect r s) =
+    end-questions m r s
+    ++ ask not-connected (any (joins r s) (m .connections))
+    ∷ []
+
+-- the number that a call returns: 0 when it is accepted
+abbrev pub number : Model → Call → ℕ
+number m c = first-no (questions m c)
+
+-- what an accepted call does
+abbrev pub accepted : Model → Call → Model
+accepted m (add-region r) = record { regions = insert ltb r (m .regions); bundles = m .bundles; connections = m .connections }
+accepted m (remove-region r) =
+    record {
+      regions = keep (λ s. not (eqb r s)) (m .regions);
+      bundles = keep (λ b. not (in-region r b)) (m .bundles);
+      connections = keep (λ c. not (touches r c)) (m .connections);
+    }
+accepted m (install b) = record { regions = m .regions; bundles = insert bundle-before b (m .bundles); connections = m .connections }
+accepted m (uninstall l) = record { regions = m .regions; bundles = keep (λ b. not (at-location l b)) (m .bundles); connections = m .connections }
+accepted m (connect c) = record { regions = m .regions; bundles = m .bundles; connections = insert connection-before c (m .connections) }
+accepted m (disconnect r s) = record { regions = m .regions; bundles = m .bundles; connections = keep (λ c. not (joins r s c)) (m .connections) }
+
+-- the model after a call: a refused one does nothing
+abbrev pub after : Model → Call → Model
+after m c = pick (eqb (number m c) not-refused) (accepted m c) m
+
+-- a list of calls: the last model, and the number of each call
+abbrev pub run : Model → List Call → Model
+run m [] = m
+run m (c ∷ cs) = run (after m c) cs
+
+abbrev pub numbers : Model → List Call → List ℕ
+numbers m [] = []
+numbers m (c ∷ cs) = number m c ∷ numbers (after m c) cs
+
+-- the locations and listed numbers that a call is handed have 32 bits
+abbrev pub PartWords : Part → Type 0
+PartWords (Part.listed xs) = All Word xs
+PartWords Part.everything = Unit {0}
+
+abbrev pub Words : Call → Type 0
+Words (add-region r) = Unit {0}
+Words (remove-region r) = Unit {0}
+Words (install b) = Word (b .location) × All Word (b .packages) × All Word (b .services)
+Words (uninstall l) = Unit {0}
+Words (connect c) = All Word (c .filter .bundles) × PartWords (c .filter .packages) × PartWords (c .filter .services)
+Words (disconnect r s) = Unit {0}

@@ -1,0 +1,11 @@
+-- What a reader must believe of the region graph, in document 01's order.
+pub mod Size
+pub mod Refusals
+pub mod Lists
+pub mod Sets
+pub mod Model
+pub mod Calls
+pub mod Items
+pub mod Record
+pub mod Places
+pub mod Promise

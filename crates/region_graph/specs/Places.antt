@@ -1,0 +1,73 @@
+-- What the functions of the record ask of its parts, and the tests by which they search and filter them.
+use mathlib.Core.Bool.{Bool, _&&_, _||_}
+use mathlib.Core.List.{List}
+use Prim.Native.Nat.{ℕ, _≤_}
+use lib.Dec.{eqb, ltb}
+use lib.ListN.{length}
+use Rattle.region_graph.specs.Size.{most-bundles, most-connections, most-listed}
+use Rattle.region_graph.specs.Lists.{All}
+use Rattle.region_graph.specs.Model.{Bundle, Part, Connection}
+use Rattle.region_graph.specs.Calls.{at-location, in-region, joins, touches, names}
+use Rattle.region_graph.specs.Record.{Stored, store-numbers, numbers-of, store-part, part-in, store-bundle, bundle-in, store-bundles, bundles-of, store-connection, connection-in, store-connections, connections-of}
+use Rattle.region_graph.specs.declared.numbers.Numbers.{Numbers}
+use Rattle.region_graph.specs.declared.bundles.StoredBundle.{StoredBundle}
+use Rattle.region_graph.specs.declared.bundles.Bundles.{Bundles}
+use Rattle.region_graph.specs.declared.bundles.BundleTest.{BundleTest}
+use Rattle.region_graph.specs.declared.bundles.BundleTest.the-variants as BundleTest
+use Rattle.region_graph.specs.declared.connections.StoredPart.{StoredPart}
+use Rattle.region_graph.specs.declared.connections.StoredConnection.{StoredConnection}
+use Rattle.region_graph.specs.declared.connections.Connections.{Connections}
+use Rattle.region_graph.specs.declared.connections.ConnectionTest.{ConnectionTest}
+use Rattle.region_graph.specs.declared.connections.ConnectionTest.the-variants as ConnectionTest
+
+-- a list that the places of `Numbers` take
+abbrev pub Short : List ℕ → Type 0
+Short xs = length xs ≤ most-listed
+
+abbrev pub ShortPart : Part → Type 0
+ShortPart (Part.listed xs) = Short xs
+ShortPart Part.everything = Unit {0}
+
+pub record ShortBundle (b : Bundle) : Type 0 where
+  pub packages : Short (b .packages)
+  pub services : Short (b .services)
+
+pub record ShortConnection (c : Connection) : Type 0 where
+  pub bundles : Short (c .filter .bundles)
+  pub packages : ShortPart (c .filter .packages)
+  pub services : ShortPart (c .filter .services)
+
+-- a row of at most so many values
+pub record Row {A : Type 0} (most : ℕ) (Good : A → Type 0) (xs : List A) : Type 0 where
+  pub few : length xs ≤ most
+  pub each : All Good xs
+
+abbrev pub NumbersStored : Numbers → Type 0
+NumbersStored n = Stored store-numbers numbers-of Short n
+
+abbrev pub PartStored : StoredPart → Type 0
+PartStored p = Stored store-part part-in ShortPart p
+
+abbrev pub BundleStored : StoredBundle → Type 0
+BundleStored b = Stored store-bundle bundle-in ShortBundle b
+
+abbrev pub ConnectionStored : StoredConnection → Type 0
+ConnectionStored c = Stored store-connection connection-in ShortConnection c
+
+abbrev pub BundlesStored : Bundles → Type 0
+BundlesStored bs = Stored store-bundles bundles-of (Row most-bundles ShortBundle) bs
+
+abbrev pub ConnectionsStored : Connections → Type 0
+ConnectionsStored cs = Stored store-connections connections-of (Row most-connections ShortConnection) cs
+
+-- the tests by which bundles and connections are looked for and left out
+abbrev pub bundle-meets : BundleTest → Bundle → Bool
+bundle-meets (BundleTest.At l) b = at-location l b
+bundle-meets (BundleTest.In r) b = in-region r b
+bundle-meets (BundleTest.After l) b = ltb l (b .location)
+
+abbrev pub connection-meets : ConnectionTest → Connection → Bool
+connection-meets (ConnectionTest.Joining r s) c = joins r s c
+connection-meets (ConnectionTest.Touching r) c = touches r c
+connection-meets (ConnectionTest.Naming r l) c = names r l c
+connection-meets (ConnectionTest.After r s) c = ltb r (c .source) || (eqb r (c .source) && ltb s (c .target))

@@ -1,0 +1,67 @@
+-- What the calls promise.
+use mathlib.Core.Path.{_≡_}
+use mathlib.Core.Bool.{Bool}
+use mathlib.Core.List.{List, [], _∷_, map}
+use Prim.Native.Nat.{ℕ, _≤_}
+use lib.ListN.{length, getD}
+use Rattle.region_graph.specs.Size.{regions, most-bundles, most-connections, most-listed}
+use Rattle.region_graph.specs.Refusals.{not-refused}
+use Rattle.region_graph.specs.Lists.{pick, All, any, count-from}
+use Rattle.region_graph.specs.Sets.{set-of}
+use Rattle.region_graph.specs.Model.{Model, Bundle, Filter, Part, Connection, bundle-before, connection-before, nothing}
+use Rattle.region_graph.specs.Calls.{Call, number, after, at-location, in-region, joins, touches, names}
+use Rattle.region_graph.specs.Items.{holds, crosses}
+use Rattle.region_graph.specs.Record.{Valid, meaning, no-bundle, no-connection, store-numbers, numbers-of, store-bundles, bundles-of, store-connections, connections-of, store-bundle, store-connection}
+use Rattle.region_graph.specs.declared.Graph.{Graph}
+use Rattle.region_graph.specs.declared.Changed.{Changed}
+use Rattle.region_graph.specs.declared.Item.{Item}
+use Rattle.region_graph.specs.declared.Place.{Place}
+use Rattle.region_graph.specs.declared.Place.the-variants.{Within, Nowhere}
+
+-- the record with nothing in it
+pub record Empty (g : Graph) : Type 0 where
+  pub valid : Valid g
+  pub sets : meaning g ≡ nothing
+
+-- a changing call on the record g gave r
+pub record Follows (g : Graph) (c : Call) (r : Changed) : Type 0 where
+  pub valid : Valid (r .graph)
+  pub number : r .number ≡ number (meaning g) c
+  pub next : meaning (r .graph) ≡ after (meaning g) c
+  pub kept : (r .number ≡ not-refused → ⊥) → r .graph ≡ g
+
+-- a part of a filter as a call is handed it: with the flag "all" the list is no part of it
+abbrev pub part : Bool → List ℕ → Part
+part all xs = pick all Part.everything (Part.listed xs)
+
+-- the bundle and the connection that a call is handed
+abbrev pub bundle : ℕ → ℕ → List ℕ → List ℕ → Bundle
+bundle region location packages services =
+    record { location = location; region = region; packages = packages; services = services }
+
+abbrev pub filter : List ℕ → Bool → List ℕ → Bool → List ℕ → Filter
+filter bundles all-packages packages all-services services =
+    record { bundles = bundles; packages = part all-packages packages; services = part all-services services }
+
+abbrev pub connection : ℕ → ℕ → List ℕ → Bool → List ℕ → Bool → List ℕ → Connection
+connection source target bundles all-packages packages all-services services =
+    record { source = source; target = target; filter = filter bundles all-packages packages all-services services }
+
+-- the region in which a location is installed, if any
+abbrev pub place-of : List Bundle → ℕ → Place
+place-of [] l = Nowhere
+place-of (b ∷ bs) l = pick (at-location l b) (Within (b .region)) (place-of bs l)
+
+-- the set of the regions that hold the item, and for each region the set of those that a connection which passes the item leads to
+abbrev pub holder-set : Model → Item → ℕ
+holder-set m i = set-of (holds m i)
+
+abbrev pub successor-sets : Model → Item → List ℕ
+successor-sets m i = map (λ r. set-of (crosses m i r)) (count-from 0 regions)
+
+-- the i-th bundle and connection in ascending order; past the count, the one that has nothing
+abbrev pub bundle-at : Model → ℕ → Bundle
+bundle-at m i = getD (m .bundles) i no-bundle
+
+abbrev pub connection-at : Model → ℕ → Connection
+connection-at m i = getD (m .connections) i no-connection

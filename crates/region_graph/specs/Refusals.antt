@@ -1,0 +1,45 @@
+-- The numbers of document 01's questions, each named after the answer "no". The constants of src/refusals.rt go with them.
+use Prim.Native.Nat.{ℕ}
+
+-- no question was answered no: the call is accepted
+abbrev pub not-refused : ℕ
+not-refused = 0
+
+-- a region number is above 15
+abbrev pub not-a-region : ℕ
+not-a-region = 1
+
+abbrev pub region-used : ℕ
+region-used = 2
+
+abbrev pub no-such-region : ℕ
+no-such-region = 3
+
+-- the two ends of a connection are one region
+abbrev pub ends-equal : ℕ
+ends-equal = 4
+
+abbrev pub connected : ℕ
+connected = 5
+
+abbrev pub not-connected : ℕ
+not-connected = 6
+
+abbrev pub list-too-long : ℕ
+list-too-long = 7
+
+abbrev pub list-out-of-order : ℕ
+list-out-of-order = 8
+
+abbrev pub installed : ℕ
+installed = 9
+
+-- a connection that leaves the region names the location in its filter's bundle part
+abbrev pub filtered : ℕ
+filtered = 10
+
+abbrev pub full : ℕ
+full = 11
+
+abbrev pub not-installed : ℕ
+not-installed = 12

@@ -1,0 +1,20 @@
+-- The limits of document 01. The constants of src/size.rt go with them.
+use Prim.Native.Nat.{ℕ}
+
+-- region numbers are below this
+abbrev pub regions : ℕ
+regions = 16
+
+abbrev pub most-bundles : ℕ
+most-bundles = 64
+
+abbrev pub most-connections : ℕ
+most-connections = 48
+
+-- packages, and services, of one bundle
+abbrev pub most-provided : ℕ
+most-provided = 8
+
+-- numbers in one part of a filter
+abbrev pub most-listed : ℕ
+most-listed = 16

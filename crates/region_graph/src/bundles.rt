@@ -1,0 +1,150 @@
+// The places of the bundles, in ascending order of location.
+ghost use mathlib.Core.Path.{_≡_};
+ghost use mathlib.Core.Bool.{not, _&&_};
+ghost use mathlib.Core.List.{[], _∷_, _++_};
+ghost use Prim.Native.Nat.{_<_, _≤_};
+ghost use lib.Dec.{ltb};
+ghost use lib.ListN.{length, take, drop};
+ghost use Rattle.region_graph.specs.Size.{«most-bundles», «most-provided»};
+ghost use Rattle.region_graph.specs.Lists.{ascends, keep, position};
+ghost use Rattle.region_graph.specs.Calls.{within};
+ghost use Rattle.region_graph.specs.Record.{«store-bundle», «bundle-in», «no-bundle», «store-bundles», «bundles-of»};
+ghost use Rattle.region_graph.specs.Places.{BundleStored, BundlesStored, «bundle-meets»};
+use crate::numbers::Numbers;
+use crate::numbers::ascending;
+use crate::numbers::no_numbers;
+use crate::size::MOST_BUNDLES;
+use crate::size::MOST_PROVIDED;
+
+pub struct StoredBundle {
+    pub location: u32,
+    pub region: u32,
+    pub packages: Numbers,
+    pub services: Numbers,
+}
+
+pub struct Bundles {
+    pub count: usize,
+    pub items: [StoredBundle; MOST_BUNDLES],
+}
+
+// A property by which bundles are looked for or left out: at a location, in a region, at a location above one.
+pub enum BundleTest {
+    At(u32),
+    In(u32),
+    After(u32),
+}
+
+// What stands in a place that is not used.
+pub fn no_bundle() -> StoredBundle
+    ensures { λ r. ⌜ r ≡ store-bundle no-bundle ⌝ }
+{
+    let none = no_numbers();
+    StoredBundle {
+        location: 0,
+        region: 0,
+        packages: none,
+        services: none,
+    }
+}
+
+// Whether both lists of a bundle are within their count.
+pub fn provided_within(packages: &[u32], services: &[u32]) -> bool
+    ensures { λ r. ⌜ r ≡ (within most-provided (now (packages .entry)) && within most-provided (now (services .entry))) ⌝ }
+{
+    if packages.len() <= MOST_PROVIDED {
+        return services.len() <= MOST_PROVIDED;
+    }
+    false
+}
+
+pub fn provided_ascending(packages: &[u32], services: &[u32]) -> bool
+    ensures { λ r. ⌜ r ≡ (ascends ltb (now (packages .entry)) && ascends ltb (now (services .entry))) ⌝ }
+{
+    if ascending(packages) {
+        return ascending(services);
+    }
+    false
+}
+
+pub fn bundle_meets(b: StoredBundle, test: BundleTest) -> bool
+    ensures { λ r. ⌜ r ≡ bundle-meets test (bundle-in b) ⌝ }
+{
+    match test {
+        BundleTest::At(location) => b.location == location,
+        BundleTest::In(region) => b.region == region,
+        BundleTest::After(location) => location < b.location,
+    }
+}
+
+impl Bundles {
+    pub fn none() -> Bundles
+        ensures { λ r. ⌜ r ≡ store-bundles [] ⌝ }
+    {
+        let none = no_bundle();
+        Bundles {
+            count: 0,
+            items: [none; MOST_BUNDLES],
+        }
+    }
+
+    // The place of the first bundle that meets a test, or the count where there is none.
+    pub fn first(self, test: BundleTest) -> usize
+        requires { ⌜ BundlesStored self ⌝ }
+        ensures { λ r. ⌜ r ≡ position (bundle-meets test) (bundles-of self) ⌝ }
+    {
+        let count = self.count;
+        let mut i: usize = 0;
+        while i < count {
+            let b = self.items[i];
+            if bundle_meets(b, test) {
+                return i;
+            }
+            i += 1;
+        }
+        i
+    }
+
+    // The bundles that do not meet a test.
+    pub fn without(self, test: BundleTest) -> Bundles
+        requires { ⌜ BundlesStored self ⌝ }
+        ensures { λ r. ⌜ r ≡ store-bundles (keep (λ b. not (bundle-meets test b)) (bundles-of self)) ⌝ }
+    {
+        let left = Bundles::none();
+        let mut items = left.items;
+        let mut n: usize = 0;
+        let count = self.count;
+        let mut i: usize = 0;
+        while i < count {
+            let b = self.items[i];
+            i += 1;
+            if !bundle_meets(b, test) {
+                items[n] = b;
+                n += 1;
+            }
+        }
+        Bundles { count: n, items }
+    }
+
+    // One bundle more, at a place; those from there on move up.
+    pub fn with(self, place: usize, b: StoredBundle) -> Bundles
+        requires { ⌜ BundlesStored self ⌝ }
+        requires { ⌜ BundleStored b ⌝ }
+        requires { ⌜ (place ≤ length (bundles-of self)) × (length (bundles-of self) < most-bundles) ⌝ }
+        ensures { λ r. ⌜ r ≡ store-bundles (take place (bundles-of self) ++ bundle-in b ∷ drop place (bundles-of self)) ⌝ }
+    {
+        let mut items = self.items;
+        let count = self.count;
+        let mut i = count;
+        while place < i {
+            let moved = items[i - 1];
+            items[i] = moved;
+            i -= 1;
+        }
+        items[place] = b;
+        Bundles {
+            count: count + 1,
+            items,
+        }
+    }
+}

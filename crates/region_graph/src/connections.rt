@@ -1,0 +1,242 @@
+// The places of the connections, in ascending order of their two ends, and their filters.
+ghost use mathlib.Core.Path.{_≡_};
+ghost use mathlib.Core.Bool.{true, not};
+ghost use mathlib.Core.List.{[], _∷_, _++_};
+ghost use Prim.Native.Nat.{_<_, _≤_};
+ghost use lib.ListN.{length, take, drop};
+ghost use Rattle.region_graph.specs.Size.{«most-connections»};
+ghost use Rattle.region_graph.specs.Lists.{keep, position};
+ghost use Rattle.region_graph.specs.Calls.{«part-within», «part-ascends», «filter-within», «filter-ascends»};
+ghost use Rattle.region_graph.specs.Record.{«store-part», «store-connection», «connection-in», «no-connection», «store-connections», «connections-of»};
+ghost use Rattle.region_graph.specs.Places.{ConnectionStored, ConnectionsStored, «connection-meets»};
+ghost use Rattle.region_graph.specs.Promise.{part, filter};
+use crate::numbers::Numbers;
+use crate::numbers::ascending;
+use crate::numbers::copied;
+use crate::numbers::lists;
+use crate::numbers::no_numbers;
+use crate::size::MOST_CONNECTIONS;
+use crate::size::MOST_LISTED;
+
+// A package or a service part of a filter: everything, or the numbers listed.
+pub struct StoredPart {
+    pub all: bool,
+    pub numbers: Numbers,
+}
+
+pub struct StoredConnection {
+    pub source: u32,
+    pub target: u32,
+    pub bundles: Numbers,
+    pub packages: StoredPart,
+    pub services: StoredPart,
+}
+
+pub struct Connections {
+    pub count: usize,
+    pub items: [StoredConnection; MOST_CONNECTIONS],
+}
+
+// A property by which connections are looked for or left out: from one region to another, from or to a region, from a region
+// with a location in the bundle part, after a pair of regions in the order.
+pub enum ConnectionTest {
+    Joining(u32, u32),
+    Touching(u32),
+    Naming(u32, u32),
+    After(u32, u32),
+}
+
+// Whether a part handed in is within its count.
+pub fn part_within(all: bool, list: &[u32]) -> bool
+    ensures { λ r. ⌜ r ≡ part-within (part all (now (list .entry))) ⌝ }
+{
+    if all {
+        return true;
+    }
+    list.len() <= MOST_LISTED
+}
+
+pub fn part_ascending(all: bool, list: &[u32]) -> bool
+    ensures { λ r. ⌜ r ≡ part-ascends (part all (now (list .entry))) ⌝ }
+{
+    if all {
+        return true;
+    }
+    ascending(list)
+}
+
+// Whether each part of a filter is within its count.
+pub fn filter_within(
+    bundles: &[u32],
+    all_packages: bool,
+    packages: &[u32],
+    all_services: bool,
+    services: &[u32],
+) -> bool
+    ensures { λ r. ⌜ r ≡ filter-within (filter (now (bundles .entry)) «all_packages» (now (packages .entry)) «all_services» (now (services .entry))) ⌝ }
+{
+    if bundles.len() <= MOST_LISTED {
+        if part_within(all_packages, packages) {
+            return part_within(all_services, services);
+        }
+    }
+    false
+}
+
+pub fn filter_ascending(
+    bundles: &[u32],
+    all_packages: bool,
+    packages: &[u32],
+    all_services: bool,
+    services: &[u32],
+) -> bool
+    ensures { λ r. ⌜ r ≡ filter-ascends (filter (now (bundles .entry)) «all_packages» (now (packages .entry)) «all_services» (now (services .entry))) ⌝ }
+{
+    if ascending(bundles) {
+        if part_ascending(all_packages, packages) {
+            return part_ascending(all_services, services);
+        }
+    }
+    false
+}
+
+pub fn part_copied(all: bool, list: &[u32]) -> StoredPart
+    requires { ⌜ part-within (part all (now list)) ≡ true ⌝ }
+    ensures { λ r. ⌜ r ≡ store-part (part all (now (list .entry))) ⌝ }
+{
+    if all {
+        let none = no_numbers();
+        return StoredPart {
+            all: true,
+            numbers: none,
+        };
+    }
+    let numbers = copied(list);
+    StoredPart {
+        all: false,
+        numbers,
+    }
+}
+
+// What stands in a place that is not used.
+pub fn no_connection() -> StoredConnection
+    ensures { λ r. ⌜ r ≡ store-connection no-connection ⌝ }
+{
+    let none = no_numbers();
+    let nothing = StoredPart {
+        all: false,
+        numbers: none,
+    };
+    StoredConnection {
+        source: 0,
+        target: 0,
+        bundles: none,
+        packages: nothing,
+        services: nothing,
+    }
+}
+
+pub fn connection_meets(c: StoredConnection, test: ConnectionTest) -> bool
+    requires { ⌜ ConnectionStored c ⌝ }
+    ensures { λ r. ⌜ r ≡ connection-meets test (connection-in c) ⌝ }
+{
+    match test {
+        ConnectionTest::Joining(source, target) => {
+            if c.source == source {
+                return c.target == target;
+            }
+            false
+        }
+        ConnectionTest::Touching(region) => {
+            if c.source == region {
+                return true;
+            }
+            c.target == region
+        }
+        ConnectionTest::Naming(region, location) => {
+            if c.source == region {
+                let named = c.bundles;
+                return lists(named, location);
+            }
+            false
+        }
+        ConnectionTest::After(source, target) => {
+            if source == c.source {
+                return target < c.target;
+            }
+            source < c.source
+        }
+    }
+}
+
+impl Connections {
+    pub fn none() -> Connections
+        ensures { λ r. ⌜ r ≡ store-connections [] ⌝ }
+    {
+        let none = no_connection();
+        Connections {
+            count: 0,
+            items: [none; MOST_CONNECTIONS],
+        }
+    }
+
+    // The place of the first connection that meets a test, or the count where there is none.
+    pub fn first(self, test: ConnectionTest) -> usize
+        requires { ⌜ ConnectionsStored self ⌝ }
+        ensures { λ r. ⌜ r ≡ position (connection-meets test) (connections-of self) ⌝ }
+    {
+        let count = self.count;
+        let mut i: usize = 0;
+        while i < count {
+            let c = self.items[i];
+            if connection_meets(c, test) {
+                return i;
+            }
+            i += 1;
+        }
+        i
+    }
+
+    // The connections that do not meet a test.
+    pub fn without(self, test: ConnectionTest) -> Connections
+        requires { ⌜ ConnectionsStored self ⌝ }
+        ensures { λ r. ⌜ r ≡ store-connections (keep (λ c. not (connection-meets test c)) (connections-of self)) ⌝ }
+    {
+        let left = Connections::none();
+        let mut items = left.items;
+        let mut n: usize = 0;
+        let count = self.count;
+        let mut i: usize = 0;
+        while i < count {
+            let c = self.items[i];
+            i += 1;
+            if !connection_meets(c, test) {
+                items[n] = c;
+                n += 1;
+            }
+        }
+        Connections { count: n, items }
+    }
+
+    // One connection more, at a place; those from there on move up.
+    pub fn with(self, place: usize, c: StoredConnection) -> Connections
+        requires { ⌜ ConnectionsStored self ⌝ }
+        requires { ⌜ ConnectionStored c ⌝ }
+        requires { ⌜ (place ≤ length (connections-of self)) × (length (connections-of self) < most-connections) ⌝ }
+        ensures { λ r. ⌜ r ≡ store-connections (take place (connections-of self) ++ connection-in c ∷ drop place (connections-of self)) ⌝ }
+    {
+        let mut items = self.items;
+        let count = self.count;
+        let mut i = count;
+        while place < i {
+            let moved = items[i - 1];
+            items[i] = moved;
+            i -= 1;
+        }
+        items[place] = c;
+        Connections {
+            count: count + 1,
+            items,
+        }
+    }
+}

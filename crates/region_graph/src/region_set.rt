@@ -1,0 +1,68 @@
+// Sets of regions: region n is a member where binary digit n is set. Every function answers every number.
+ghost use mathlib.Core.Path.{_≡_};
+ghost use Prim.Native.Nat.{_-_, _^_};
+ghost use lib.Bits.{bitAnd};
+ghost use lib.Count.{trailingZeros};
+ghost use lib.Dec.{ltb};
+ghost use Rattle.region_graph.specs.Size.{regions};
+ghost use Rattle.region_graph.specs.Sets;
+use crate::size::REGIONS;
+
+// The sets that hold one region.
+const ONE: [u64; REGIONS] = [
+    1,
+    2,
+    4,
+    8,
+    16,
+    32,
+    64,
+    128,
+    256,
+    512,
+    1024,
+    2048,
+    4096,
+    8192,
+    16384,
+    32768,
+];
+
+// Whether a number is a region's.
+pub fn is_region(number: u32) -> bool
+    ensures { λ r. ⌜ r ≡ ltb number regions ⌝ }
+{
+    (number as usize) < REGIONS
+}
+
+// The set that holds one region; a number past the table gives the empty set.
+pub fn one(region: u32) -> u64
+    ensures { λ r. ⌜ r ≡ Sets.one region ⌝ }
+{
+    let at = region as usize;
+    if at < REGIONS {
+        return ONE[at];
+    }
+    0
+}
+
+// Whether a region is in a set.
+pub fn has(set: u64, region: u32) -> bool
+    ensures { λ r. ⌜ r ≡ Sets.has set region ⌝ }
+{
+    set & one(region) != 0
+}
+
+// The members of a set that are not in the other.
+pub fn difference(set: u64, other: u64) -> u64
+    ensures { λ r. ⌜ r ≡ bitAnd set (2 ^ 64 - 1 - other) ⌝ }
+{
+    set & !other
+}
+
+// The lowest member of a set; 64 where it has none.
+pub fn lowest(set: u64) -> u32
+    ensures { λ r. ⌜ r ≡ trailingZeros 64 set ⌝ }
+{
+    u64::trailing_zeros(set)
+}

@@ -1,0 +1,178 @@
+// What the layers above read of a graph. Every function answers every argument.
+ghost use mathlib.Core.Path.{_≡_};
+ghost use lib.ListN.{length};
+ghost use Rattle.region_graph.specs.Lists.{member};
+ghost use Rattle.region_graph.specs.Sets.{«set-of»};
+ghost use Rattle.region_graph.specs.Items.{provides, passes, «part-passes»};
+ghost use Rattle.region_graph.specs.Record.{Valid, meaning, «store-bundle», «store-connection», «bundle-in», «connection-in», «part-in»};
+ghost use Rattle.region_graph.specs.Places.{BundleStored, ConnectionStored, PartStored};
+ghost use Rattle.region_graph.specs.Promise.{«place-of», «holder-set», «successor-sets», «bundle-at», «connection-at»};
+use crate::Graph;
+use crate::Item;
+use crate::Place;
+use crate::bundles::BundleTest;
+use crate::bundles::StoredBundle;
+use crate::bundles::no_bundle;
+use crate::connections::StoredConnection;
+use crate::connections::StoredPart;
+use crate::connections::no_connection;
+use crate::numbers::lists;
+use crate::region_set::one;
+use crate::size::REGIONS;
+
+// Whether a bundle brings an item to its region.
+fn bundle_provides(b: StoredBundle, item: Item) -> bool
+    requires { ⌜ BundleStored b ⌝ }
+    ensures { λ r. ⌜ r ≡ provides item (bundle-in b) ⌝ }
+{
+    let kind = item.kind;
+    match kind {
+        0 => b.location == item.number,
+        1 => {
+            let packages = b.packages;
+            lists(packages, item.number)
+        }
+        2 => {
+            let services = b.services;
+            lists(services, item.number)
+        }
+        _ => false,
+    }
+}
+
+fn part_passes(part: StoredPart, number: u32) -> bool
+    requires { ⌜ PartStored part ⌝ }
+    ensures { λ r. ⌜ r ≡ part-passes number (part-in part) ⌝ }
+{
+    if part.all {
+        return true;
+    }
+    let numbers = part.numbers;
+    lists(numbers, number)
+}
+
+// Whether a connection's filter passes an item.
+fn connection_passes(c: StoredConnection, item: Item) -> bool
+    requires { ⌜ ConnectionStored c ⌝ }
+    ensures { λ r. ⌜ r ≡ passes item (connection-in c .filter) ⌝ }
+{
+    let kind = item.kind;
+    match kind {
+        0 => {
+            let bundles = c.bundles;
+            lists(bundles, item.number)
+        }
+        1 => {
+            let packages = c.packages;
+            part_passes(packages, item.number)
+        }
+        2 => {
+            let services = c.services;
+            part_passes(services, item.number)
+        }
+        _ => false,
+    }
+}
+
+impl Graph {
+    // R as a set.
+    pub fn region_set(self) -> u64
+        requires { ⌜ Valid self ⌝ }
+        ensures { λ r. ⌜ r ≡ set-of (λ n. member n (meaning self .regions)) ⌝ }
+    {
+        self.regions
+    }
+
+    // The region in which a location is installed.
+    pub fn region_of(self, location: u32) -> Place
+        requires { ⌜ Valid self ⌝ }
+        ensures { λ r. ⌜ r ≡ place-of (meaning self .bundles) location ⌝ }
+    {
+        let bundles = self.bundles;
+        let place = bundles.first(BundleTest::At(location));
+        if bundles.count <= place {
+            return Place::Nowhere;
+        }
+        let b = bundles.items[place];
+        Place::Within(b.region)
+    }
+
+    // The regions that hold an item.
+    pub fn holders(self, item: Item) -> u64
+        requires { ⌜ Valid self ⌝ }
+        ensures { λ r. ⌜ r ≡ holder-set (meaning self) item ⌝ }
+    {
+        let bundles = self.bundles;
+        let count = bundles.count;
+        let mut set: u64 = 0;
+        let mut i: usize = 0;
+        while i < count {
+            let b = bundles.items[i];
+            i += 1;
+            if bundle_provides(b, item) {
+                set = set | one(b.region);
+            }
+        }
+        set
+    }
+
+    // For each region the regions that a connection which passes an item leads to.
+    pub fn successors(self, item: Item) -> [u64; REGIONS]
+        requires { ⌜ Valid self ⌝ }
+        ensures { λ r. ⌜ r ≡ successor-sets (meaning self) item ⌝ }
+    {
+        let connections = self.connections;
+        let count = connections.count;
+        let mut sets = [0u64; REGIONS];
+        let mut i: usize = 0;
+        while i < count {
+            let c = connections.items[i];
+            i += 1;
+            if connection_passes(c, item) {
+                let source = c.source as usize;
+                sets[source] = sets[source] | one(c.target);
+            }
+        }
+        sets
+    }
+
+    pub fn bundle_count(self) -> usize
+        requires { ⌜ Valid self ⌝ }
+        ensures { λ r. ⌜ r ≡ length (meaning self .bundles) ⌝ }
+    {
+        let bundles = self.bundles;
+        bundles.count
+    }
+
+    // The i-th bundle in ascending order of location; past the count, the one that has nothing.
+    pub fn bundle_at(self, i: usize) -> StoredBundle
+        requires { ⌜ Valid self ⌝ }
+        ensures { λ r. ⌜ r ≡ store-bundle (bundle-at (meaning self) i) ⌝ }
+    {
+        let bundles = self.bundles;
+        if i < bundles.count {
+            return bundles.items[i];
+        }
+        no_bundle()
+    }
+
+    pub fn connection_count(self) -> usize
+        requires { ⌜ Valid self ⌝ }
+        ensures { λ r. ⌜ r ≡ length (meaning self .connections) ⌝ }
+    {
+        let connections = self.connections;
+        connections.count
+    }
+
+    // The i-th connection in ascending order of source and target; past the count, the one that has nothing.
+    pub fn connection_at(self, i: usize) -> StoredConnection
+        requires { ⌜ Valid self ⌝ }
+        ensures { λ r. ⌜ r ≡ store-connection (connection-at (meaning self) i) ⌝ }
+    {
+        let connections = self.connections;
+        if i < connections.count {
+            return connections.items[i];
+        }
+        no_connection()
+    }
+}

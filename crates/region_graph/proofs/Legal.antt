@@ -14,7 +14,7 @@ use Rattle.region_graph.specs.Model.{Word, Model, Bundle, Part, Connecti
 use Rattle.region_graph.specs.Calls.{Call, Question, first-no, questions, number, accepted, after, run, Words, PartWords, at-location, in-region, joins, touches, within, part-within, part-ascends}
 use Rattle.region_graph.specs.Places.{ShortPart}
 use Rattle.region_graph.specs.Promise.{part}
-use Rattle.region_graph.proofs.Lists.{eqb-sym, and-fst, and-snd, false-true, pick-yes, keep-length, any-insert, insert-length, any-none, all-map, all-kept, all-insert}
+use Rattle.region_graph.proofs.Lists.{eqb-sym, and-fst, and-snd, false-true, pick-yes, keep-length, any-insert, insert-length, any-none, all-map, all-kept, all-insert, member-kept, and-yes}
 use Rattle.region_graph.proofs.Ascending.{Strict, or-right, ascends-keep, ascends-insert, strict-numbers, strict-bundles, strict-connections, numbers-differ, connections-differ}
 
 -- neither of two tests
@@ -172,18 +172,6 @@ module _ (rs ts : List ℕ) where
       → (member (c .target) rs ≡ true → member (c .target) ts ≡ true) → LegalConnection rs c → LegalConnection ts c
   legal-connection c f g h = record { source = f (h .source); target = g (h .target); differ = h .differ; filter = h .filter }
 
--- a number that passes the test stays
-member-keep : (n : ℕ) (p : ℕ → Bool) (xs : List ℕ) → p n ≡ true → member n xs ≡ true → member n (keep p xs) ≡ true
-member-keep n p [] t h = h
-member-keep n p (x ∷ xs) t h = go (p x) refl (eqb n x) refl (member-keep n p xs t) h
-  where
-    go : (b : Bool) → p x ≡ b → (d : Bool) → eqb n x ≡ d → (member n xs ≡ true → member n (keep p xs) ≡ true) → (d || member n xs) ≡ true
-        → member n (pick b (x ∷ keep p xs) (keep p xs)) ≡ true
-    go true e true f r k = rw f
-    go true e false f r k = rw f (r k)
-    go false e true f r k = false-true (sym e ∙ sym (ap p (eqb-true n x f)) ∙ t)
-    go false e false f r k = r k
-
 -- a part of a filter that was handed over
 numbered-part : (p : Part) → PartWords p → part-within p ≡ true → part-ascends p ≡ true → NumberedPart p
 numbered-part (Part.listed xs) w f a = record { few = leb-true (length xs) most-listed f; words = w; ascend = a }
@@ -225,7 +213,7 @@ legal-accepted m (Call.remove-region r) l w e =
     rs = keep other (m .regions)
 
     stays : (n : ℕ) → not (eqb n r) ≡ true → member n (m .regions) ≡ true → member n rs ≡ true
-    stays n t = member-keep n other (m .regions) (ap not (eqb-sym r n) ∙ t)
+    stays n t h = member-kept other n (m .regions) ∙ and-yes h (ap not (eqb-sym r n) ∙ t)
 legal-accepted m (Call.install b) l w e =
     let h = installable m b e in
     legal (l .region-numbers) (l .regions-ascend)

@@ -6,3 +6,4 @@ pub mod Arrays
 pub mod Legal
 pub mod Storing
 pub mod Views
+pub mod WholeList

@@ -22,7 +22,7 @@ use Rattle.region_graph.specs.declared.Graph.{Graph}
 use Rattle.region_graph.specs.declared.Item.{Item}
 use Rattle.region_graph.specs.declared.Place.the-variants.{Within, Nowhere}
 use Rattle.region_graph.specs.declared.connections.StoredConnection.{StoredConnection}
-use Rattle.region_graph.proofs.Lists.{any-append, all-at, false-true}
+use Rattle.region_graph.proofs.Lists.{any-append, all-at, member-all}
 use Rattle.region_graph.proofs.Bits.{set-ext, set-none, set-join}
 use Rattle.region_graph.proofs.Arrays.{filled-at, filled-inside}
 use Rattle.region_graph.proofs.Storing.{connections-stored, connections-filled}
@@ -35,15 +35,6 @@ any-more : {A : Type 0} (p : A → Bool) (xs : List A) (i : ℕ) (d : A) → i <
 any-more p xs i d h =
     rw (add-one, take-suc xs i d h)
     (any-append p (take i xs) (getD xs i d ∷ []) ∙ ap (λ (t : Bool). any p (take i xs) || t) (or-false (p (getD xs i d))))
-
--- what holds of each number of a list holds of a member
-all-member : (P : ℕ → Type 0) (n : ℕ) (xs : List ℕ) → member n xs ≡ true → All P xs → P n
-all-member P n [] e h = false-true e
-all-member P n (x ∷ xs) e h = go (eqb n x) refl (λ f. all-member P n xs f (h .1)) e
-  where
-    go : (b : Bool) → eqb n x ≡ b → (member n xs ≡ true → P n) → (b || member n xs) ≡ true → P n
-    go true f r k = subst P (sym (eqb-true n x f)) (h .0)
-    go false f r k = r k
 
 -- a list of the values of a function at consecutive numbers: what stands at a place
 counted-at : (f : ℕ → ℕ) (a k j n d : ℕ) → j < k → n ≡ a + j → getD (map f (count-from a k)) j d ≡ f n
@@ -207,6 +198,5 @@ source-region g v i e l =
     let h = connections-filled (g .connections) (connections-stored g v) in
     let cs = connections-of (g .connections) in
     rw (filled-at h i e no-connection l)
-    (all-member (λ r. r < regions) (getD cs i no-connection .source) (meaning g .regions)
-    (all-at (LegalConnection (meaning g .regions)) cs i no-connection (filled-inside h i l) (v .good .connections-legal) .source)
-    (v .good .region-numbers))
+    (member-all (λ r. r < regions) (getD cs i no-connection .source) (meaning g .regions) (v .good .region-numbers)
+    (all-at (LegalConnection (meaning g .regions)) cs i no-connection (filled-inside h i l) (v .good .connections-legal) .source))

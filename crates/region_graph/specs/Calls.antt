@@ -7,6 +7,7 @@ use lib.ListN.{length}
 use Rattle.region_graph.specs.Size.{regions, most-bundles, most-connections, most-provided, most-listed}
 use Rattle.region_graph.specs.Refusals.{not-refused, not-a-region, region-used, no-such-region, ends-equal, connected, not-connected, list-too-long, list-out-of-order, installed, filtered, full, not-installed}
 use Rattle.region_graph.specs.Lists.{pick, keep, any, All, member, insert, ascends}
+use Rattle.region_graph.specs.Steps.{run-by, answers-by}
 use Rattle.region_graph.specs.Model.{Model, Bundle, Filter, Part, Connection, Word, bundle-before, connection-before}
 
 pub data Call : Type 0 where
@@ -132,12 +133,10 @@ after m c = pick (eqb (number m c) not-refused) (accepted m c) m
 
 -- a list of calls: the last model, and the number of each call
 abbrev pub run : Model → List Call → Model
-run m [] = m
-run m (c ∷ cs) = run (after m c) cs
+run = run-by after
 
 abbrev pub numbers : Model → List Call → List ℕ
-numbers m [] = []
-numbers m (c ∷ cs) = number m c ∷ numbers (after m c) cs
+numbers = answers-by number after
 
 -- the locations and listed numbers that a call is handed have 32 bits
 abbrev pub PartWords : Part → Type 0

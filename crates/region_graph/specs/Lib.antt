@@ -4,6 +4,7 @@ pub mod Refusals
 pub mod Lists
 pub mod Sets
 pub mod Model
+pub mod Steps
 pub mod Calls
 pub mod Items
 pub mod Record

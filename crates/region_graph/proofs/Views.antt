@@ -37,7 +37,7 @@ any-more p xs i d h =
     (any-append p (take i xs) (getD xs i d ∷ []) ∙ ap (λ (t : Bool). any p (take i xs) || t) (or-false (p (getD xs i d))))
 
 -- a list of the values of a function at consecutive numbers: what stands at a place
-counted-at : (f : ℕ → ℕ) (a k j n d : ℕ) → j < k → n ≡ a + j → getD (map f (count-from a k)) j d ≡ f n
+pub counted-at : (f : ℕ → ℕ) (a k j n d : ℕ) → j < k → n ≡ a + j → getD (map f (count-from a k)) j d ≡ f n
 counted-at f a zero j n d h e = absurd (omega arith)
 counted-at f a (suc k) zero n d h e = ap f (omega arith)
 counted-at f a (suc k) (suc j) n d h e = counted-at f (suc a) k j n d (omega arith) (omega arith)

@@ -56,7 +56,7 @@ place-of (b ∷ bs) l = pick (at-location l b) (Within (b .region)) (place-of bs
 abbrev pub holder-set : Model → Item → ℕ
 holder-set m i = set-of (holds m i)
 
-abbrev pub successor-sets : Model → Item → List ℕ
+unfoldable pub successor-sets : Model → Item → List ℕ
 successor-sets m i = map (λ r. set-of (crosses m i r)) (count-from 0 regions)
 
 -- the i-th bundle and connection in ascending order; past the count, the one that has nothing

@@ -43,3 +43,21 @@ full = 11
 
 abbrev pub not-installed : ℕ
 not-installed = 12
+
+abbrev pub not-a-kind : ℕ
+not-a-kind = 13
+
+-- the output has too few places
+abbrev pub no-place : ℕ
+no-place = 14
+
+-- fewer than 5 bytes, or a first byte that is not the version
+abbrev pub not-an-archive : ℕ
+not-an-archive = 15
+
+-- the length field is not the count of bytes after it
+abbrev pub wrong-length : ℕ
+wrong-length = 16
+
+abbrev pub broken-layout : ℕ
+broken-layout = 17

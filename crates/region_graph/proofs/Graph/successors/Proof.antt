@@ -9,6 +9,7 @@ use Rattle.region_graph.specs.Size.{most-connections}
 use Rattle.region_graph.specs.Sets.{one}
 use Rattle.region_graph.specs.Items.{passes}
 use Rattle.region_graph.specs.Model.{Connection}
+use Rattle.region_graph.specs.Promise.{successor-sets}
 use Rattle.region_graph.specs.Record.{meaning, connections-of, connection-in, no-connection}
 use Rattle.region_graph.specs.declared.connections.StoredConnection.{StoredConnection}
 use Rattle.region_graph.proofs.Arrays.{filled-at, filled-inside, filled-means}
@@ -112,7 +113,7 @@ loop-again-2 c =
     )
 
 returns : tie.Need-returns Inv-loop μ-loop
-unfolding meaning led
+unfolding meaning led successor-sets
 returns c =
     let a = c .before in
     let s = a .before .before in

@@ -1,0 +1,81 @@
+-- What the computed answers say of the routes, in demand 3's words.
+use mathlib.Core.Path.{_≡_, refl, sym, ap, _∙_, subst}
+use mathlib.Core.Bool.{Bool, true, false}
+use mathlib.Core.List.{List, [], _∷_}
+use mathlib.Core.Option.{Option, some, none}
+use Prim.Native.Nat.{ℕ, suc, _-_, _≤_}
+use native.Mathlib.Omega.{arith}
+use lib.Dec.{leb}
+use lib.ListN.{length}
+use borrow.Author.Tests.{le-leb}
+use Rattle.region_graph.specs.Size.{regions}
+use Rattle.region_graph.specs.Lists.{pick, keep}
+use Rattle.region_graph.specs.Model.{Model, Legal}
+use Rattle.region_graph.specs.Promise.{place-of}
+use Rattle.region_graph.specs.declared.Item.{Item}
+use Rattle.region_graph.specs.declared.Place.{Place}
+use Rattle.region_graph.specs.declared.Place.the-variants.{Within, Nowhere}
+use Rattle.region_routes.specs.Chosen.{chosen, sees}
+use Rattle.region_routes.specs.Hooks.{Outcome, item, shown, written, kept-outcome, sees-from}
+use Rattle.region_routes.specs.Claim
+use Rattle.region_routes.specs.Claim.{Sifted, Seen, RouteSays, hidden, seen, KeptSays, Hears}
+use Rattle.region_routes.specs.declared.Routed.{Routed}
+use Rattle.region_routes.specs.declared.Routed.the-variants.{Hidden, Count}
+use Rattle.region_routes.specs.declared.Kept.{Kept}
+use Rattle.region_routes.specs.declared.Kept.the-variants.{Wrote}
+use Rattle.region_routes.proofs.RouteLaws.{nonempty}
+use Rattle.region_routes.proofs.Choosing.{chosen-best, chosen-none, sees-route, route-sees}
+
+-- the elements that pass a test are those of which P holds, where the test says so
+pub keep-sifted : (P : ℕ → Type 0) (p : ℕ → Bool) → ((x : ℕ) → p x ≡ true → P x) → ((x : ℕ) → P x → p x ≡ true)
+    → (xs : List ℕ) → Sifted P xs (keep p xs)
+keep-sifted P p f g [] = Claim.none
+keep-sifted P p f g (x ∷ xs) = go (p x) refl (keep-sifted P p f g xs)
+  where
+    go : (b : Bool) → p x ≡ b → Sifted P xs (keep p xs) → Sifted P (x ∷ xs) (pick b (x ∷ keep p xs) (keep p xs))
+    go true e s = Claim.kept (f x e) s
+    go false e s = Claim.left (λ h. let z : _≡_ {A = ℕ} 0 1 = ap (λ (t : Bool). pick t 1 0) (sym e ∙ g x h) in absurd (omega arith)) s
+
+module _ (m : Model) (h : Legal m) where
+  pub sees-seen : (i : Item) (r : ℕ) → sees m i r ≡ true → Seen m i r
+  sees-seen i r e = sees-route m i r h e
+
+  pub seen-sees : (i : Item) (r : ℕ) → Seen m i r → sees m i r ≡ true
+  seen-sees i r s = route-sees m i r h (s .0) (s .1)
+
+  -- a listener hears of the item exactly where the set of seers has its region
+  pub hears-from : (i : Item) (l : ℕ) → sees-from m i (place-of (m .bundles) l) ≡ true → Hears m i l
+  hears-from i l e = go (place-of (m .bundles) l) refl e
+    where
+      go : (p : Place) → place-of (m .bundles) l ≡ p → sees-from m i p ≡ true → Hears m i l
+      go (Within r) q k = (r, q, sees-seen i r k)
+      go Nowhere q k = let z : _≡_ {A = ℕ} 0 1 = ap (λ (t : Bool). pick t 1 0) k in absurd (omega arith)
+
+  pub from-hears : (i : Item) (l : ℕ) → Hears m i l → sees-from m i (place-of (m .bundles) l) ≡ true
+  from-hears i l s = rw (s .1) (seen-sees i (s .0) (s .2))
+
+  -- the outcome of a route call
+  pub shown-says : (i : Item) (r : ℕ) (entry exit : List ℕ) (a : Routed)
+      → _≡_ {A = Outcome Routed} (record { answer = a; exit = exit }) (shown (chosen m i r) entry) → RouteSays m i r entry exit a
+  shown-says i r entry exit a e = go (chosen m i r) refl e
+    where
+      go : (o : Option (List ℕ)) → chosen m i r ≡ o → _≡_ {A = Outcome Routed} (record { answer = a; exit = exit }) (shown o entry)
+          → RouteSays m i r entry exit a
+      go none q k =
+          subst (RouteSays m i r entry exit) (sym (ap (λ (x : Outcome Routed). x .answer) k))
+          (hidden (chosen-none m i r h q) (ap (λ (x : Outcome Routed). x .exit) k))
+      go (some p) q k =
+          let b = chosen-best m i r h p q in
+          subst (RouteSays m i r entry exit) (sym (ap (λ (x : Outcome Routed). x .answer) k))
+          (seen p b (omega (arith, nonempty (b .route))) (ap (λ (x : Outcome Routed). x .exit) k))
+
+-- the outcome of a hook
+pub kept-says : (P : ℕ → Type 0) (p : ℕ → Bool) → ((x : ℕ) → p x ≡ true → P x) → ((x : ℕ) → P x → p x ≡ true)
+    → (xs entry exit : List ℕ) (a : Kept) → _≡_ {A = Outcome Kept} (record { answer = a; exit = exit }) (kept-outcome (keep p xs) entry)
+    → KeptSays P xs entry exit a
+kept-says P p f g xs entry exit a e = record {
+  those = keep p xs;
+  sifted = keep-sifted P p f g xs;
+  count = ap (λ (x : Outcome Kept). x .answer) e;
+  exit-is = ap (λ (x : Outcome Kept). x .exit) e;
+}

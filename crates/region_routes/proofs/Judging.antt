@@ -1,0 +1,174 @@
+-- The sets that a graph gives for an item, and what a search over them says of the model's routes.
+use mathlib.Core.Path.{_≡_, refl, sym, ap, _∙_, subst}
+use mathlib.Core.Bool.{Bool, true, false, _&&_, _||_}
+use mathlib.Core.Logic.{_⊎_, inl, inr}
+use mathlib.Core.List.{List, [], _∷_, _++_, map}
+use mathlib.Core.Option.{Option, some, none}
+use Prim.Native.Nat.{ℕ, zero, suc, _+_, _-_, _≤_, _<_, _^_, zero-le}
+use native.Mathlib.Omega.{arith}
+use lib.Dec.{eqb, ltb}
+use lib.ListN.{length, getD, drop, length-map, List·getD-eq-default}
+use borrow.Author.Tests.{eqb-true, eqb-false, eq-eqb, ne-eqb, lt-ltb}
+use Rattle.region_graph.specs.Size.{regions}
+use Rattle.region_graph.specs.Lists.{pick, any, All, keep, member, count-from}
+use Rattle.region_graph.specs.Sets.{bit, has, set-of}
+use Rattle.region_graph.specs.Model.{Model, Bundle, Legal, LegalBundle}
+use Rattle.region_graph.specs.Calls.{at-location}
+use Rattle.region_graph.specs.Items.{holds, crosses, provides}
+use Rattle.region_graph.specs.Promise.{place-of, holder-set, successor-sets}
+use Rattle.region_graph.specs.declared.Item.{Item}
+use Rattle.region_graph.specs.declared.Place.{Place}
+use Rattle.region_graph.specs.declared.Place.the-variants.{Within, Nowhere}
+use Rattle.region_graph.proofs.Lists.{member-all, and-fst, false-true}
+use Rattle.region_graph.proofs.Bits.{bit-le, bit-zero, in-lt, set-below-lt, bit-set-below, set-is, has-set}
+use Rattle.region_graph.proofs.Views.{counted-at}
+use Rattle.region_routes.specs.Route.{Route, last, next, Best, NoRoute}
+use Rattle.region_routes.specs.Chosen.{chosen, sees, Crosses, Holds, RouteFor, NoRouteFor, BestFor}
+use Rattle.region_routes.specs.Hooks.{Outcome, shown, written, sees-from, stands-in}
+use Rattle.region_routes.specs.Search.{In, Conn, At, Layered, Searched, Reached, Found, Walkable, Walked}
+use Rattle.region_routes.specs.declared.Routed.{Routed}
+use Rattle.region_routes.specs.declared.Routed.the-variants.{Hidden, Count}
+use Rattle.region_routes.proofs.Choosing.{crosses-inside, best-chosen, none-chosen, sees-is}
+use Rattle.region_routes.proofs.Layers.{trail, shallower}
+use Rattle.region_routes.proofs.RouteLaws.{lt-or-ge, carry, carry-best}
+
+-- the members of a set by a test
+set-in : (p : ℕ → Bool) (n : ℕ) → In (set-of p) n → p n ≡ true
+set-in p n h = go (p n) refl
+  where
+    l : n < regions
+    l = in-lt regions (set-of p) n (set-below-lt regions p) h
+
+    go : (b : Bool) → p n ≡ b → p n ≡ true
+    go true e = e
+    go false e = let z : _≡_ {A = ℕ} 0 1 = sym (bit-set-below regions p n l ∙ ap (λ (t : Bool). pick t 1 0) e) ∙ h in absurd (omega arith)
+
+in-set : (p : ℕ → Bool) (n : ℕ) → n < regions → p n ≡ true → In (set-of p) n
+in-set p n l e = bit-set-below regions p n l ∙ ap (λ (t : Bool). pick t 1 0) e
+
+-- the region in which a location is installed is one of the sixteen
+place-inside : (rs : List ℕ) → All (λ r. r < regions) rs → (bs : List Bundle) → All (LegalBundle rs) bs → (l r : ℕ) → place-of bs l ≡ Within r → r < regions
+place-inside rs h [] a l r e = let z : _≡_ {A = ℕ} 0 1 = cc in absurd (omega arith)
+place-inside rs h (b ∷ bs) a l r e = go (at-location l b) (place-inside rs h bs (a .1) l r) e
+  where
+    go : (t : Bool) → (place-of bs l ≡ Within r → r < regions) → pick t (Within (b .region)) (place-of bs l) ≡ Within r → r < regions
+    go true f k = let q : b .region ≡ r = cc in subst (λ (x : ℕ). x < regions) q (member-all (λ x. x < regions) (b .region) rs h (a .0 .region))
+    go false f k = f k
+
+pub region-inside : (m : Model) → Legal m → (l : ℕ) {r : ℕ} → place-of (m .bundles) l ≡ Within r → r < regions
+region-inside m h l {r} e = place-inside (m .regions) (h .region-numbers) (m .bundles) (h .bundles-legal) l r e
+
+-- the region of a held item is one of the sixteen
+held-inside : (rs : List ℕ) → All (λ r. r < regions) rs → (i : Item) (r : ℕ) (bs : List Bundle) → All (LegalBundle rs) bs
+    → any (λ b. eqb (b .region) r && provides i b) bs ≡ true → r < regions
+held-inside rs h i r [] a e = false-true e
+held-inside rs h i r (b ∷ bs) a e = go (eqb (b .region) r && provides i b) refl (held-inside rs h i r bs (a .1)) e
+  where
+    go : (t : Bool) → (eqb (b .region) r && provides i b) ≡ t → (any (λ b. eqb (b .region) r && provides i b) bs ≡ true → r < regions)
+        → (t || any (λ b. eqb (b .region) r && provides i b) bs) ≡ true → r < regions
+    go true f g k =
+        subst (λ (x : ℕ). x < regions) (eqb-true (b .region) r (and-fst (eqb (b .region) r) (provides i b) f))
+        (member-all (λ x. x < regions) (b .region) rs h (a .0 .region))
+    go false f g k = g k
+
+pub successors-long : (m : Model) (i : Item) → length (successor-sets m i) ≡ regions
+unfolding successor-sets
+successors-long m i = refl
+
+module _ (m : Model) (i : Item) (h : Legal m) where
+  -- the successor sets are the connections that pass the item, the holder set the regions that hold it
+  conn-crosses : (r s : ℕ) → Conn (successor-sets m i) r s → Crosses m i r s
+  unfolding successor-sets
+  conn-crosses r s c = go (lt-or-ge r regions)
+    where
+      go : (r < regions) ⊎ (regions ≤ r) → Crosses m i r s
+      go (inl l) = set-in (crosses m i r) s (subst (λ (x : ℕ). In x s) (counted-at (λ n. set-of (crosses m i n)) 0 regions r r 0 l (omega arith)) c)
+      go (inr l) =
+          let z : _≡_ {A = ℕ} 0 1 = sym (bit-zero s) ∙ subst (λ (x : ℕ). In x s) (List·getD-eq-default (successor-sets m i) 0 l) c in
+          absurd (omega arith)
+
+  crosses-conn : (r s : ℕ) → Crosses m i r s → Conn (successor-sets m i) r s
+  unfolding successor-sets
+  crosses-conn r s c =
+      let l = crosses-inside m i r s h c in
+      subst (λ (x : ℕ). In x s) (sym (counted-at (λ n. set-of (crosses m i n)) 0 regions r r 0 (l .0) (omega arith))) (in-set (crosses m i r) s (l .1) c)
+
+  in-holds : (n : ℕ) → In (holder-set m i) n → Holds m i n
+  in-holds n k = set-in (holds m i) n k
+
+  holds-in : (n : ℕ) → Holds m i n → In (holder-set m i) n
+  holds-in n k = in-set (holds m i) n (held-inside (m .regions) (h .region-numbers) i n (m .bundles) (h .bundles-legal) k) k
+
+  module _ {sets : List ℕ} {deep reached : ℕ} (f : Searched (successor-sets m i) (holder-set m i) sets deep reached) where
+    -- what is reached has a route, and what has one is reached
+    reached-route : (n : ℕ) → In reached n → (p : List ℕ) × RouteFor m i n p
+    reached-route n k =
+        let x = f .from n k in
+        let t = trail (f .layered) (x .0) n (x .1) (x .2) in
+        (t .0, carry conn-crosses in-holds (t .1))
+
+    route-reached : {n : ℕ} {p : List ℕ} → RouteFor m i n p → In reached n
+    route-reached (last {r = r} k) = f .into 0 r zero-le (f .layered .base r (holds-in r k))
+    route-reached (next {r = r} {s = s} c t) = f .shut r s (crosses-conn r s c) (route-reached t)
+
+    -- the reached regions are those that see the item
+    pub reached-sees : reached ≡ set-of (sees m i)
+    reached-sees = set-is reached (sees m i) (f .small) (λ n l. digit n ∙ ap (λ (b : Bool). pick b 1 0) (same n l))
+      where
+        digit : (n : ℕ) → bit reached n ≡ pick (eqb (bit reached n) 1) 1 0
+        digit n = go (eqb (bit reached n) 1) refl
+          where
+            go : (b : Bool) → eqb (bit reached n) 1 ≡ b → bit reached n ≡ pick b 1 0
+            go true e = eqb-true (bit reached n) 1 e
+            go false e = omega (arith, eqb-false (bit reached n) 1 e, bit-le reached n)
+
+        same : (n : ℕ) → n < regions → eqb (bit reached n) 1 ≡ sees m i n
+        same n l = sees-is m i n h (eqb (bit reached n) 1) (λ e. reached-route n (eqb-true (bit reached n) 1 e)) (λ e p t. eqb-false (bit reached n) 1 e (route-reached t))
+
+    module _ (r : ℕ) (l : r < regions) where
+      -- a region that is not reached: the item is hidden from it
+      pub unreached : has reached r ≡ false → none ≡ chosen m i r
+      unreached e =
+          sym (none-chosen m i r h (λ p t. eqb-false (bit reached r) 1 (rw (lt-ltb r regions l) at e) (route-reached t)))
+
+      -- a region that is reached: its layer is found, and a walk can start there
+      pub reached-layer : has reached r ≡ true → Reached sets deep r
+      reached-layer e = record { low = f .low; inside = l; some-layer = f .from r (reached-in e) }
+        where
+          reached-in : has reached r ≡ true → In reached r
+          reached-in e = eqb-true (bit reached r) 1 (rw (lt-ltb r regions l) at e)
+
+      pub walkable : {d : ℕ} → Found sets deep r d → Walkable (successor-sets m i) sets d r
+      walkable w = record {
+        layered =
+            let ly = shallower (f .layered) _ (w .within) in
+            record { base = λ n k. k; holds = λ n k. k; back = ly .back; closed = ly .closed; apart = ly .apart };
+        low = omega (arith, f .low, w .within);
+        small = λ j n k a. in-lt regions reached n (f .small) (f .into j n (omega (arith, w .within)) a);
+        here = w .here;
+      }
+
+      -- what the walk writes is the chosen route
+      pub walked-chosen : {d : ℕ} {entry exit : List ℕ} → Walked (successor-sets m i) sets d r entry exit
+          → _≡_ {A = Outcome Routed} (record { answer = Count d; exit = exit }) (shown (chosen m i r) entry)
+      walked-chosen {d} {entry} {exit} w =
+          let b : BestFor m i r (w .path)
+          = carry-best conn-crosses (λ n k. in-holds n (f .layered .holds n k)) crosses-conn (λ n k. f .layered .base n (holds-in n k)) (w .best) in
+          let e : chosen m i r ≡ some (w .path) = best-chosen m i r h (w .path) b in
+          let n : length (w .path) - 1 ≡ d = omega (arith, w .counted) in
+          rw e (λ j. record { answer = Count (sym n j); exit = w .exit-is j })
+
+-- listeners stand in the set of the regions that see the item exactly where they see it
+pub stands-sees : (m : Model) (i : Item) → Legal m → (l : ℕ)
+    → stands-in (set-of (sees m i)) (place-of (m .bundles) l) ≡ sees-from m i (place-of (m .bundles) l)
+stands-sees m i h l = go (place-of (m .bundles) l) refl
+  where
+    go : (p : Place) → place-of (m .bundles) l ≡ p → stands-in (set-of (sees m i)) p ≡ sees-from m i p
+    go (Within r) e = has-set (sees m i) r ∙ rw (lt-ltb r regions (region-inside m h l e))
+    go Nowhere e = refl
+
+pub keep-stands : (m : Model) (i : Item) → Legal m → {set : ℕ} → set ≡ set-of (sees m i) → (ls : List ℕ)
+    → keep (λ l. stands-in set (place-of (m .bundles) l)) ls ≡ keep (λ l. sees-from m i (place-of (m .bundles) l)) ls
+keep-stands m i h e [] = refl
+keep-stands m i h e (l ∷ ls) =
+    rw (ap (λ (x : ℕ). stands-in x (place-of (m .bundles) l)) e ∙ stands-sees m i h l, keep-stands m i h e ls)

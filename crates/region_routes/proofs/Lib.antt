@@ -1,0 +1,11 @@
+pub mod RouteLaws
+pub mod Choosing
+pub mod Net
+pub mod SetLaws
+pub mod Layers
+pub mod SearchLoops
+pub mod Walking
+pub mod Judging
+pub mod Keeping
+pub mod Claims
+pub mod Rows

@@ -1,0 +1,80 @@
+use borrow.Author.Needs.{needs}
+use mathlib.Core.Path.{_≡_, sym, _∙_}
+use Prim.Native.Nat.{ℕ, _-_}
+use native.Mathlib.Omega.{arith}
+use lib.ListN.{length}
+use Rattle.region_graph.specs.Record.{meaning}
+use Rattle.region_graph.specs.Promise.{place-of}
+use Rattle.region_routes.specs.Hooks.{stands-in}
+use Rattle.region_routes.proofs.Keeping.{Keeping, keeping-start, keeping-took, keeping-left, keeping-end}
+use Rattle.region_routes.proofs.hooks.keep_standing.Statement.{statement}
+use Rattle.region_routes.proofs.hooks.keep_standing.Tie as tie
+
+abbrev Inv-loop : tie.InvT-loop
+Inv-loop graph set listeners out₀ n₀ i₀ out n i = Keeping (λ l. stands-in set (place-of (meaning graph .bundles) l)) listeners i n out₀ out
+
+abbrev μ-loop : tie.MeasureT-loop
+μ-loop graph set listeners out₀ n₀ i₀ out n i = length listeners - i
+
+loop-holds : tie.Need-loop-holds Inv-loop μ-loop
+loop-holds c = keeping-start (c .before .before .pre .1)
+
+mul-listener : tie.Need-mul-listener Inv-loop μ-loop
+mul-listener c = search needs
+
+shared-slice-read-listener : tie.Need-shared-slice-read-listener Inv-loop μ-loop
+shared-slice-read-listener c = search needs
+
+add-i : tie.Need-add-i Inv-loop μ-loop
+add-i c = search needs
+
+stands-in-requires : tie.Need-stands-in-requires Inv-loop μ-loop
+stands-in-requires c κs = search needs
+
+mul-out : tie.Need-mul-out Inv-loop μ-loop
+mul-out c = search needs
+
+slice-write-out : tie.Need-slice-write-out Inv-loop μ-loop
+slice-write-out c = search needs
+
+add-n : tie.Need-add-n Inv-loop μ-loop
+add-n c = search needs
+
+loop-less : tie.Need-loop-less Inv-loop μ-loop
+loop-less c = search needs
+
+loop-again : tie.Need-loop-again Inv-loop μ-loop
+loop-again c = keeping-took (c .before .before .before .before .loop .inv) (omega arith) (sym (c .before .stands-in .ensures) ∙ c .if1 .taken)
+
+loop-less-2 : tie.Need-loop-less-2 Inv-loop μ-loop
+loop-less-2 c = search needs
+
+loop-again-2 : tie.Need-loop-again-2 Inv-loop μ-loop
+loop-again-2 c = keeping-left (c .before .before .before .before .loop .inv) (omega arith) (sym (c .before .stands-in .ensures) ∙ c .if1 .left)
+
+same-length : tie.Need-same-length Inv-loop μ-loop
+same-length c = c .before .loop .inv .long
+
+returns : tie.Need-returns Inv-loop μ-loop
+returns c = keeping-end (c .before .loop .inv) (omega arith)
+
+pub keep-standing-spec : {M : Type 1} → statement M
+keep-standing-spec =
+    tie.close
+    (tie.spec
+    Inv-loop
+    μ-loop
+    loop-holds
+    mul-listener
+    shared-slice-read-listener
+    add-i
+    stands-in-requires
+    mul-out
+    slice-write-out
+    add-n
+    loop-less
+    loop-again
+    loop-less-2
+    loop-again-2
+    same-length
+    returns)

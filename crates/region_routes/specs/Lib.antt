@@ -1,0 +1,8 @@
+-- What a reader must believe of routes and hooks, in document 01's order.
+pub mod Route
+pub mod Chosen
+pub mod Hooks
+pub mod Claim
+pub mod Net
+pub mod Table
+pub mod Search

@@ -1,0 +1,96 @@
+// The search for routes over successor sets: the regions in layers by their distance to a holder.
+ghost use mathlib.Core.Path.{_≡_};
+ghost use Prim.Native.Nat.{ℕ, _<_, _≤_, _^_};
+ghost use lib.ListN.{length};
+ghost use Rattle.region_graph.specs.Size.{regions};
+ghost use Rattle.region_graph.specs.Record.{Valid, meaning};
+ghost use Rattle.region_graph.specs.Sets.{«set-of»};
+ghost use Rattle.region_routes.specs.Chosen.{sees};
+ghost use Rattle.region_routes.specs.Search.{Layer, Searched, Reached, Found};
+use region_graph::Graph;
+use region_graph::Item;
+use region_graph::region_set::EVERY;
+use region_graph::region_set::difference;
+use region_graph::region_set::has;
+use region_graph::region_set::lowest;
+use region_graph::region_set::one;
+use region_graph::size::REGIONS;
+
+// The layers sets[0] to sets[deep], and all regions in them.
+pub struct Layers {
+    pub sets: [u64; REGIONS],
+    pub deep: usize,
+    pub reached: u64,
+}
+
+// One layer: the regions that are not reached yet and have a connection into the layer before.
+fn layer(succ: &[u64], prev: u64, reached: u64) -> u64
+    requires { ⌜ length (now succ) ≡ regions ⌝ }
+    ensures { λ r. ⌜ Layer (now (succ .entry)) prev reached r ⌝ }
+{
+    let mut next: u64 = 0;
+    let mut left = difference(EVERY, reached);
+    while left != 0 {
+        let n = lowest(left);
+        let alone = one(n);
+        left = difference(left, alone);
+        let at = n as usize;
+        if succ[at] & prev != 0 {
+            next = next | alone;
+        }
+    }
+    next
+}
+
+// All layers, from the holders back.
+pub fn search(succ: &[u64], holders: u64) -> Layers
+    requires { ⌜ (length (now succ) ≡ regions) × (holders < 2 ^ regions) ⌝ }
+    ensures { λ r. ⌜ Searched (now (succ .entry)) holders (r .sets) (r .deep) (r .reached) ⌝ }
+{
+    let mut sets = [0u64; REGIONS];
+    sets[0] = holders;
+    let mut deep: usize = 0;
+    let mut reached = holders;
+    let mut prev = holders;
+    loop {
+        let next = layer(succ, prev, reached);
+        if next == 0 {
+            return Layers {
+                sets,
+                deep,
+                reached,
+            };
+        }
+        deep += 1;
+        sets[deep] = next;
+        reached = reached | next;
+        prev = next;
+    }
+}
+
+// The layer of a region that was reached: its distance to a holder.
+pub fn distance(found: Layers, region: u32) -> usize
+    requires { ⌜ Reached (found .sets) (found .deep) region ⌝ }
+    ensures { λ r. ⌜ Found (found .sets) (found .deep) region r ⌝ }
+{
+    let mut d: usize = 0;
+    while d < REGIONS {
+        let set = found.sets[d];
+        if has(set, region) {
+            return d;
+        }
+        d += 1;
+    }
+    d
+}
+
+// The regions that see an item.
+pub fn seers(graph: Graph, item: Item) -> u64
+    requires { ⌜ Valid graph ⌝ }
+    ensures { λ r. ⌜ r ≡ set-of (sees (meaning graph) item) ⌝ }
+{
+    let succ = graph.successors(item);
+    let holders = graph.holders(item);
+    let found = search(&succ, holders);
+    found.reached
+}

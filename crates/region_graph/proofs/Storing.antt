@@ -285,3 +285,12 @@ accepts g c v w e s =
     let m = accepted (meaning g) c in
     let l : Legal m = legal-accepted (meaning g) c (v .good) w e in
     record { valid = stores-valid m l s; number = sym e; next = stores-means m l s ∙ sym (rw e); kept = λ f. absurd (f refl) }
+
+-- the promises settle the outcome: two records that meet them are one
+pub settled : (g : Graph) (c : Call) (r s : Changed) → Follows g c r → Follows g c s → r ≡ s
+settled g c r s f h =
+    let e : r .graph ≡ s .graph = meaning-injective (r .graph) (s .graph) (f .valid) (h .valid) (f .next ∙ sym (h .next)) in
+    λ i. record { graph = e i; number = (f .number ∙ sym (h .number)) i }
+
+pub empty-settled : (g h : Graph) → Empty g → Empty h → g ≡ h
+empty-settled g h e f = meaning-injective g h (e .valid) (f .valid) (e .sets ∙ sym (f .sets))

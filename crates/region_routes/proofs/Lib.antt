@@ -9,3 +9,4 @@ pub mod Judging
 pub mod Keeping
 pub mod Claims
 pub mod Rows
+pub mod WholeList

@@ -4,16 +4,13 @@ use mathlib.Core.Bool.{true, and-false}
 use mathlib.Core.Logic.{_⊎_, inl, inr}
 use mathlib.Core.List.{List, [], _∷_}
 use Prim.Native.Nat.{ℕ}
-use native.Mathlib.Omega.{arith}
 use Rattle.region_graph.specs.Lists.{member}
-use Rattle.region_graph.specs.Model.{Model, Legal, nothing}
-use Rattle.region_graph.specs.Calls.{add-region, install, connect}
+use Rattle.region_graph.specs.Model.{Model, Legal}
 use Rattle.region_graph.specs.declared.Item.{Item}
 use Rattle.region_graph.proofs.Lists.{false-true, member-all}
-use Rattle.region_graph.proofs.Legal.{legal-nothing, legal-run}
 use Rattle.region_routes.specs.Route.{last, next}
 use Rattle.region_routes.specs.Chosen.{RouteFor}
-use Rattle.region_routes.specs.Net.{Joined, Solves, net, service, empty-bundle, passing, cycle}
+use Rattle.region_routes.specs.Net.{Joined, Solves, net, service, cyclic}
 use Rattle.region_routes.proofs.Choosing.{crosses-members}
 
 module _ (m : Model) (i : Item) where
@@ -37,26 +34,17 @@ module _ (m : Model) (i : Item) where
       go h (last {r = r} d) = solves .closes r h (inl d)
       go h (next {r = r} {s = s} e t) = solves .closes r h (inr (s, e, go (crosses-members m i r s l e .1) t))
 
--- G7 is built by calls, so it is legal
-pub cycle-legal : Legal cycle
-cycle-legal =
-    legal-run nothing
-    (add-region 3 ∷ add-region 4 ∷ install (empty-bundle 10 3) ∷ install (empty-bundle 20 4)
-    ∷ connect (passing 77 3 4) ∷ connect (passing 77 4 3) ∷ [])
-    legal-nothing
-    (tt, (tt, ((omega arith, tt, tt), ((omega arith, tt, tt), ((tt, tt, (omega arith, tt)), ((tt, tt, (omega arith, tt)), tt))))))
-
 -- G7: that every region sees service 77 solves the equation, though no region has a route to it
-pub phantom : Solves cycle (service 77) (λ r. Unit {0})
+pub phantom : Solves cyclic (service 77) (λ r. Unit {0})
 phantom =
     record {
-      opens = λ r h n. member-all (Joined cycle (service 77) (λ r. Unit {0})) r (cycle .regions) (inr (4, refl, tt), (inr (3, refl, tt), tt)) h;
+      opens = λ r h n. member-all (Joined cyclic (service 77) (λ r. Unit {0})) r (cyclic .regions) (inr (4, refl, tt), (inr (3, refl, tt), tt)) h;
       closes = λ r h j. tt;
     }
 
-pub no-phantom : (r : ℕ) → net cycle (service 77) r → ⊥
+pub no-phantom : (r : ℕ) → net cyclic (service 77) r → ⊥
 no-phantom r n = go (n .1)
   where
-    go : {r : ℕ} {p : List ℕ} → RouteFor cycle (service 77) r p → ⊥
+    go : {r : ℕ} {p : List ℕ} → RouteFor cyclic (service 77) r p → ⊥
     go (last h) = false-true (simp and-false at h)
     go (next e t) = go t

@@ -13,7 +13,7 @@ use Rattle.region_graph.specs.declared.Place.the-variants.{Within}
 use Rattle.region_graph.proofs.Legal.{legal-nothing, legal-run}
 use Rattle.region_routes.specs.Chosen.{chosen, sees}
 use Rattle.region_routes.specs.Hooks.{item}
-use Rattle.region_routes.specs.Table.{Judged, Says, Row, holds, rows, graph-g, cycle, diamond, routes, resolves}
+use Rattle.region_routes.specs.Table.{Judged, Says, Shown, rows, graph-g, cycle, diamond, routes, resolves}
 use Rattle.region_routes.proofs.Choosing.{chosen-best, chosen-none}
 use Rattle.region_routes.proofs.Claims.{keep-sifted, sees-seen, seen-sees}
 
@@ -45,7 +45,7 @@ words-diamond : All Words diamond
 words-diamond = search needs depth 30 fits 4000
 
 -- every row of the table holds
-pub every-row : All holds rows
+pub every-row : All Shown rows
 unfolding chosen
 every-row = (
   (finds graph-g words-g 10 0 (1 ∷ 2 ∷ 3 ∷ []) refl, tt),

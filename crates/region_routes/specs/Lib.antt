@@ -3,6 +3,6 @@ pub mod Route
 pub mod Chosen
 pub mod Hooks
 pub mod Claim
-pub mod Net
 pub mod Table
+pub mod Net
 pub mod Search

@@ -3,13 +3,15 @@
 use mathlib.Core.Path.{_≡_}
 use mathlib.Core.Bool.{true}
 use mathlib.Core.Logic.{_⊎_}
-use mathlib.Core.List.{List, [], _∷_}
+use mathlib.Core.List.{List}
 use Prim.Native.Nat.{ℕ}
 use Rattle.region_graph.specs.Lists.{member}
-use Rattle.region_graph.specs.Model.{Model, Bundle, Part, Connection}
+use Rattle.region_graph.specs.Model.{Model, nothing}
+use Rattle.region_graph.specs.Calls.{run}
 use Rattle.region_graph.specs.declared.Item.{Item}
 use Rattle.region_routes.specs.Chosen.{Crosses, Holds, RouteFor}
 use Rattle.region_routes.specs.Hooks.{item, kind-number}
+use Rattle.region_routes.specs.Table.{cycle}
 use Rattle.region_routes.specs.declared.Kind.the-variants as Kind
 
 -- the item is in r's own region, or in the net region, filtered, of a region that r is connected to
@@ -25,21 +27,9 @@ pub record Solves (m : Model) (i : Item) (N : ℕ → Type 0) : Type 0 where
 abbrev pub net : Model → Item → ℕ → Type 0
 net m i r = (p : List ℕ) × RouteFor m i r p
 
--- G7: regions 3 and 4, a bundle in each, connected both ways, both passing service 77, which nobody publishes
 abbrev pub service : ℕ → Item
 service n = item (kind-number Kind.Service) n
 
-abbrev pub empty-bundle : ℕ → ℕ → Bundle
-empty-bundle l r = record { location = l; region = r; packages = []; services = [] }
-
-abbrev pub passing : ℕ → ℕ → ℕ → Connection
-passing n r s =
-    record { source = r; target = s; filter = record { bundles = []; packages = Part.listed []; services = Part.listed (n ∷ []) } }
-
-abbrev pub cycle : Model
-cycle =
-    record {
-      regions = 3 ∷ 4 ∷ [];
-      bundles = empty-bundle 10 3 ∷ empty-bundle 20 4 ∷ [];
-      connections = passing 77 3 4 ∷ passing 77 4 3 ∷ [];
-    }
+-- G7: regions 3 and 4, a bundle in each, connected both ways, both passing service 77, which nobody publishes
+abbrev pub cyclic : Model
+cyclic = run nothing cycle

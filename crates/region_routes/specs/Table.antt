@@ -36,8 +36,9 @@ pub record Row : Type 0 where
   pub calls : List Call
   pub claims : List Claim
 
-abbrev pub holds : Row → Type 0
-holds w = All (Says (w .calls)) (w .claims)
+-- all that a row claims holds
+abbrev pub Shown : Row → Type 0
+Shown w = All (Says (w .calls)) (w .claims)
 
 -- a bundle with packages and services, and connections that pass packages, services or bundles
 abbrev pub bundle-of : ℕ → ℕ → List ℕ → List ℕ → Call

@@ -5,24 +5,26 @@ use mathlib.Core.List.{List, [], _∷_}
 use mathlib.Core.Option.{Option, some, none}
 use Prim.Native.Nat.{ℕ, suc, _-_, _≤_}
 use native.Mathlib.Omega.{arith}
-use lib.Dec.{leb}
+use lib.Dec.{eqb}
 use lib.ListN.{length}
-use borrow.Author.Tests.{le-leb}
-use Rattle.region_graph.specs.Size.{regions}
+use borrow.Author.Tests.{eqb-true}
+use Rattle.region_graph.specs.Refusals.{not-refused}
 use Rattle.region_graph.specs.Lists.{pick, keep}
 use Rattle.region_graph.specs.Model.{Model, Legal}
+use Rattle.region_graph.specs.Calls.{first-no}
 use Rattle.region_graph.specs.Promise.{place-of}
 use Rattle.region_graph.specs.declared.Item.{Item}
 use Rattle.region_graph.specs.declared.Place.{Place}
 use Rattle.region_graph.specs.declared.Place.the-variants.{Within, Nowhere}
 use Rattle.region_routes.specs.Chosen.{chosen, sees}
-use Rattle.region_routes.specs.Hooks.{Outcome, item, shown, written, kept-outcome, sees-from}
+use Rattle.region_routes.specs.Hooks.{Outcome, item, routed-as, kept-as, judged, shown, shown-from, written, kept-outcome, sees-from, route-questions, find-questions, event-questions, route-outcome, find-outcome, event-outcome}
 use Rattle.region_routes.specs.Claim
 use Rattle.region_routes.specs.Claim.{Sifted, Seen, RouteSays, hidden, seen, KeptSays, Hears}
+use Rattle.region_routes.specs.declared.Kind.{Kind}
 use Rattle.region_routes.specs.declared.Routed.{Routed}
-use Rattle.region_routes.specs.declared.Routed.the-variants.{Hidden, Count}
+use Rattle.region_routes.specs.declared.Routed.the-variants as Routed
 use Rattle.region_routes.specs.declared.Kept.{Kept}
-use Rattle.region_routes.specs.declared.Kept.the-variants.{Wrote}
+use Rattle.region_routes.specs.declared.Kept.the-variants as Kept
 use Rattle.region_routes.proofs.RouteLaws.{nonempty}
 use Rattle.region_routes.proofs.Choosing.{chosen-best, chosen-none, sees-route, route-sees}
 
@@ -79,3 +81,34 @@ kept-says P p f g xs entry exit a e = record {
   count = ap (λ (x : Outcome Kept). x .answer) e;
   exit-is = ap (λ (x : Outcome Kept). x .exit) e;
 }
+
+-- the number of an answer is that of the first question answered no
+judged-number : {A : Type 0} (number-of : A → ℕ) (refused : ℕ → A) → ((n : ℕ) → number-of (refused n) ≡ n) → (n : ℕ) (o : Outcome A) (entry : List ℕ)
+    → number-of (o .answer) ≡ not-refused → number-of (judged refused n o entry .answer) ≡ n
+judged-number number-of refused f n o entry e = go (eqb n not-refused) refl
+  where
+    go : (b : Bool) → eqb n not-refused ≡ b → number-of (pick b o (record { answer = refused n; exit = entry }) .answer) ≡ n
+    go true q = e ∙ sym (eqb-true n not-refused q)
+    go false q = f n
+
+shown-number : (m : Model) (i : Item) (p : Place) (entry : List ℕ) → routed-as (shown-from m i p entry .answer) .number ≡ not-refused
+shown-number m i (Within r) entry = go (chosen m i r)
+  where
+    go : (o : Option (List ℕ)) → routed-as (shown o entry .answer) .number ≡ not-refused
+    go none = refl
+    go (some p) = refl
+shown-number m i Nowhere entry = refl
+
+pub route-number : (m : Model) (l kind number : ℕ) (entry : List ℕ)
+    → routed-as (route-outcome m l kind number entry .answer) .number ≡ first-no (route-questions m l kind entry)
+route-number m l kind number entry =
+    judged-number (λ a. routed-as a .number) Routed.Refused (λ n. refl) (first-no (route-questions m l kind entry)) _ entry
+    (shown-number m (item kind number) (place-of (m .bundles) l) entry)
+
+pub find-number : (m : Model) (k : Kind) (l : ℕ) (xs entry : List ℕ)
+    → kept-as (find-outcome m k l xs entry .answer) .number ≡ first-no (find-questions m l xs entry)
+find-number m k l xs entry = judged-number (λ a. kept-as a .number) Kept.Refused (λ n. refl) (first-no (find-questions m l xs entry)) _ entry refl
+
+pub event-number : (m : Model) (k : Kind) (xs : List ℕ) (number : ℕ) (entry : List ℕ)
+    → kept-as (event-outcome m k xs number entry .answer) .number ≡ first-no (event-questions m xs entry)
+event-number m k xs number entry = judged-number (λ a. kept-as a .number) Kept.Refused (λ n. refl) (first-no (event-questions m xs entry)) _ entry refl

@@ -4,13 +4,14 @@ use mathlib.Core.Bool.{Bool, true, false, _&&_}
 use mathlib.Core.List.{List, [], _∷_, _++_}
 use mathlib.Core.Option.{Option, some, none}
 use Prim.Native.Nat.{ℕ, _-_}
-use lib.Dec.{leb}
+use lib.Dec.{eqb, leb}
 use lib.ListN.{length, drop}
 use Rattle.region_graph.specs.Size.{regions}
-use Rattle.region_graph.specs.Refusals.{not-installed, not-a-kind, no-place}
+use Rattle.region_graph.specs.Refusals.{not-refused, not-installed, not-a-kind, no-place}
 use Rattle.region_graph.specs.Lists.{pick, keep}
 use Rattle.region_graph.specs.Sets.{has}
 use Rattle.region_graph.specs.Model.{Model}
+use Rattle.region_graph.specs.Calls.{Question, ask, first-no}
 use Rattle.region_graph.specs.Promise.{place-of}
 use Rattle.region_graph.specs.declared.Item.{Item}
 use Rattle.region_graph.specs.declared.Place.{Place}
@@ -41,54 +42,73 @@ pub record Outcome (A : Type 0) : Type 0 where
 abbrev pub written : List ℕ → List ℕ → List ℕ
 written xs entry = xs ++ drop (length xs) entry
 
--- the number and the values of each answer of a route call: a refusal's number, or 0 with the count of connections, or 0 with nothing
-abbrev pub routed-number : Routed → ℕ
-routed-number Routed.Hidden = 0
-routed-number (Routed.Count n) = 0
-routed-number (Routed.Refused n) = n
+-- document 01's number and values for each answer: the refusal's number, or 0 and the count
+pub record Numbered : Type 0 where
+  pub number : ℕ
+  pub values : List ℕ
 
--- the number of each answer of a hook: a refusal's, or 0 with the count written
-abbrev pub kept-number : Kept → ℕ
-kept-number (Kept.Wrote n) = 0
-kept-number (Kept.Refused n) = n
+abbrev pub routed-as : Routed → Numbered
+routed-as Routed.Hidden = record { number = not-refused; values = [] }
+routed-as (Routed.Count n) = record { number = not-refused; values = n ∷ [] }
+routed-as (Routed.Refused n) = record { number = n; values = [] }
+
+abbrev pub kept-as : Kept → Numbered
+kept-as (Kept.Wrote n) = record { number = not-refused; values = n ∷ [] }
+kept-as (Kept.Refused n) = record { number = n; values = [] }
+
+-- whether a bundle, and every listener, is installed
+abbrev pub installed : Place → Bool
+installed (Within r) = true
+installed Nowhere = false
+
+abbrev pub all-installed : Model → List ℕ → Bool
+all-installed m [] = true
+all-installed m (l ∷ ls) = installed (place-of (m .bundles) l) && all-installed m ls
+
+-- the questions that the queries pass, by number
+abbrev pub route-questions : Model → ℕ → ℕ → List ℕ → List Question
+route-questions m location kind entry =
+    ask not-installed (installed (place-of (m .bundles) location))
+    ∷ ask not-a-kind (leb kind 2)
+    ∷ ask no-place (leb regions (length entry))
+    ∷ []
+
+abbrev pub find-questions : Model → ℕ → List ℕ → List ℕ → List Question
+find-questions m location candidates entry =
+    ask not-installed (installed (place-of (m .bundles) location))
+    ∷ ask no-place (leb (length candidates) (length entry))
+    ∷ []
+
+abbrev pub event-questions : Model → List ℕ → List ℕ → List Question
+event-questions m listeners entry =
+    ask not-installed (all-installed m listeners)
+    ∷ ask no-place (leb (length listeners) (length entry))
+    ∷ []
+
+-- a refusal by the number of the first question answered no leaves the buffer as it was; with no "no" the query is answered
+module _ {A : Type 0} where
+  abbrev pub judged : (ℕ → A) → ℕ → Outcome A → List ℕ → Outcome A
+  judged refused n answered entry = pick (eqb n not-refused) answered (record { answer = refused n; exit = entry })
 
 -- the count of connections is one less than the count of regions
 abbrev pub shown : Option (List ℕ) → List ℕ → Outcome Routed
 shown none entry = record { answer = Routed.Hidden; exit = entry }
 shown (some p) entry = record { answer = Routed.Count (length p - 1); exit = written p entry }
 
--- questions 13 and 14, and the chosen route from the bundle's region
-abbrev pub route-from : Model → Place → ℕ → ℕ → List ℕ → Outcome Routed
-route-from m Nowhere kind number entry = record { answer = Routed.Refused not-installed; exit = entry }
-route-from m (Within r) kind number entry =
-    pick (leb kind 2)
-    (pick (leb regions (length entry))
-    (shown (chosen m (item kind number) r) entry)
-    (record { answer = Routed.Refused no-place; exit = entry }))
-    (record { answer = Routed.Refused not-a-kind; exit = entry })
+-- the chosen route from the region of an installed bundle
+abbrev pub shown-from : Model → Item → Place → List ℕ → Outcome Routed
+shown-from m i (Within r) entry = shown (chosen m i r) entry
+shown-from m i Nowhere entry = shown none entry
 
 abbrev pub route-outcome : Model → ℕ → ℕ → ℕ → List ℕ → Outcome Routed
-route-outcome m location kind number entry = route-from m (place-of (m .bundles) location) kind number entry
+route-outcome m location kind number entry =
+    judged Routed.Refused (first-no (route-questions m location kind entry)) (shown-from m (item kind number) (place-of (m .bundles) location) entry)
+    entry
 
 abbrev pub kept-outcome : List ℕ → List ℕ → Outcome Kept
 kept-outcome xs entry = record { answer = Kept.Wrote (length xs); exit = written xs entry }
 
--- a find writes the candidates that the bundle's region sees
-abbrev pub find-from : Model → Place → Kind → List ℕ → List ℕ → Outcome Kept
-find-from m Nowhere kind candidates entry = record { answer = Kept.Refused not-installed; exit = entry }
-find-from m (Within r) kind candidates entry =
-    pick (leb (length candidates) (length entry))
-    (kept-outcome (keep (λ n. sees m (item (kind-number kind) n) r) candidates) entry)
-    (record { answer = Kept.Refused no-place; exit = entry })
-
-abbrev pub find-outcome : Model → Kind → ℕ → List ℕ → List ℕ → Outcome Kept
-find-outcome m kind location candidates entry = find-from m (place-of (m .bundles) location) kind candidates entry
-
--- whether a listener is installed, and whether its region sees an item
-abbrev pub installed : Place → Bool
-installed (Within r) = true
-installed Nowhere = false
-
+-- whether the region of an installed bundle sees an item
 abbrev pub sees-from : Model → Item → Place → Bool
 sees-from m i (Within r) = sees m i r
 sees-from m i Nowhere = false
@@ -97,15 +117,14 @@ abbrev pub stands-in : ℕ → Place → Bool
 stands-in set (Within r) = has set r
 stands-in set Nowhere = false
 
-abbrev pub all-installed : Model → List ℕ → Bool
-all-installed m [] = true
-all-installed m (l ∷ ls) = installed (place-of (m .bundles) l) && all-installed m ls
+-- a find writes the candidates that its bundle sees
+abbrev pub find-outcome : Model → Kind → ℕ → List ℕ → List ℕ → Outcome Kept
+find-outcome m kind location candidates entry =
+    judged Kept.Refused (first-no (find-questions m location candidates entry))
+    (kept-outcome (keep (λ n. sees-from m (item (kind-number kind) n) (place-of (m .bundles) location)) candidates) entry) entry
 
--- an event writes the listeners whose regions see the item
+-- an event writes the listeners that see its item
 abbrev pub event-outcome : Model → Kind → List ℕ → ℕ → List ℕ → Outcome Kept
 event-outcome m kind listeners number entry =
-    pick (all-installed m listeners)
-    (pick (leb (length listeners) (length entry))
-    (kept-outcome (keep (λ l. sees-from m (item (kind-number kind) number) (place-of (m .bundles) l)) listeners) entry)
-    (record { answer = Kept.Refused no-place; exit = entry }))
-    (record { answer = Kept.Refused not-installed; exit = entry })
+    judged Kept.Refused (first-no (event-questions m listeners entry))
+    (kept-outcome (keep (λ l. sees-from m (item (kind-number kind) number) (place-of (m .bundles) l)) listeners) entry) entry

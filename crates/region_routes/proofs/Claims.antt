@@ -17,7 +17,7 @@ use Rattle.region_graph.specs.declared.Item.{Item}
 use Rattle.region_graph.specs.declared.Place.{Place}
 use Rattle.region_graph.specs.declared.Place.the-variants.{Within, Nowhere}
 use Rattle.region_routes.specs.Chosen.{chosen, sees}
-use Rattle.region_routes.specs.Hooks.{Outcome, item, routed-as, kept-as, judged, shown, shown-from, written, kept-outcome, sees-from, route-questions, find-questions, event-questions, route-outcome, find-outcome, event-outcome}
+use Rattle.region_routes.specs.Hooks.{Outcome, item, routed, kept, judged, shown, shown-from, written, kept-outcome, sees-from, route-questions, find-questions, event-questions, route-outcome, find-outcome, event-outcome}
 use Rattle.region_routes.specs.Claim
 use Rattle.region_routes.specs.Claim.{Sifted, Seen, RouteSays, hidden, seen, KeptSays, Hears}
 use Rattle.region_routes.specs.declared.Kind.{Kind}
@@ -58,10 +58,10 @@ module _ (m : Model) (h : Legal m) where
 
   -- the outcome of a route call
   pub shown-says : (i : Item) (r : ℕ) (entry exit : List ℕ) (a : Routed)
-      → _≡_ {A = Outcome Routed} (record { answer = a; exit = exit }) (shown (chosen m i r) entry) → RouteSays m i r entry exit a
+      → _≡_ {A = Outcome Routed} (routed a exit) (shown (chosen m i r) entry) → RouteSays m i r entry exit a
   shown-says i r entry exit a e = go (chosen m i r) refl e
     where
-      go : (o : Option (List ℕ)) → chosen m i r ≡ o → _≡_ {A = Outcome Routed} (record { answer = a; exit = exit }) (shown o entry)
+      go : (o : Option (List ℕ)) → chosen m i r ≡ o → _≡_ {A = Outcome Routed} (routed a exit) (shown o entry)
           → RouteSays m i r entry exit a
       go none q k =
           subst (RouteSays m i r entry exit) (sym (ap (λ (x : Outcome Routed). x .answer) k))
@@ -73,7 +73,7 @@ module _ (m : Model) (h : Legal m) where
 
 -- the outcome of a hook
 pub kept-says : (P : ℕ → Type 0) (p : ℕ → Bool) → ((x : ℕ) → p x ≡ true → P x) → ((x : ℕ) → P x → p x ≡ true)
-    → (xs entry exit : List ℕ) (a : Kept) → _≡_ {A = Outcome Kept} (record { answer = a; exit = exit }) (kept-outcome (keep p xs) entry)
+    → (xs entry exit : List ℕ) (a : Kept) → _≡_ {A = Outcome Kept} (kept a exit) (kept-outcome (keep p xs) entry)
     → KeptSays P xs entry exit a
 kept-says P p f g xs entry exit a e = record {
   those = keep p xs;
@@ -83,32 +83,32 @@ kept-says P p f g xs entry exit a e = record {
 }
 
 -- the number of an answer is that of the first question answered no
-judged-number : {A : Type 0} (number-of : A → ℕ) (refused : ℕ → A) → ((n : ℕ) → number-of (refused n) ≡ n) → (n : ℕ) (o : Outcome A) (entry : List ℕ)
-    → number-of (o .answer) ≡ not-refused → number-of (judged refused n o entry .answer) ≡ n
-judged-number number-of refused f n o entry e = go (eqb n not-refused) refl
+judged-number : {A : Type 0} (refused : ℕ → A) (n : ℕ) (o : Outcome A) (entry : List ℕ) → o .numbered .number ≡ not-refused
+    → judged refused n o entry .numbered .number ≡ n
+judged-number refused n o entry e = go (eqb n not-refused) refl
   where
-    go : (b : Bool) → eqb n not-refused ≡ b → number-of (pick b o (record { answer = refused n; exit = entry }) .answer) ≡ n
+    go : (b : Bool) → eqb n not-refused ≡ b
+        → pick b o (record { answer = refused n; numbered = record { number = n; values = [] }; exit = entry }) .numbered .number ≡ n
     go true q = e ∙ sym (eqb-true n not-refused q)
-    go false q = f n
+    go false q = refl
 
-shown-number : (m : Model) (i : Item) (p : Place) (entry : List ℕ) → routed-as (shown-from m i p entry .answer) .number ≡ not-refused
+shown-number : (m : Model) (i : Item) (p : Place) (entry : List ℕ) → shown-from m i p entry .numbered .number ≡ not-refused
 shown-number m i (Within r) entry = go (chosen m i r)
   where
-    go : (o : Option (List ℕ)) → routed-as (shown o entry .answer) .number ≡ not-refused
+    go : (o : Option (List ℕ)) → shown o entry .numbered .number ≡ not-refused
     go none = refl
     go (some p) = refl
 shown-number m i Nowhere entry = refl
 
 pub route-number : (m : Model) (l kind number : ℕ) (entry : List ℕ)
-    → routed-as (route-outcome m l kind number entry .answer) .number ≡ first-no (route-questions m l kind entry)
+    → route-outcome m l kind number entry .numbered .number ≡ first-no (route-questions m l kind entry)
 route-number m l kind number entry =
-    judged-number (λ a. routed-as a .number) Routed.Refused (λ n. refl) (first-no (route-questions m l kind entry)) _ entry
-    (shown-number m (item kind number) (place-of (m .bundles) l) entry)
+    judged-number Routed.Refused (first-no (route-questions m l kind entry)) _ entry (shown-number m (item kind number) (place-of (m .bundles) l) entry)
 
 pub find-number : (m : Model) (k : Kind) (l : ℕ) (xs entry : List ℕ)
-    → kept-as (find-outcome m k l xs entry .answer) .number ≡ first-no (find-questions m l xs entry)
-find-number m k l xs entry = judged-number (λ a. kept-as a .number) Kept.Refused (λ n. refl) (first-no (find-questions m l xs entry)) _ entry refl
+    → find-outcome m k l xs entry .numbered .number ≡ first-no (find-questions m l xs entry)
+find-number m k l xs entry = judged-number Kept.Refused (first-no (find-questions m l xs entry)) _ entry refl
 
 pub event-number : (m : Model) (k : Kind) (xs : List ℕ) (number : ℕ) (entry : List ℕ)
-    → kept-as (event-outcome m k xs number entry .answer) .number ≡ first-no (event-questions m xs entry)
-event-number m k xs number entry = judged-number (λ a. kept-as a .number) Kept.Refused (λ n. refl) (first-no (event-questions m xs entry)) _ entry refl
+    → event-outcome m k xs number entry .numbered .number ≡ first-no (event-questions m xs entry)
+event-number m k xs number entry = judged-number Kept.Refused (first-no (event-questions m xs entry)) _ entry refl

@@ -24,7 +24,7 @@ use Rattle.region_graph.proofs.Bits.{bit-le, bit-zero, in-lt, set-below-lt, bit
 use Rattle.region_graph.proofs.Views.{counted-at}
 use Rattle.region_routes.specs.Route.{Route, last, next, Best, NoRoute}
 use Rattle.region_routes.specs.Chosen.{chosen, sees, Crosses, Holds, RouteFor, NoRouteFor, BestFor}
-use Rattle.region_routes.specs.Hooks.{Outcome, shown, written, sees-from, stands-in}
+use Rattle.region_routes.specs.Hooks.{Outcome, routed, shown, written, sees-from, stands-in}
 use Rattle.region_routes.specs.Search.{In, Conn, At, Layered, Searched, Reached, Found, Walkable, Walked}
 use Rattle.region_routes.specs.declared.Routed.{Routed}
 use Rattle.region_routes.specs.declared.Routed.the-variants.{Hidden, Count}
@@ -150,13 +150,13 @@ module _ (m : Model) (i : Item) (h : Legal m) where
 
       -- what the walk writes is the chosen route
       pub walked-chosen : {d : ℕ} {entry exit : List ℕ} → Walked (successor-sets m i) sets d r entry exit
-          → _≡_ {A = Outcome Routed} (record { answer = Count d; exit = exit }) (shown (chosen m i r) entry)
+          → _≡_ {A = Outcome Routed} (routed (Count d) exit) (shown (chosen m i r) entry)
       walked-chosen {d} {entry} {exit} w =
           let b : BestFor m i r (w .path)
           = carry-best conn-crosses (λ n k. in-holds n (f .layered .holds n k)) crosses-conn (λ n k. f .layered .base n (holds-in n k)) (w .best) in
           let e : chosen m i r ≡ some (w .path) = best-chosen m i r h (w .path) b in
           let n : length (w .path) - 1 ≡ d = omega (arith, w .counted) in
-          rw e (λ j. record { answer = Count (sym n j); exit = w .exit-is j })
+          rw e (λ j. routed (Count (sym n j)) (w .exit-is j))
 
 -- listeners stand in the set of the regions that see the item exactly where they see it
 pub stands-sees : (m : Model) (i : Item) → Legal m → (l : ℕ)

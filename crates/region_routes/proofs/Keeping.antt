@@ -11,7 +11,7 @@ use Rattle.region_graph.specs.Lists.{keep}
 use Rattle.region_graph.specs.Model.{Model}
 use Rattle.region_graph.specs.Promise.{place-of}
 use Rattle.region_graph.proofs.Lists.{keep-took, keep-left, keep-length}
-use Rattle.region_routes.specs.Hooks.{Outcome, written, kept-outcome, installed, all-installed}
+use Rattle.region_routes.specs.Hooks.{Outcome, kept, written, kept-outcome, installed, all-installed}
 use Rattle.region_routes.specs.declared.Kept.{Kept}
 use Rattle.region_routes.specs.declared.Kept.the-variants.{Wrote}
 
@@ -55,10 +55,10 @@ module _ {p : ℕ → Bool} {xs : List ℕ} {entry : List ℕ} where
         record { upto = omega arith; room = k .room; long = k .long; few = omega (arith, k .few); counted = rw e (k .counted); exit-is = rw e (k .exit-is) }
 
   pub keeping-end : {i n : ℕ} {out : List ℕ} → Keeping p xs i n entry out → length xs ≤ i
-      → _≡_ {A = Outcome Kept} (record { answer = Wrote n; exit = out }) (kept-outcome (keep p xs) entry)
+      → _≡_ {A = Outcome Kept} (kept (Wrote n) out) (kept-outcome (keep p xs) entry)
   keeping-end {i} {n} {out} k h =
       let e = take-all i xs h in
-      λ j. record { answer = Wrote ((k .counted ∙ ap (λ (t : List ℕ). length (keep p t)) e) j); exit = (k .exit-is ∙ ap (λ (t : List ℕ). written (keep p t) entry) e) j }
+      λ j. kept (Wrote ((k .counted ∙ ap (λ (t : List ℕ). length (keep p t)) e) j)) ((k .exit-is ∙ ap (λ (t : List ℕ). written (keep p t) entry) e) j)
 
 -- the listeners from the i-th on
 module _ (m : Model) (xs : List ℕ) (i : ℕ) (h : i < length xs) (e : all-installed m xs ≡ all-installed m (drop i xs)) where

@@ -1,8 +1,9 @@
 -- The joint table of document 01.
 use mathlib.Core.Path.{_≡_, refl}
 use mathlib.Core.List.{List, [], _∷_}
-use mathlib.Core.Option.{Option, some, none}
-use Prim.Native.Nat.{ℕ}
+use mathlib.Core.Option.{some, none}
+use Prim.Native.Nat.{ℕ, suc}
+use lib.ListN.{length}
 use borrow.Author.Needs.{needs}
 use Rattle.region_graph.specs.Lists.{All, keep}
 use Rattle.region_graph.specs.Model.{Model, Legal, nothing}
@@ -13,7 +14,7 @@ use Rattle.region_graph.specs.declared.Place.the-variants.{Within}
 use Rattle.region_graph.proofs.Legal.{legal-nothing, legal-run}
 use Rattle.region_routes.specs.Chosen.{chosen, sees}
 use Rattle.region_routes.specs.Hooks.{item}
-use Rattle.region_routes.specs.Table.{Judged, Says, Shown, rows, graph-g, cycle, diamond, routes, resolves}
+use Rattle.region_routes.specs.Table.{Says, Shown, rows, graph-g, cycle, diamond, resolves, routes, hides}
 use Rattle.region_routes.proofs.Choosing.{chosen-best, chosen-none}
 use Rattle.region_routes.proofs.Claims.{keep-sifted, sees-seen, seen-sees}
 
@@ -21,10 +22,13 @@ module _ (cs : List Call) (w : All Words cs) where
   legal : Legal (run nothing cs)
   legal = legal-run nothing cs legal-nothing w
 
-  -- a route that was computed
-  shows : (l r : ℕ) (i : Item) (o : Option (List ℕ)) → place-of (run nothing cs .bundles) l ≡ Within r → chosen (run nothing cs) i r ≡ o → Says cs (routes l i o)
-  shows l r i (some p) e f = (r, e, chosen-best (run nothing cs) i r legal p f)
-  shows l r i none e f = (r, e, chosen-none (run nothing cs) i r legal f)
+  -- a route that was computed, or that there is none
+  shows : (l r : ℕ) (i : Item) (p : List ℕ) (n : ℕ) → place-of (run nothing cs .bundles) l ≡ Within r → chosen (run nothing cs) i r ≡ some p
+      → length p ≡ suc n → Says cs (routes l i p n)
+  shows l r i p n e f k = (r, e, (chosen-best (run nothing cs) i r legal p f, k))
+
+  shows-none : (l r : ℕ) (i : Item) → place-of (run nothing cs .bundles) l ≡ Within r → chosen (run nothing cs) i r ≡ none → Says cs (hides l i)
+  shows-none l r i e f = (r, e, chosen-none (run nothing cs) i r legal f)
 
   finds : (l r : ℕ) (xs : List ℕ) → place-of (run nothing cs .bundles) l ≡ Within r
       → Says cs (resolves l xs (keep (λ n. sees (run nothing cs) (item 1 n) r) xs))
@@ -52,17 +56,17 @@ every-row = (
   (
     (finds graph-g words-g 20 1 (1 ∷ 2 ∷ 3 ∷ []) refl, tt),
     (
-      (shows graph-g words-g 10 0 (item 1 1) (some (0 ∷ 1 ∷ [])) refl refl, tt),
+      (shows graph-g words-g 10 0 (item 1 1) (0 ∷ 1 ∷ []) 1 refl refl refl, tt),
       (
-        (shows graph-g words-g 10 0 (item 1 3) none refl refl, tt),
+        (shows-none graph-g words-g 10 0 (item 1 3) refl refl, tt),
         (
-          (shows graph-g words-g 20 1 (item 0 30) none refl refl, tt),
+          (shows-none graph-g words-g 20 1 (item 0 30) refl refl, tt),
           (
-            (shows graph-g words-g 10 0 (item 0 10) (some (0 ∷ [])) refl refl, tt),
+            (shows graph-g words-g 10 0 (item 0 10) (0 ∷ []) 0 refl refl refl, tt),
             (
-              (shows cycle words-cycle 10 3 (item 2 77) none refl refl, (shows cycle words-cycle 20 4 (item 2 77) none refl refl, tt)),
+              (shows-none cycle words-cycle 10 3 (item 2 77) refl refl, (shows-none cycle words-cycle 20 4 (item 2 77) refl refl, tt)),
               (
-                (shows diamond words-diamond 10 0 (item 2 5) (some (0 ∷ 1 ∷ 3 ∷ [])) refl refl, tt),
+                (shows diamond words-diamond 10 0 (item 2 5) (0 ∷ 1 ∷ 3 ∷ []) 2 refl refl refl, tt),
                 (
                   (refl, tt),
                   ((refl, tt), tt),

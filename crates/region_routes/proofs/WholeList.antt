@@ -18,7 +18,7 @@ use Rattle.region_graph.specs.declared.Place.the-variants.{Within}
 use Rattle.region_graph.proofs.WholeList
 use Rattle.region_graph.proofs.WholeList.{Change, Means}
 use Rattle.region_graph.proofs.Graph.empty.Reads as empty
-use Rattle.region_routes.specs.Hooks.{Outcome, item, kind-number, sees-from, all-installed, route-outcome, find-outcome, event-outcome}
+use Rattle.region_routes.specs.Hooks.{Outcome, routed, kept, item, kind-number, sees-from, all-installed, route-outcome, find-outcome, event-outcome}
 use Rattle.region_routes.specs.Chosen.{sees}
 use Rattle.region_routes.specs.Claim.{Seen, RouteSays, KeptSays, Hears}
 use Rattle.region_routes.specs.declared.Kind.{Kind}
@@ -68,17 +68,17 @@ pub record Answers (g : Graph) (m : Model) : Type 0 where
 
 -- each contract is the same equation for its call
 routes-outcome : {g : Graph} {l kind number : ℕ} {entry exit : List ℕ} {a : Routed} → Routes g l kind number entry a exit
-    → _≡_ {A = Outcome Routed} (record { answer = a; exit = exit }) (route-outcome (meaning g) l kind number entry)
+    → _≡_ {A = Outcome Routed} (routed a exit) (route-outcome (meaning g) l kind number entry)
 routes-outcome (by-route κs was out a e) = e
 
 finds-outcome : {g : Graph} {l : ℕ} {k : Kind} {xs entry exit : List ℕ} {a : Kept} → Finds g l k xs entry a exit
-    → _≡_ {A = Outcome Kept} (record { answer = a; exit = exit }) (find-outcome (meaning g) k l xs entry)
+    → _≡_ {A = Outcome Kept} (kept a exit) (find-outcome (meaning g) k l xs entry)
 finds-outcome (by-bundle-find κs xs was out a e) = e
 finds-outcome (by-resolve κs xs was out a e) = e
 finds-outcome (by-service-find κs xs was out a e) = e
 
 events-outcome : {g : Graph} {number : ℕ} {k : Kind} {xs entry exit : List ℕ} {a : Kept} → Events g number k xs entry a exit
-    → _≡_ {A = Outcome Kept} (record { answer = a; exit = exit }) (event-outcome (meaning g) k xs number entry)
+    → _≡_ {A = Outcome Kept} (kept a exit) (event-outcome (meaning g) k xs number entry)
 events-outcome (by-bundle-event κs xs was out a e) = e
 events-outcome (by-service-event κs xs was out a e) = e
 

@@ -33,11 +33,6 @@ kind-number Kind.Service = 2
 abbrev pub item : ℕ → ℕ → Item
 item kind number = record { kind = kind; number = number }
 
--- an answer, and the lent buffer as the call returns
-pub record Outcome (A : Type 0) : Type 0 where
-  pub answer : A
-  pub exit : List ℕ
-
 -- what is written stands at the buffer's start; later places keep their values
 abbrev pub written : List ℕ → List ℕ → List ℕ
 written xs entry = xs ++ drop (length xs) entry
@@ -55,6 +50,18 @@ routed-as (Routed.Refused n) = record { number = n; values = [] }
 abbrev pub kept-as : Kept → Numbered
 kept-as (Kept.Wrote n) = record { number = not-refused; values = n ∷ [] }
 kept-as (Kept.Refused n) = record { number = n; values = [] }
+
+-- an answer, its number and values, and the lent buffer as the call returns
+pub record Outcome (A : Type 0) : Type 0 where
+  pub answer : A
+  pub numbered : Numbered
+  pub exit : List ℕ
+
+abbrev pub routed : Routed → List ℕ → Outcome Routed
+routed answer exit = record { answer = answer; numbered = routed-as answer; exit = exit }
+
+abbrev pub kept : Kept → List ℕ → Outcome Kept
+kept answer exit = record { answer = answer; numbered = kept-as answer; exit = exit }
 
 -- whether a bundle, and every listener, is installed
 abbrev pub installed : Place → Bool
@@ -88,12 +95,13 @@ event-questions m listeners entry =
 -- a refusal by the number of the first question answered no leaves the buffer as it was; with no "no" the query is answered
 module _ {A : Type 0} where
   abbrev pub judged : (ℕ → A) → ℕ → Outcome A → List ℕ → Outcome A
-  judged refused n answered entry = pick (eqb n not-refused) answered (record { answer = refused n; exit = entry })
+  judged refused n answered entry =
+      pick (eqb n not-refused) answered (record { answer = refused n; numbered = record { number = n; values = [] }; exit = entry })
 
 -- the count of connections is one less than the count of regions
 abbrev pub shown : Option (List ℕ) → List ℕ → Outcome Routed
-shown none entry = record { answer = Routed.Hidden; exit = entry }
-shown (some p) entry = record { answer = Routed.Count (length p - 1); exit = written p entry }
+shown none entry = routed Routed.Hidden entry
+shown (some p) entry = routed (Routed.Count (length p - 1)) (written p entry)
 
 -- the chosen route from the region of an installed bundle
 abbrev pub shown-from : Model → Item → Place → List ℕ → Outcome Routed
@@ -106,7 +114,7 @@ route-outcome m location kind number entry =
     entry
 
 abbrev pub kept-outcome : List ℕ → List ℕ → Outcome Kept
-kept-outcome xs entry = record { answer = Kept.Wrote (length xs); exit = written xs entry }
+kept-outcome xs entry = kept (Kept.Wrote (length xs)) (written xs entry)
 
 -- whether the region of an installed bundle sees an item
 abbrev pub sees-from : Model → Item → Place → Bool

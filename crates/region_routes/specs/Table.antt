@@ -2,8 +2,8 @@
 -- they give.
 use mathlib.Core.Path.{_≡_}
 use mathlib.Core.List.{List, [], _∷_}
-use mathlib.Core.Option.{Option, some, none}
-use Prim.Native.Nat.{ℕ}
+use Prim.Native.Nat.{ℕ, suc}
+use lib.ListN.{length}
 use Rattle.region_graph.specs.Lists.{All}
 use Rattle.region_graph.specs.Model.{Model, Bundle, Part, Connection, nothing}
 use Rattle.region_graph.specs.Calls.{Call, run, numbers}
@@ -19,18 +19,20 @@ pub data Claim : Type 0 where
   answers : List ℕ → Claim
   -- resolve for the bundle at a location, on these candidates, gives those
   resolves : ℕ → List ℕ → List ℕ → Claim
-  -- the route from the bundle at a location to an item, or hidden
-  routes : ℕ → Item → Option (List ℕ) → Claim
+  -- the route from the bundle at a location to an item, and its count of connections
+  routes : ℕ → Item → List ℕ → ℕ → Claim
+  -- an item is hidden from the bundle at a location
+  hides : ℕ → Item → Claim
 
-abbrev pub Judged : Model → Item → ℕ → Option (List ℕ) → Type 0
-Judged m i r (some p) = BestFor m i r p
-Judged m i r none = NoRouteFor m i r
+-- P holds of the region in which the bundle at a location is installed
+abbrev pub Asks : Model → ℕ → (ℕ → Type 0) → Type 0
+Asks m l P = (r : ℕ) × (place-of (m .bundles) l ≡ Within r) × P r
 
 abbrev pub Says : List Call → Claim → Type 0
 Says cs (answers ns) = numbers nothing cs ≡ ns
-Says cs (resolves l xs ys) =
-    let m = run nothing cs in (r : ℕ) × (place-of (m .bundles) l ≡ Within r) × Sifted (λ n. Seen m (item 1 n) r) xs ys
-Says cs (routes l i o) = let m = run nothing cs in (r : ℕ) × (place-of (m .bundles) l ≡ Within r) × Judged m i r o
+Says cs (resolves l xs ys) = let m = run nothing cs in Asks m l (λ r. Sifted (λ n. Seen m (item 1 n) r) xs ys)
+Says cs (routes l i p n) = let m = run nothing cs in Asks m l (λ r. BestFor m i r p × (length p ≡ suc n))
+Says cs (hides l i) = let m = run nothing cs in Asks m l (NoRouteFor m i)
 
 pub record Row : Type 0 where
   pub calls : List Call
@@ -89,19 +91,19 @@ rows =
     -- G1 to G6
     record { calls = graph-g; claims = resolves 10 (1 ∷ 2 ∷ 3 ∷ []) (1 ∷ []) ∷ [] }
     ∷ record { calls = graph-g; claims = resolves 20 (1 ∷ 2 ∷ 3 ∷ []) (1 ∷ 3 ∷ []) ∷ [] }
-    ∷ record { calls = graph-g; claims = routes 10 (item 1 1) (some (0 ∷ 1 ∷ [])) ∷ [] }
-    ∷ record { calls = graph-g; claims = routes 10 (item 1 3) none ∷ [] }
-    ∷ record { calls = graph-g; claims = routes 20 (item 0 30) none ∷ [] }
-    ∷ record { calls = graph-g; claims = routes 10 (item 0 10) (some (0 ∷ [])) ∷ [] }
+    ∷ record { calls = graph-g; claims = routes 10 (item 1 1) (0 ∷ 1 ∷ []) 1 ∷ [] }
+    ∷ record { calls = graph-g; claims = hides 10 (item 1 3) ∷ [] }
+    ∷ record { calls = graph-g; claims = hides 20 (item 0 30) ∷ [] }
+    ∷ record { calls = graph-g; claims = routes 10 (item 0 10) (0 ∷ []) 0 ∷ [] }
     -- G7
     ∷ record {
       calls = cycle;
-      claims = routes 10 (item 2 77) none ∷ routes 20 (item 2 77) none ∷ [];
+      claims = hides 10 (item 2 77) ∷ hides 20 (item 2 77) ∷ [];
     }
     -- G8
     ∷ record {
       calls = diamond;
-      claims = routes 10 (item 2 5) (some (0 ∷ 1 ∷ 3 ∷ [])) ∷ [];
+      claims = routes 10 (item 2 5) (0 ∷ 1 ∷ 3 ∷ []) 2 ∷ [];
     }
     -- G9
     ∷ record {

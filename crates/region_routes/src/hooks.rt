@@ -7,7 +7,7 @@ ghost use Rattle.region_graph.specs.Lists.{keep};
 ghost use Rattle.region_graph.specs.Record.{Valid, meaning};
 ghost use Rattle.region_graph.specs.Promise.{«place-of»};
 ghost use Rattle.region_routes.specs.Chosen.{sees};
-ghost use Rattle.region_routes.specs.Hooks.{«kind-number», item, «kept-outcome», «find-outcome», «event-outcome», «all-installed», «stands-in»};
+ghost use Rattle.region_routes.specs.Hooks.{«kind-number», item, kept, «kept-outcome», «find-outcome», «event-outcome», «all-installed», «stands-in»};
 use crate::Kept;
 use crate::Kind;
 use crate::search::seers;
@@ -32,7 +32,7 @@ fn kind_number(kind: Kind) -> u32
 fn keep_seen(graph: Graph, kind: u32, region: u32, candidates: &[u32], out: &mut [u32]) -> usize
     requires { ⌜ Valid graph ⌝ }
     requires { ⌜ (region < regions) × (length (now candidates) ≤ length (now out)) ⌝ }
-    ensures { λ r. ⌜ record { answer = Kept.Wrote r; exit = now (out .exit) } ≡ kept-outcome (keep (λ n. sees (meaning graph) (item kind n) region) (now (candidates .entry))) (now (out .entry)) ⌝ }
+    ensures { λ r. ⌜ kept (Kept.Wrote r) (now (out .exit)) ≡ kept-outcome (keep (λ n. sees (meaning graph) (item kind n) region) (now (candidates .entry))) (now (out .entry)) ⌝ }
 {
     let mut n: usize = 0;
     let mut i: usize = 0;
@@ -50,7 +50,7 @@ fn keep_seen(graph: Graph, kind: u32, region: u32, candidates: &[u32], out: &mut
 
 fn find(graph: Graph, kind: Kind, location: u32, candidates: &[u32], out: &mut [u32]) -> Kept
     requires { ⌜ Valid graph ⌝ }
-    ensures { λ r. ⌜ record { answer = r; exit = now (out .exit) } ≡ find-outcome (meaning graph) kind location (now (candidates .entry)) (now (out .entry)) ⌝ }
+    ensures { λ r. ⌜ kept r (now (out .exit)) ≡ find-outcome (meaning graph) kind location (now (candidates .entry)) (now (out .entry)) ⌝ }
 {
     let place = graph.region_of(location);
     let Place::Within(region) = place else {
@@ -96,7 +96,7 @@ fn stands_in(graph: Graph, listener: u32, set: u64) -> bool
 fn keep_standing(graph: Graph, set: u64, listeners: &[u32], out: &mut [u32]) -> usize
     requires { ⌜ Valid graph ⌝ }
     requires { ⌜ length (now listeners) ≤ length (now out) ⌝ }
-    ensures { λ r. ⌜ record { answer = Kept.Wrote r; exit = now (out .exit) } ≡ kept-outcome (keep (λ l. stands-in set (place-of (meaning graph .bundles) l)) (now (listeners .entry))) (now (out .entry)) ⌝ }
+    ensures { λ r. ⌜ kept (Kept.Wrote r) (now (out .exit)) ≡ kept-outcome (keep (λ l. stands-in set (place-of (meaning graph .bundles) l)) (now (listeners .entry))) (now (out .entry)) ⌝ }
 {
     let mut n: usize = 0;
     let mut i: usize = 0;
@@ -113,7 +113,7 @@ fn keep_standing(graph: Graph, set: u64, listeners: &[u32], out: &mut [u32]) -> 
 
 fn event(graph: Graph, kind: Kind, listeners: &[u32], number: u32, out: &mut [u32]) -> Kept
     requires { ⌜ Valid graph ⌝ }
-    ensures { λ r. ⌜ record { answer = r; exit = now (out .exit) } ≡ event-outcome (meaning graph) kind (now (listeners .entry)) number (now (out .entry)) ⌝ }
+    ensures { λ r. ⌜ kept r (now (out .exit)) ≡ event-outcome (meaning graph) kind (now (listeners .entry)) number (now (out .entry)) ⌝ }
 {
     if !all_installed(graph, listeners) {
         return Kept::Refused(NOT_INSTALLED);
@@ -130,7 +130,7 @@ fn event(graph: Graph, kind: Kind, listeners: &[u32], number: u32, out: &mut [u3
 // The bundles among the candidates that a bundle sees.
 pub fn bundle_find(graph: Graph, location: u32, candidates: &[u32], out: &mut [u32]) -> Kept
     requires { ⌜ Valid graph ⌝ }
-    ensures { λ r. ⌜ record { answer = r; exit = now (out .exit) } ≡ find-outcome (meaning graph) Kind.Bundle location (now (candidates .entry)) (now (out .entry)) ⌝ }
+    ensures { λ r. ⌜ kept r (now (out .exit)) ≡ find-outcome (meaning graph) Kind.Bundle location (now (candidates .entry)) (now (out .entry)) ⌝ }
 {
     find(graph, Kind::Bundle, location, candidates, out)
 }
@@ -138,7 +138,7 @@ pub fn bundle_find(graph: Graph, location: u32, candidates: &[u32], out: &mut [u
 // The packages among the candidates that a bundle sees.
 pub fn resolve(graph: Graph, location: u32, candidates: &[u32], out: &mut [u32]) -> Kept
     requires { ⌜ Valid graph ⌝ }
-    ensures { λ r. ⌜ record { answer = r; exit = now (out .exit) } ≡ find-outcome (meaning graph) Kind.Package location (now (candidates .entry)) (now (out .entry)) ⌝ }
+    ensures { λ r. ⌜ kept r (now (out .exit)) ≡ find-outcome (meaning graph) Kind.Package location (now (candidates .entry)) (now (out .entry)) ⌝ }
 {
     find(graph, Kind::Package, location, candidates, out)
 }
@@ -146,7 +146,7 @@ pub fn resolve(graph: Graph, location: u32, candidates: &[u32], out: &mut [u32])
 // The services among the candidates that a bundle sees.
 pub fn service_find(graph: Graph, location: u32, candidates: &[u32], out: &mut [u32]) -> Kept
     requires { ⌜ Valid graph ⌝ }
-    ensures { λ r. ⌜ record { answer = r; exit = now (out .exit) } ≡ find-outcome (meaning graph) Kind.Service location (now (candidates .entry)) (now (out .entry)) ⌝ }
+    ensures { λ r. ⌜ kept r (now (out .exit)) ≡ find-outcome (meaning graph) Kind.Service location (now (candidates .entry)) (now (out .entry)) ⌝ }
 {
     find(graph, Kind::Service, location, candidates, out)
 }
@@ -154,7 +154,7 @@ pub fn service_find(graph: Graph, location: u32, candidates: &[u32], out: &mut [
 // The listeners that see a bundle.
 pub fn bundle_event(graph: Graph, listeners: &[u32], bundle: u32, out: &mut [u32]) -> Kept
     requires { ⌜ Valid graph ⌝ }
-    ensures { λ r. ⌜ record { answer = r; exit = now (out .exit) } ≡ event-outcome (meaning graph) Kind.Bundle (now (listeners .entry)) bundle (now (out .entry)) ⌝ }
+    ensures { λ r. ⌜ kept r (now (out .exit)) ≡ event-outcome (meaning graph) Kind.Bundle (now (listeners .entry)) bundle (now (out .entry)) ⌝ }
 {
     event(graph, Kind::Bundle, listeners, bundle, out)
 }
@@ -162,7 +162,7 @@ pub fn bundle_event(graph: Graph, listeners: &[u32], bundle: u32, out: &mut [u32
 // The listeners that see a service.
 pub fn service_event(graph: Graph, listeners: &[u32], service: u32, out: &mut [u32]) -> Kept
     requires { ⌜ Valid graph ⌝ }
-    ensures { λ r. ⌜ record { answer = r; exit = now (out .exit) } ≡ event-outcome (meaning graph) Kind.Service (now (listeners .entry)) service (now (out .entry)) ⌝ }
+    ensures { λ r. ⌜ kept r (now (out .exit)) ≡ event-outcome (meaning graph) Kind.Service (now (listeners .entry)) service (now (out .entry)) ⌝ }
 {
     event(graph, Kind::Service, listeners, service, out)
 }

@@ -5,7 +5,7 @@ ghost use lib.ListN.{length};
 ghost use Rattle.region_graph.specs.Size.{regions};
 ghost use Rattle.region_graph.specs.Record.{Valid, meaning};
 ghost use Rattle.region_routes.specs.Search.{Walkable, Walked};
-ghost use Rattle.region_routes.specs.Hooks.{«route-outcome»};
+ghost use Rattle.region_routes.specs.Hooks.{routed, «route-outcome»};
 use crate::Routed;
 use crate::search::Layers;
 use crate::search::distance;
@@ -42,7 +42,7 @@ fn walk(out: &mut [u8], succ: &[u64], found: Layers, deep: usize, region: u32)
 // The count of connections of the route that document 01 picks, its regions at the buffer's start, one byte each.
 pub fn route(graph: Graph, location: u32, kind: u32, number: u32, out: &mut [u8]) -> Routed
     requires { ⌜ Valid graph ⌝ }
-    ensures { λ r. ⌜ record { answer = r; exit = now (out .exit) } ≡ route-outcome (meaning graph) location kind number (now (out .entry)) ⌝ }
+    ensures { λ r. ⌜ routed r (now (out .exit)) ≡ route-outcome (meaning graph) location kind number (now (out .entry)) ⌝ }
 {
     let place = graph.region_of(location);
     let Place::Within(region) = place else {

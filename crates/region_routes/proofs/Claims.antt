@@ -83,32 +83,32 @@ kept-says P p f g xs entry exit a e = record {
 }
 
 -- the number of an answer is that of the first question answered no
-judged-number : {A : Type 0} (refused : ℕ → A) (n : ℕ) (o : Outcome A) (entry : List ℕ) → o .numbered .number ≡ not-refused
-    → judged refused n o entry .numbered .number ≡ n
+judged-number : {A : Type 0} (refused : ℕ → A) (n : ℕ) (o : Outcome A) (entry : List ℕ) → o .returned .number ≡ not-refused
+    → judged refused n o entry .returned .number ≡ n
 judged-number refused n o entry e = go (eqb n not-refused) refl
   where
     go : (b : Bool) → eqb n not-refused ≡ b
-        → pick b o (record { answer = refused n; numbered = record { number = n; values = [] }; exit = entry }) .numbered .number ≡ n
+        → pick b o (record { answer = refused n; returned = record { number = n; values = [] }; exit = entry }) .returned .number ≡ n
     go true q = e ∙ sym (eqb-true n not-refused q)
     go false q = refl
 
-shown-number : (m : Model) (i : Item) (p : Place) (entry : List ℕ) → shown-from m i p entry .numbered .number ≡ not-refused
+shown-number : (m : Model) (i : Item) (p : Place) (entry : List ℕ) → shown-from m i p entry .returned .number ≡ not-refused
 shown-number m i (Within r) entry = go (chosen m i r)
   where
-    go : (o : Option (List ℕ)) → shown o entry .numbered .number ≡ not-refused
+    go : (o : Option (List ℕ)) → shown o entry .returned .number ≡ not-refused
     go none = refl
     go (some p) = refl
 shown-number m i Nowhere entry = refl
 
 pub route-number : (m : Model) (l kind number : ℕ) (entry : List ℕ)
-    → route-outcome m l kind number entry .numbered .number ≡ first-no (route-questions m l kind entry)
+    → route-outcome m l kind number entry .returned .number ≡ first-no (route-questions m l kind entry)
 route-number m l kind number entry =
     judged-number Routed.Refused (first-no (route-questions m l kind entry)) _ entry (shown-number m (item kind number) (place-of (m .bundles) l) entry)
 
 pub find-number : (m : Model) (k : Kind) (l : ℕ) (xs entry : List ℕ)
-    → find-outcome m k l xs entry .numbered .number ≡ first-no (find-questions m l xs entry)
+    → find-outcome m k l xs entry .returned .number ≡ first-no (find-questions m l xs entry)
 find-number m k l xs entry = judged-number Kept.Refused (first-no (find-questions m l xs entry)) _ entry refl
 
 pub event-number : (m : Model) (k : Kind) (xs : List ℕ) (number : ℕ) (entry : List ℕ)
-    → event-outcome m k xs number entry .numbered .number ≡ first-no (event-questions m xs entry)
+    → event-outcome m k xs number entry .returned .number ≡ first-no (event-questions m xs entry)
 event-number m k xs number entry = judged-number Kept.Refused (first-no (event-questions m xs entry)) _ entry refl

@@ -37,31 +37,31 @@ item kind number = record { kind = kind; number = number }
 abbrev pub written : List ℕ → List ℕ → List ℕ
 written xs entry = xs ++ drop (length xs) entry
 
--- document 01's number and values for each answer: the refusal's number, or 0 and the count
-pub record Numbered : Type 0 where
+-- what document 01 says is returned for each answer: the refusal's number, or 0 and the count
+pub record Returned : Type 0 where
   pub number : ℕ
   pub values : List ℕ
 
-abbrev pub routed-as : Routed → Numbered
+abbrev pub routed-as : Routed → Returned
 routed-as Routed.Hidden = record { number = not-refused; values = [] }
 routed-as (Routed.Count n) = record { number = not-refused; values = n ∷ [] }
 routed-as (Routed.Refused n) = record { number = n; values = [] }
 
-abbrev pub kept-as : Kept → Numbered
+abbrev pub kept-as : Kept → Returned
 kept-as (Kept.Wrote n) = record { number = not-refused; values = n ∷ [] }
 kept-as (Kept.Refused n) = record { number = n; values = [] }
 
--- an answer, its number and values, and the lent buffer as the call returns
+-- an answer, what document 01 says is returned for it, and the lent buffer as the call leaves it
 pub record Outcome (A : Type 0) : Type 0 where
   pub answer : A
-  pub numbered : Numbered
+  pub returned : Returned
   pub exit : List ℕ
 
 abbrev pub routed : Routed → List ℕ → Outcome Routed
-routed answer exit = record { answer = answer; numbered = routed-as answer; exit = exit }
+routed answer exit = record { answer = answer; returned = routed-as answer; exit = exit }
 
 abbrev pub kept : Kept → List ℕ → Outcome Kept
-kept answer exit = record { answer = answer; numbered = kept-as answer; exit = exit }
+kept answer exit = record { answer = answer; returned = kept-as answer; exit = exit }
 
 -- whether a bundle, and every listener, is installed
 abbrev pub installed : Place → Bool
@@ -96,7 +96,7 @@ event-questions m listeners entry =
 module _ {A : Type 0} where
   abbrev pub judged : (ℕ → A) → ℕ → Outcome A → List ℕ → Outcome A
   judged refused n answered entry =
-      pick (eqb n not-refused) answered (record { answer = refused n; numbered = record { number = n; values = [] }; exit = entry })
+      pick (eqb n not-refused) answered (record { answer = refused n; returned = record { number = n; values = [] }; exit = entry })
 
 -- the count of connections is one less than the count of regions
 abbrev pub shown : Option (List ℕ) → List ℕ → Outcome Routed

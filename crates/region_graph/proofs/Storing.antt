@@ -41,7 +41,7 @@ map-id : {A : Type 0} (xs : List A) → map (λ x. x) xs ≡ xs
 map-id [] = refl
 map-id {A} (x ∷ xs) = ap (λ (l : List A). x ∷ l) (map-id xs)
 
-map-back : {A B : Type 0} (f : A → B) (g : B → A) → ((x : A) → g (f x) ≡ x) → (xs : List A) → map g (map f xs) ≡ xs
+pub map-back : {A B : Type 0} (f : A → B) (g : B → A) → ((x : A) → g (f x) ≡ x) → (xs : List A) → map g (map f xs) ≡ xs
 map-back f g h [] = refl
 map-back f g h (x ∷ xs) = λ i. h x i ∷ map-back f g h xs i
 
@@ -196,10 +196,10 @@ short-part : (p : Part) → NumberedPart p → ShortPart p
 short-part (Part.listed xs) h = h .few
 short-part Part.everything h = tt
 
-short-bundle : {rs : List ℕ} {b : Bundle} → LegalBundle rs b → ShortBundle b
+pub short-bundle : {rs : List ℕ} {b : Bundle} → LegalBundle rs b → ShortBundle b
 short-bundle h = record { packages = omega (arith, h .packages .few); services = omega (arith, h .services .few) }
 
-short-connection : {rs : List ℕ} {c : Connection} → LegalConnection rs c → ShortConnection c
+pub short-connection : {rs : List ℕ} {c : Connection} → LegalConnection rs c → ShortConnection c
 short-connection {c = c} h = record {
   bundles = h .filter .bundles .few;
   packages = short-part (c .filter .packages) (h .filter .packages);

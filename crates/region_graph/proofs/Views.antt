@@ -1,5 +1,5 @@
 -- What the layers above read of a record: the place of a location, and the sets of holders and successors as bundles and connections join.
-use mathlib.Core.Path.{_≡_, refl, sym, ap, ap₂, _∙_, subst}
+use mathlib.Core.Path.{_≡_, refl, sym, ap, ap₂, _∙_}
 use mathlib.Core.Bool.{Bool, true, false, _&&_, _||_, and-true, and-false, or-false}
 use mathlib.Core.List.{List, [], _∷_, map}
 use Prim.Native.Nat.{ℕ, zero, suc, _+_, _≤_, _<_}
@@ -9,17 +9,16 @@ use lib.Dec.{eqb}
 use lib.Bits.{bitOr}
 use lib.ListN.{length, getD, take, set}
 use lib.Seq.{take-suc}
-use borrow.Author.Tests.{eqb-true, eq-eqb, ne-eqb}
+use borrow.Author.Tests.{eq-eqb, ne-eqb}
 use Rattle.region_graph.specs.Size.{regions}
-use Rattle.region_graph.specs.Lists.{pick, any, All, member, position, count-from}
+use Rattle.region_graph.specs.Lists.{pick, any, position, count-from}
 use Rattle.region_graph.specs.Sets.{one, set-of}
-use Rattle.region_graph.specs.Model.{Bundle, Filter, Part, Connection, LegalConnection}
+use Rattle.region_graph.specs.Model.{Bundle, Filter, Part, LegalConnection}
 use Rattle.region_graph.specs.Calls.{at-location}
 use Rattle.region_graph.specs.Items.{provided, part-of, provides, passes}
 use Rattle.region_graph.specs.Record.{Valid, meaning, connections-of, no-bundle, no-connection}
 use Rattle.region_graph.specs.Promise.{place-of}
 use Rattle.region_graph.specs.declared.Graph.{Graph}
-use Rattle.region_graph.specs.declared.Item.{Item}
 use Rattle.region_graph.specs.declared.Place.the-variants.{Within, Nowhere}
 use Rattle.region_graph.specs.declared.connections.StoredConnection.{StoredConnection}
 use Rattle.region_graph.proofs.Lists.{any-append, all-at, member-all}
@@ -118,77 +117,77 @@ module _ {A : Type 0} (q : A → ℕ → Bool) (xs : List A) (i : ℕ) (d : A) (
       (λ n l.
       sym (any-more (λ x. q x n) xs i d h ∙ ap (λ (t : Bool). any (λ x. q x n) (take i xs) || t) (f n) ∙ or-false (any (λ x. q x n) (take i xs))))
 
--- holders
+-- holders: elements that have a region each, and a test
 
--- a bundle brings the item to region r
-abbrev brings : Item → Bundle → ℕ → Bool
-brings item b r = eqb (b .region) r && provides item b
+module _ {A : Type 0} (region : A → ℕ) (provides : A → Bool) where
+  -- the element brings what it provides to region r
+  abbrev brings : A → ℕ → Bool
+  brings x r = eqb (region x) r && provides x
 
--- the regions to which some bundle of the list brings the item
-unfoldable pub held : Item → List Bundle → ℕ
-held item bs = set-of (λ r. any (λ b. brings item b r) bs)
+  -- the regions to which some element of the list brings it
+  unfoldable pub held : List A → ℕ
+  held xs = set-of (λ r. any (λ x. brings x r) xs)
 
--- no bundle brings it anywhere
-pub held-none : (item : Item) → 0 ≡ held item []
-unfolding held
-held-none item = sym set-none
-
-module _ (item : Item) (bs : List Bundle) (i : ℕ) (h : i < length bs) where
-  -- a bundle that provides the item adds its region
-  pub held-took : provides item (getD bs i no-bundle) ≡ true
-      → bitOr (held item (take i bs)) (one (getD bs i no-bundle .region)) ≡ held item (take (i + 1) bs)
+  -- no element brings it anywhere
+  pub held-none : 0 ≡ held []
   unfolding held
-  held-took e =
-      set-took (brings item) bs i no-bundle h (getD bs i no-bundle .region)
-      (λ n. ap (λ (t : Bool). eqb (getD bs i no-bundle .region) n && t) e ∙ and-true (eqb (getD bs i no-bundle .region) n))
+  held-none = sym set-none
 
-  -- a bundle that does not adds nothing
-  pub held-left : provides item (getD bs i no-bundle) ≡ false → held item (take i bs) ≡ held item (take (i + 1) bs)
-  unfolding held
-  held-left e =
-      set-left (brings item) bs i no-bundle h
-      (λ n. ap (λ (t : Bool). eqb (getD bs i no-bundle .region) n && t) e ∙ and-false (eqb (getD bs i no-bundle .region) n))
+  module _ (xs : List A) (i : ℕ) (d : A) (h : i < length xs) where
+    -- an element that provides it adds its region
+    pub held-took : provides (getD xs i d) ≡ true → bitOr (held (take i xs)) (one (region (getD xs i d))) ≡ held (take (i + 1) xs)
+    unfolding held
+    held-took e =
+        set-took brings xs i d h (region (getD xs i d))
+        (λ n. ap (λ (t : Bool). eqb (region (getD xs i d)) n && t) e ∙ and-true (eqb (region (getD xs i d)) n))
 
--- successors
+    -- an element that does not adds nothing
+    pub held-left : provides (getD xs i d) ≡ false → held (take i xs) ≡ held (take (i + 1) xs)
+    unfolding held
+    held-left e =
+        set-left brings xs i d h
+        (λ n. ap (λ (t : Bool). eqb (region (getD xs i d)) n && t) e ∙ and-false (eqb (region (getD xs i d)) n))
 
--- a connection leads with the item from region r to region s
-abbrev leads : Item → ℕ → Connection → ℕ → Bool
-leads item r c s = (eqb (c .source) r && eqb (c .target) s) && passes item (c .filter)
+-- successors: elements that lead from a region to a region each, and a test
 
--- the regions to which some connection of the list leads from region r
-abbrev reached : Item → List Connection → ℕ → ℕ
-reached item cs r = set-of (λ s. any (λ c. leads item r c s) cs)
+module _ {A : Type 0} (source target : A → ℕ) (passes : A → Bool) where
+  -- the element leads from region r to region s
+  abbrev leads : ℕ → A → ℕ → Bool
+  leads r x s = (eqb (source x) r && eqb (target x) s) && passes x
 
--- for each region the regions to which some connection of the list leads
-unfoldable pub led : Item → List Connection → List ℕ
-led item cs = map (reached item cs) (count-from 0 regions)
+  -- the regions to which some element of the list leads from region r
+  abbrev reached : List A → ℕ → ℕ
+  reached xs r = set-of (λ s. any (λ x. leads r x s) xs)
 
--- no connection leads anywhere
-pub led-none : (item : Item) → map (λ r. 0) (count-from 0 regions) ≡ led item []
-unfolding led
-led-none item = counted-same (λ r. 0) (reached item []) 0 regions (λ r l. sym set-none)
+  -- for each region the regions to which some element of the list leads
+  unfoldable pub led : List A → List ℕ
+  led xs = map (reached xs) (count-from 0 regions)
 
-module _ (item : Item) (cs : List Connection) (i : ℕ) (h : i < length cs) where
-  -- a connection that passes the item adds its target to what its source reaches
-  pub led-took : {sets : List ℕ} {s x : ℕ} → sets ≡ led item (take i cs) → s ≡ getD cs i no-connection .source
-      → x ≡ one (getD cs i no-connection .target) → s < regions → passes item (getD cs i no-connection .filter) ≡ true
-      → set sets s (bitOr (getD sets s 0) x) ≡ led item (take (i + 1) cs)
+  -- no element leads anywhere
+  pub led-none : map (λ r. 0) (count-from 0 regions) ≡ led []
   unfolding led
-  led-took {sets} {s} {x} p f t l e =
-      let c = getD cs i no-connection in
-      ap (λ (ls : List ℕ). set ls s (bitOr (getD sets s 0) x)) p
-      ∙ counted-set (reached item (take i cs)) (reached item (take (i + 1) cs)) 0 regions s s (bitOr (getD sets s 0) x) l (omega arith)
-      (ap₂ bitOr (ap (λ (ls : List ℕ). getD ls s 0) p ∙ counted-at (reached item (take i cs)) 0 regions s s 0 l (omega arith)) t
-      ∙ set-took (leads item s) cs i no-connection h (c .target) (λ n. rw (e, eq-eqb (c .source) s (sym f)) (and-true (eqb (c .target) n))))
-      (λ r k. set-left (leads item r) cs i no-connection h (λ n. rw (ne-eqb (c .source) r (λ q. k (sym q ∙ sym f)))))
+  led-none = counted-same (λ r. 0) (reached []) 0 regions (λ r l. sym set-none)
 
-  -- a connection that does not adds nothing
-  pub led-left : passes item (getD cs i no-connection .filter) ≡ false → led item (take i cs) ≡ led item (take (i + 1) cs)
-  unfolding led
-  led-left e =
-      let c = getD cs i no-connection in
-      counted-same (reached item (take i cs)) (reached item (take (i + 1) cs)) 0 regions
-      (λ r l. set-left (leads item r) cs i no-connection h (λ n. rw e (and-false (eqb (c .source) r && eqb (c .target) n))))
+  module _ (xs : List A) (i : ℕ) (d : A) (h : i < length xs) where
+    -- an element that passes adds its target to what its source reaches
+    pub led-took : {sets : List ℕ} {s x : ℕ} → sets ≡ led (take i xs) → s ≡ source (getD xs i d) → x ≡ one (target (getD xs i d)) → s < regions
+        → passes (getD xs i d) ≡ true → set sets s (bitOr (getD sets s 0) x) ≡ led (take (i + 1) xs)
+    unfolding led
+    led-took {sets} {s} {x} p f t l e =
+        let c = getD xs i d in
+        ap (λ (ls : List ℕ). set ls s (bitOr (getD sets s 0) x)) p
+        ∙ counted-set (reached (take i xs)) (reached (take (i + 1) xs)) 0 regions s s (bitOr (getD sets s 0) x) l (omega arith)
+        (ap₂ bitOr (ap (λ (ls : List ℕ). getD ls s 0) p ∙ counted-at (reached (take i xs)) 0 regions s s 0 l (omega arith)) t
+        ∙ set-took (leads s) xs i d h (target c) (λ n. rw (e, eq-eqb (source c) s (sym f)) (and-true (eqb (target c) n))))
+        (λ r k. set-left (leads r) xs i d h (λ n. rw (ne-eqb (source c) r (λ q. k (sym q ∙ sym f)))))
+
+    -- an element that does not adds nothing
+    pub led-left : passes (getD xs i d) ≡ false → led (take i xs) ≡ led (take (i + 1) xs)
+    unfolding led
+    led-left e =
+        let c = getD xs i d in
+        counted-same (reached (take i xs)) (reached (take (i + 1) xs)) 0 regions
+        (λ r l. set-left (leads r) xs i d h (λ n. rw e (and-false (eqb (source c) r && eqb (target c) n))))
 
 -- the source of a valid record's connection is a region
 pub source-region : (g : Graph) → Valid g → (i : ℕ) (e : StoredConnection) → i < g .connections .count

@@ -11,11 +11,13 @@ use Rattle.region_graph.specs.Sets.{set-of}
 use Rattle.region_graph.specs.Model.{Model, Bundle, Filter, Part, Connection, bundle-before, connection-before, nothing}
 use Rattle.region_graph.specs.Calls.{Call, number, after, at-location, in-region, joins, touches, names}
 use Rattle.region_graph.specs.Items.{holds, crosses}
-use Rattle.region_graph.specs.Record.{Valid, meaning, no-bundle, no-connection, store-numbers, numbers-of, store-bundles, bundles-of, store-connections, connections-of, store-bundle, store-connection}
+use Rattle.region_graph.specs.Record.{Valid, meaning, no-bundle, no-connection, store-numbers, numbers-of, store-bundles, bundles-of, store-connections, connections-of, store-bundle, store-connection, places}
 use Rattle.region_graph.specs.declared.Graph.{Graph}
 use Rattle.region_graph.specs.declared.Changed.{Changed}
 use Rattle.region_graph.specs.declared.Item.{Item}
 use Rattle.region_graph.specs.declared.Place.{Place}
+use Rattle.region_graph.specs.declared.bundles.StoredBundle.{StoredBundle}
+use Rattle.region_graph.specs.declared.connections.StoredConnection.{StoredConnection}
 use Rattle.region_graph.specs.declared.Place.the-variants.{Within, Nowhere}
 
 -- the record with nothing in it
@@ -58,6 +60,13 @@ holder-set m i = set-of (holds m i)
 
 unfoldable pub successor-sets : Model → Item → List ℕ
 successor-sets m i = map (λ r. set-of (crosses m i r)) (count-from 0 regions)
+
+-- the places of the bundles and of the connections
+abbrev pub bundle-places : Model → List StoredBundle
+bundle-places m = places store-bundle (store-bundle no-bundle) most-bundles (m .bundles)
+
+abbrev pub connection-places : Model → List StoredConnection
+connection-places m = places store-connection (store-connection no-connection) most-connections (m .connections)
 
 -- the i-th bundle and connection in ascending order; past the count, the one that has nothing
 abbrev pub bundle-at : Model → ℕ → Bundle

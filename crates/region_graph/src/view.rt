@@ -6,7 +6,7 @@ ghost use Rattle.region_graph.specs.Sets.{«set-of»};
 ghost use Rattle.region_graph.specs.Items.{provides, passes, «part-passes»};
 ghost use Rattle.region_graph.specs.Record.{Valid, meaning, «store-bundle», «store-connection», «bundle-in», «connection-in», «part-in»};
 ghost use Rattle.region_graph.specs.Places.{BundleStored, ConnectionStored, PartStored};
-ghost use Rattle.region_graph.specs.Promise.{«place-of», «holder-set», «successor-sets», «bundle-at», «connection-at»};
+ghost use Rattle.region_graph.specs.Promise.{«place-of», «holder-set», «successor-sets», «bundle-places», «connection-places», «bundle-at», «connection-at»};
 use crate::Graph;
 use crate::Item;
 use crate::Place;
@@ -18,6 +18,8 @@ use crate::connections::StoredPart;
 use crate::connections::no_connection;
 use crate::numbers::lists;
 use crate::region_set::one;
+use crate::size::MOST_BUNDLES;
+use crate::size::MOST_CONNECTIONS;
 use crate::size::REGIONS;
 
 // Whether a bundle brings an item to its region.
@@ -134,6 +136,24 @@ impl Graph {
             }
         }
         sets
+    }
+
+    // The places of the bundles, those that are not used included.
+    pub fn bundle_places(self) -> [StoredBundle; MOST_BUNDLES]
+        requires { ⌜ Valid self ⌝ }
+        ensures { λ r. ⌜ r ≡ bundle-places (meaning self) ⌝ }
+    {
+        let bundles = self.bundles;
+        bundles.items
+    }
+
+    // The places of the connections, those that are not used included.
+    pub fn connection_places(self) -> [StoredConnection; MOST_CONNECTIONS]
+        requires { ⌜ Valid self ⌝ }
+        ensures { λ r. ⌜ r ≡ connection-places (meaning self) ⌝ }
+    {
+        let connections = self.connections;
+        connections.items
     }
 
     pub fn bundle_count(self) -> usize

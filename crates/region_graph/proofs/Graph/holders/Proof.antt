@@ -19,7 +19,7 @@ use Rattle.region_graph.proofs.Graph.holders.Tie as tie
 
 abbrev Inv-loop : tie.InvT-loop
 Inv-loop item bundles count set₀ i₀ set i =
-    (i ≤ bundles .count) × (bundles .count ≤ most-bundles) × (set ≡ held item (take i (bundles-of bundles)))
+    (i ≤ bundles .count) × (bundles .count ≤ most-bundles) × (set ≡ held (λ b. b .region) (provides item) (take i (bundles-of bundles)))
 
 abbrev μ-loop : tie.MeasureT-loop
 μ-loop item bundles count set₀ i₀ set i = bundles .count - i
@@ -39,7 +39,7 @@ loop-holds : tie.Need-loop-holds Inv-loop μ-loop
 loop-holds c =
     let s = c .before in
     let h = bundles-filled (s .args .self .bundles) (bundles-stored (s .args .self) (s .pre)) in
-    (omega arith, rw (h .counted) (h .room), held-none (s .args .item))
+    (omega arith, rw (h .counted) (h .room), held-none (λ b. b .region) (provides (s .args .item)))
 
 mul-b : tie.Need-mul-b Inv-loop μ-loop
 mul-b c = search needs
@@ -70,7 +70,7 @@ loop-again c =
       omega arith,
       a .loop .inv .1,
       ap₂ bitOr (a .loop .inv .2) (c .one .ensures ∙ ap (λ (b : StoredBundle). one (b .region)) (filled-at h (a .loop .i) _ no-bundle (omega arith)))
-          ∙ held-took (s .args .item) (bundles-of (s .args .self .bundles)) (a .loop .i) (filled-inside h (a .loop .i) (omega arith))
+          ∙ held-took (λ b. b .region) (provides (s .args .item)) (bundles-of (s .args .self .bundles)) (a .loop .i) no-bundle (filled-inside h (a .loop .i) (omega arith))
           (tested (c .before .before) (c .before .if1 .taken)),
     )
 
@@ -85,7 +85,7 @@ loop-again-2 c =
       omega arith,
       a .loop .inv .1,
       a .loop .inv .2
-          ∙ held-left (s .args .item) (bundles-of (s .args .self .bundles)) (a .loop .i) (filled-inside h (a .loop .i) (omega arith))
+          ∙ held-left (λ b. b .region) (provides (s .args .item)) (bundles-of (s .args .self .bundles)) (a .loop .i) no-bundle (filled-inside h (a .loop .i) (omega arith))
           (tested (c .before) (c .if1 .left)),
     )
 
@@ -96,7 +96,7 @@ returns c =
     let s = a .before .before in
     let h = bundles-filled (s .args .self .bundles) (bundles-stored (s .args .self) (s .pre)) in
     let l : length (bundles-of (s .args .self .bundles)) ≤ a .loop .i = omega (arith, h .counted) in
-    a .loop .inv .2 ∙ ap (held (s .args .item)) (take-all (a .loop .i) (bundles-of (s .args .self .bundles)) l)
+    a .loop .inv .2 ∙ ap (held (λ b. b .region) (provides (s .args .item))) (take-all (a .loop .i) (bundles-of (s .args .self .bundles)) l)
 
 pub holders-spec : {M : Type 1} → statement M
 holders-spec =

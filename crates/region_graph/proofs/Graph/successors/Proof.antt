@@ -20,7 +20,7 @@ use Rattle.region_graph.proofs.Graph.successors.Tie as tie
 
 abbrev Inv-loop : tie.InvT-loop
 Inv-loop item connections count sets₀ i₀ sets i =
-    (i ≤ connections .count) × (connections .count ≤ most-connections) × (sets ≡ led item (take i (connections-of connections)))
+    (i ≤ connections .count) × (connections .count ≤ most-connections) × (sets ≡ led (λ c. c .source) (λ c. c .target) (λ c. passes item (c .filter)) (take i (connections-of connections)))
 
 abbrev μ-loop : tie.MeasureT-loop
 μ-loop item connections count sets₀ i₀ sets i = connections .count - i
@@ -41,7 +41,7 @@ loop-holds : tie.Need-loop-holds Inv-loop μ-loop
 loop-holds c =
     let s = c .before in
     let h = connections-filled (s .args .self .connections) (connections-stored (s .args .self) (s .pre)) in
-    (omega arith, rw (h .counted) (h .room), led-none (s .args .item))
+    (omega arith, rw (h .counted) (h .room), led-none (λ c. c .source) (λ c. c .target) (λ c. passes (s .args .item) (c .filter)))
 
 mul-c : tie.Need-mul-c Inv-loop μ-loop
 mul-c c = search needs
@@ -90,7 +90,7 @@ loop-again c =
     let h = connections-filled (s .args .self .connections) (connections-stored (s .args .self) (s .pre)) in (
       omega arith,
       a .loop .inv .1,
-      led-took (s .args .item) (connections-of (s .args .self .connections)) (a .loop .i) (filled-inside h (a .loop .i) (omega arith)) (a .loop .inv .2)
+      led-took (λ c. c .source) (λ c. c .target) (λ c. passes (s .args .item) (c .filter)) (connections-of (s .args .self .connections)) (a .loop .i) no-connection (filled-inside h (a .loop .i) (omega arith)) (a .loop .inv .2)
           (ap (λ (x : StoredConnection). x .source) (filled-at h (a .loop .i) _ no-connection (omega arith)))
           (c .one .ensures ∙ ap (λ (x : StoredConnection). one (x .target)) (filled-at h (a .loop .i) _ no-connection (omega arith)))
           (array-read-sets (c .before))
@@ -108,7 +108,7 @@ loop-again-2 c =
       omega arith,
       a .loop .inv .1,
       a .loop .inv .2
-          ∙ led-left (s .args .item) (connections-of (s .args .self .connections)) (a .loop .i) (filled-inside h (a .loop .i) (omega arith))
+          ∙ led-left (λ c. c .source) (λ c. c .target) (λ c. passes (s .args .item) (c .filter)) (connections-of (s .args .self .connections)) (a .loop .i) no-connection (filled-inside h (a .loop .i) (omega arith))
           (tested (c .before) (c .if1 .left)),
     )
 
@@ -119,7 +119,7 @@ returns c =
     let s = a .before .before in
     let h = connections-filled (s .args .self .connections) (connections-stored (s .args .self) (s .pre)) in
     let l : length (connections-of (s .args .self .connections)) ≤ a .loop .i = omega (arith, h .counted) in
-    a .loop .inv .2 ∙ ap (led (s .args .item)) (take-all (a .loop .i) (connections-of (s .args .self .connections)) l)
+    a .loop .inv .2 ∙ ap (led (λ c. c .source) (λ c. c .target) (λ c. passes (s .args .item) (c .filter))) (take-all (a .loop .i) (connections-of (s .args .self .connections)) l)
 
 pub successors-spec : {M : Type 1} → statement M
 successors-spec =

@@ -1,16 +1,16 @@
 -- The sets that a graph gives for an item, and what a search over them says of the model's routes.
-use mathlib.Core.Path.{_≡_, refl, sym, ap, _∙_, subst}
+use mathlib.Core.Path.{_≡_, refl, sym, ap, ap₂, _∙_, subst}
 use mathlib.Core.Bool.{Bool, true, false, _&&_, _||_}
 use mathlib.Core.Logic.{_⊎_, inl, inr}
-use mathlib.Core.List.{List, [], _∷_, _++_, map}
-use mathlib.Core.Option.{Option, some, none}
-use Prim.Native.Nat.{ℕ, zero, suc, _+_, _-_, _≤_, _<_, _^_, zero-le}
+use mathlib.Core.List.{List, [], _∷_}
+use mathlib.Core.Option.{some, none}
+use Prim.Native.Nat.{ℕ, _-_, _≤_, _<_, zero-le}
 use native.Mathlib.Omega.{arith}
-use lib.Dec.{eqb, ltb}
-use lib.ListN.{length, getD, drop, length-map, List·getD-eq-default}
-use borrow.Author.Tests.{eqb-true, eqb-false, eq-eqb, ne-eqb, lt-ltb}
+use lib.Dec.{eqb}
+use lib.ListN.{length, List·getD-eq-default}
+use borrow.Author.Tests.{eqb-true, eqb-false, lt-ltb}
 use Rattle.region_graph.specs.Size.{regions}
-use Rattle.region_graph.specs.Lists.{pick, any, All, keep, member, count-from}
+use Rattle.region_graph.specs.Lists.{pick, any, All, keep}
 use Rattle.region_graph.specs.Sets.{bit, has, set-of}
 use Rattle.region_graph.specs.Model.{Model, Bundle, Legal, LegalBundle}
 use Rattle.region_graph.specs.Calls.{at-location}
@@ -22,12 +22,12 @@ use Rattle.region_graph.specs.declared.Place.the-variants.{Within, Nowhere}
 use Rattle.region_graph.proofs.Lists.{member-all, and-fst, false-true}
 use Rattle.region_graph.proofs.Bits.{bit-le, bit-zero, in-lt, set-below-lt, bit-set-below, set-is, has-set}
 use Rattle.region_graph.proofs.Views.{counted-at}
-use Rattle.region_routes.specs.Route.{Route, last, next, Best, NoRoute}
-use Rattle.region_routes.specs.Chosen.{chosen, sees, Crosses, Holds, RouteFor, NoRouteFor, BestFor}
-use Rattle.region_routes.specs.Hooks.{Outcome, routed, shown, written, sees-from, stands-in}
-use Rattle.region_routes.specs.Search.{In, Conn, At, Layered, Searched, Reached, Found, Walkable, Walked}
+use Rattle.region_routes.specs.Route.{last, next}
+use Rattle.region_routes.specs.Chosen.{chosen, sees, Crosses, Holds, RouteFor, BestFor}
+use Rattle.region_routes.specs.Hooks.{Outcome, routed, shown, sees-from, stands-in}
+use Rattle.region_routes.specs.Search.{In, Conn, Searched, Reached, Found, Walkable, Walked}
 use Rattle.region_routes.specs.declared.Routed.{Routed}
-use Rattle.region_routes.specs.declared.Routed.the-variants.{Hidden, Count}
+use Rattle.region_routes.specs.declared.Routed.the-variants.{Count}
 use Rattle.region_routes.proofs.Choosing.{crosses-inside, best-chosen, none-chosen, sees-is}
 use Rattle.region_routes.proofs.Layers.{trail, shallower}
 use Rattle.region_routes.proofs.RouteLaws.{lt-or-ge, carry, carry-best}
@@ -167,8 +167,8 @@ stands-sees m i h l = go (place-of (m .bundles) l) refl
     go (Within r) e = has-set (sees m i) r ∙ rw (lt-ltb r regions (region-inside m h l e))
     go Nowhere e = refl
 
-pub keep-stands : (m : Model) (i : Item) → Legal m → {set : ℕ} → set ≡ set-of (sees m i) → (ls : List ℕ)
-    → keep (λ l. stands-in set (place-of (m .bundles) l)) ls ≡ keep (λ l. sees-from m i (place-of (m .bundles) l)) ls
-keep-stands m i h e [] = refl
-keep-stands m i h e (l ∷ ls) =
-    rw (ap (λ (x : ℕ). stands-in x (place-of (m .bundles) l)) e ∙ stands-sees m i h l, keep-stands m i h e ls)
+pub keep-stands : (m : Model) (i : Item) → Legal m → {set : ℕ} → set ≡ set-of (sees m i) → {place : ℕ → Place}
+    → ((l : ℕ) → place l ≡ place-of (m .bundles) l) → (ls : List ℕ)
+    → keep (λ l. stands-in set (place l)) ls ≡ keep (λ l. sees-from m i (place-of (m .bundles) l)) ls
+keep-stands m i h e f [] = refl
+keep-stands m i h e f (l ∷ ls) = rw (ap₂ stands-in e (f l) ∙ stands-sees m i h l, keep-stands m i h e f ls)

@@ -6,12 +6,12 @@ use Prim.Native.Nat.{ℕ, suc, _+_, _≤_, _<_}
 use native.Mathlib.Numerals.{add-one}
 use native.Mathlib.Omega.{arith}
 use lib.ListN.{length, getD, take, drop, set, length-append, length-set, drop-of-length-le}
-use lib.Seq.{set-at, append-snoc, drop-cons, take-all, length-take-le}
+use lib.Seq.{set-at, append-snoc, drop-cons, take-all}
 use Rattle.region_graph.specs.Lists.{keep}
-use Rattle.region_graph.specs.Model.{Model}
-use Rattle.region_graph.specs.Promise.{place-of}
-use Rattle.region_graph.proofs.Lists.{keep-took, keep-left, keep-length}
-use Rattle.region_routes.specs.Hooks.{Outcome, kept, written, kept-outcome, installed, all-installed}
+use Rattle.region_graph.specs.declared.Place.{Place}
+use Rattle.region_graph.proofs.Lists.{keep-took, keep-left}
+use Rattle.region_routes.specs.Hooks.{Outcome, kept, written, kept-outcome, installed}
+use Rattle.region_routes.specs.Tables.{all-placed}
 use Rattle.region_routes.specs.declared.Kept.{Kept}
 use Rattle.region_routes.specs.declared.Kept.the-variants.{Wrote}
 
@@ -61,15 +61,15 @@ module _ {p : ℕ → Bool} {xs : List ℕ} {entry : List ℕ} where
       λ j. kept (Wrote ((k .counted ∙ ap (λ (t : List ℕ). length (keep p t)) e) j)) ((k .exit-is ∙ ap (λ (t : List ℕ). written (keep p t) entry) e) j)
 
 -- the listeners from the i-th on
-module _ (m : Model) (xs : List ℕ) (i : ℕ) (h : i < length xs) (e : all-installed m xs ≡ all-installed m (drop i xs)) where
-  installed-next : all-installed m (drop i xs) ≡ (installed (place-of (m .bundles) (getD xs i 0)) && all-installed m (drop (i + 1) xs))
-  installed-next = rw add-one (ap (all-installed m) (drop-cons xs i 0 h))
+module _ (place : ℕ → Place) (xs : List ℕ) (i : ℕ) (h : i < length xs) (e : all-placed place xs ≡ all-placed place (drop i xs)) where
+  placed-next : all-placed place (drop i xs) ≡ (installed (place (getD xs i 0)) && all-placed place (drop (i + 1) xs))
+  placed-next = rw add-one (ap (all-placed place) (drop-cons xs i 0 h))
 
-  pub installed-stop : installed (place-of (m .bundles) (getD xs i 0)) ≡ false → false ≡ all-installed m xs
-  installed-stop t = sym (e ∙ installed-next ∙ rw t)
+  pub placed-stop : installed (place (getD xs i 0)) ≡ false → false ≡ all-placed place xs
+  placed-stop t = sym (e ∙ placed-next ∙ rw t)
 
-  pub installed-later : installed (place-of (m .bundles) (getD xs i 0)) ≡ true → all-installed m xs ≡ all-installed m (drop (i + 1) xs)
-  installed-later t = e ∙ installed-next ∙ rw t
+  pub placed-later : installed (place (getD xs i 0)) ≡ true → all-placed place xs ≡ all-placed place (drop (i + 1) xs)
+  placed-later t = e ∙ placed-next ∙ rw t
 
-pub installed-end : (m : Model) (xs : List ℕ) (i : ℕ) → all-installed m xs ≡ all-installed m (drop i xs) → length xs ≤ i → true ≡ all-installed m xs
-installed-end m xs i e h = sym (e ∙ rw (drop-of-length-le xs h))
+pub placed-end : (place : ℕ → Place) (xs : List ℕ) (i : ℕ) → all-placed place xs ≡ all-placed place (drop i xs) → length xs ≤ i → true ≡ all-placed place xs
+placed-end place xs i e h = sym (e ∙ rw (drop-of-length-le xs h))

@@ -6,7 +6,9 @@ pub mod Layers
 pub mod SearchLoops
 pub mod Walking
 pub mod Judging
+pub mod Entries
 pub mod Keeping
+pub mod Answering
 pub mod Claims
 pub mod Rows
 pub mod WholeList

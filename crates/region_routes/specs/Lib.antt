@@ -6,3 +6,4 @@ pub mod Claim
 pub mod Table
 pub mod Net
 pub mod Search
+pub mod Tables

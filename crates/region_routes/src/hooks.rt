@@ -1,16 +1,21 @@
 // The five hooks. A find writes the candidates that its bundle sees, an event the listeners that see its item: order and repetitions kept.
 ghost use mathlib.Core.Path.{_≡_};
-ghost use Prim.Native.Nat.{_<_, _≤_};
+ghost use Prim.Native.Nat.{ℕ, _<_, _≤_};
 ghost use lib.ListN.{length};
 ghost use Rattle.region_graph.specs.Size.{regions};
 ghost use Rattle.region_graph.specs.Lists.{keep};
+ghost use Rattle.region_graph.specs.Model.{Model};
 ghost use Rattle.region_graph.specs.Record.{Valid, meaning};
-ghost use Rattle.region_graph.specs.Promise.{«place-of»};
 ghost use Rattle.region_routes.specs.Chosen.{sees};
-ghost use Rattle.region_routes.specs.Hooks.{«kind-number», item, kept, «kept-outcome», «find-outcome», «event-outcome», «all-installed», «stands-in»};
+ghost use Rattle.region_routes.specs.Hooks.{«kind-number», item, kept, «kept-outcome», «find-outcome», «event-outcome», «stands-in»};
+ghost use Rattle.region_routes.specs.Tables.{FromRegions, Tables, «place-at», «all-placed»};
 use crate::Kept;
 use crate::Kind;
 use crate::search::seers;
+use crate::search::seers_by;
+use crate::tables::offers;
+use crate::tables::passages;
+use crate::tables::place_of;
 use region_graph::Graph;
 use region_graph::Item;
 use region_graph::Place;
@@ -28,18 +33,24 @@ fn kind_number(kind: Kind) -> u32
     }
 }
 
-// Writes the candidates of a kind that a region sees.
-fn keep_seen(graph: Graph, kind: u32, region: u32, candidates: &[u32], out: &mut [u32]) -> usize
-    requires { ⌜ Valid graph ⌝ }
+// Writes the candidates of a kind that a region sees, by the tables of the kind.
+fn keep_seen(
+    offered: &[u64],
+    passing: &[u64],
+    region: u32,
+    candidates: &[u32],
+    out: &mut [u32],
+) -> usize
+    requires { ⌜ FromRegions (now passing) ⌝ }
     requires { ⌜ (region < regions) × (length (now candidates) ≤ length (now out)) ⌝ }
-    ensures { λ r. ⌜ kept (Kept.Wrote r) (now (out .exit)) ≡ kept-outcome (keep (λ n. sees (meaning graph) (item kind n) region) (now (candidates .entry))) (now (out .entry)) ⌝ }
+    ensures { λ r. ⌜ ((m : Model) (kind : ℕ) → Tables m kind (now (offered .entry)) (now (passing .entry)) → kept (Kept.Wrote r) (now (out .exit)) ≡ kept-outcome (keep (λ n. sees m (item kind n) region) (now (candidates .entry))) (now (out .entry))) ⌝ }
 {
     let mut n: usize = 0;
     let mut i: usize = 0;
     while i < candidates.len() {
         let number = candidates[i];
         i += 1;
-        let set = seers(graph, Item { kind, number });
+        let set = seers_by(offered, passing, number);
         if has(set, region) {
             out[n] = number;
             n += 1;
@@ -59,19 +70,29 @@ fn find(graph: Graph, kind: Kind, location: u32, candidates: &[u32], out: &mut [
     if out.len() < candidates.len() {
         return Kept::Refused(NO_PLACE);
     }
-    let number = kind_number(kind);
-    let n = keep_seen(graph, number, region, candidates, out);
+    let given = offers(graph, kind);
+    let offered = given.items;
+    let given_count = given.count;
+    let passed = passages(graph, kind);
+    let passing = passed.items;
+    let passed_count = passed.count;
+    let n = keep_seen(
+        &offered[..given_count],
+        &passing[..passed_count],
+        region,
+        candidates,
+        out,
+    );
     Kept::Wrote(n)
 }
 
-// Whether every listener is installed.
-fn all_installed(graph: Graph, listeners: &[u32]) -> bool
-    requires { ⌜ Valid graph ⌝ }
-    ensures { λ r. ⌜ r ≡ all-installed (meaning graph) (now (listeners .entry)) ⌝ }
+// Whether every listener has a place in the table of the bundles.
+fn all_installed(bundles: &[u64], listeners: &[u32]) -> bool
+    ensures { λ r. ⌜ r ≡ all-placed (place-at (now (bundles .entry))) (now (listeners .entry)) ⌝ }
 {
     let mut i: usize = 0;
     while i < listeners.len() {
-        let place = graph.region_of(listeners[i]);
+        let place = place_of(bundles, listeners[i]);
         i += 1;
         if let Place::Nowhere = place {
             return false;
@@ -81,11 +102,10 @@ fn all_installed(graph: Graph, listeners: &[u32]) -> bool
 }
 
 // Whether a listener's region is in a set.
-fn stands_in(graph: Graph, listener: u32, set: u64) -> bool
-    requires { ⌜ Valid graph ⌝ }
-    ensures { λ r. ⌜ r ≡ stands-in set (place-of (meaning graph .bundles) listener) ⌝ }
+fn stands_in(bundles: &[u64], listener: u32, set: u64) -> bool
+    ensures { λ r. ⌜ r ≡ stands-in set (place-at (now (bundles .entry)) listener) ⌝ }
 {
-    let place = graph.region_of(listener);
+    let place = place_of(bundles, listener);
     let Place::Within(region) = place else {
         return false;
     };
@@ -93,17 +113,16 @@ fn stands_in(graph: Graph, listener: u32, set: u64) -> bool
 }
 
 // Writes the listeners whose regions are in a set.
-fn keep_standing(graph: Graph, set: u64, listeners: &[u32], out: &mut [u32]) -> usize
-    requires { ⌜ Valid graph ⌝ }
+fn keep_standing(bundles: &[u64], set: u64, listeners: &[u32], out: &mut [u32]) -> usize
     requires { ⌜ length (now listeners) ≤ length (now out) ⌝ }
-    ensures { λ r. ⌜ kept (Kept.Wrote r) (now (out .exit)) ≡ kept-outcome (keep (λ l. stands-in set (place-of (meaning graph .bundles) l)) (now (listeners .entry))) (now (out .entry)) ⌝ }
+    ensures { λ r. ⌜ kept (Kept.Wrote r) (now (out .exit)) ≡ kept-outcome (keep (λ l. stands-in set (place-at (now (bundles .entry)) l)) (now (listeners .entry))) (now (out .entry)) ⌝ }
 {
     let mut n: usize = 0;
     let mut i: usize = 0;
     while i < listeners.len() {
         let listener = listeners[i];
         i += 1;
-        if stands_in(graph, listener, set) {
+        if stands_in(bundles, listener, set) {
             out[n] = listener;
             n += 1;
         }
@@ -115,7 +134,10 @@ fn event(graph: Graph, kind: Kind, listeners: &[u32], number: u32, out: &mut [u3
     requires { ⌜ Valid graph ⌝ }
     ensures { λ r. ⌜ kept r (now (out .exit)) ≡ event-outcome (meaning graph) kind (now (listeners .entry)) number (now (out .entry)) ⌝ }
 {
-    if !all_installed(graph, listeners) {
+    let table = offers(graph, Kind::Bundle);
+    let bundles = table.items;
+    let count = table.count;
+    if !all_installed(&bundles[..count], listeners) {
         return Kept::Refused(NOT_INSTALLED);
     }
     if out.len() < listeners.len() {
@@ -123,8 +145,8 @@ fn event(graph: Graph, kind: Kind, listeners: &[u32], number: u32, out: &mut [u3
     }
     let kind = kind_number(kind);
     let set = seers(graph, Item { kind, number });
-    let n = keep_standing(graph, set, listeners, out);
-    Kept::Wrote(n)
+    let written = keep_standing(&bundles[..count], set, listeners, out);
+    Kept::Wrote(written)
 }
 
 // The bundles among the candidates that a bundle sees.

@@ -2,6 +2,7 @@
 mod hooks;
 mod routes;
 mod search;
+mod tables;
 
 pub use hooks::bundle_event;
 pub use hooks::bundle_find;

@@ -1,12 +1,17 @@
 // The search for routes over successor sets: the regions in layers by their distance to a holder.
 ghost use mathlib.Core.Path.{_≡_};
-ghost use Prim.Native.Nat.{ℕ, _<_, _≤_, _^_};
+ghost use Prim.Native.Nat.{ℕ, _<_, _^_};
 ghost use lib.ListN.{length};
 ghost use Rattle.region_graph.specs.Size.{regions};
+ghost use Rattle.region_graph.specs.Model.{Model};
 ghost use Rattle.region_graph.specs.Record.{Valid, meaning};
 ghost use Rattle.region_graph.specs.Sets.{«set-of»};
 ghost use Rattle.region_routes.specs.Chosen.{sees};
+ghost use Rattle.region_routes.specs.Hooks.{item};
+ghost use Rattle.region_routes.specs.Tables.{FromRegions, Tables};
 ghost use Rattle.region_routes.specs.Search.{Layer, Searched, Reached, Found};
+use crate::tables::holders;
+use crate::tables::successors;
 use region_graph::Graph;
 use region_graph::Item;
 use region_graph::region_set::EVERY;
@@ -93,4 +98,15 @@ pub fn seers(graph: Graph, item: Item) -> u64
     let holders = graph.holders(item);
     let found = search(&succ, holders);
     found.reached
+}
+
+// The regions that see an item, by the tables of its kind.
+pub fn seers_by(offered: &[u64], passing: &[u64], number: u32) -> u64
+    requires { ⌜ FromRegions (now passing) ⌝ }
+    ensures { λ r. ⌜ ((m : Model) (kind : ℕ) → Tables m kind (now (offered .entry)) (now (passing .entry)) → r ≡ set-of (sees m (item kind number))) ⌝ }
+{
+    let succ = successors(passing, number);
+    let held = holders(offered, number);
+    let layers = search(&succ, held);
+    layers.reached
 }

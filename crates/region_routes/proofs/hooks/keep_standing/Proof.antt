@@ -1,23 +1,22 @@
-use borrow.Author.Needs.{needs}
-use mathlib.Core.Path.{_≡_, sym, _∙_}
-use Prim.Native.Nat.{ℕ, _-_}
+use mathlib.Core.Path.{sym, _∙_}
+use Prim.Native.Nat.{_-_}
 use native.Mathlib.Omega.{arith}
+use borrow.Author.Needs.{needs}
 use lib.ListN.{length}
-use Rattle.region_graph.specs.Record.{meaning}
-use Rattle.region_graph.specs.Promise.{place-of}
 use Rattle.region_routes.specs.Hooks.{stands-in}
+use Rattle.region_routes.specs.Tables.{place-at}
 use Rattle.region_routes.proofs.Keeping.{Keeping, keeping-start, keeping-took, keeping-left, keeping-end}
 use Rattle.region_routes.proofs.hooks.keep_standing.Statement.{statement}
 use Rattle.region_routes.proofs.hooks.keep_standing.Tie as tie
 
 abbrev Inv-loop : tie.InvT-loop
-Inv-loop graph set listeners out₀ n₀ i₀ out n i = Keeping (λ l. stands-in set (place-of (meaning graph .bundles) l)) listeners i n out₀ out
+Inv-loop bundles set listeners out₀ n₀ i₀ out n i = Keeping (λ l. stands-in set (place-at bundles l)) listeners i n out₀ out
 
 abbrev μ-loop : tie.MeasureT-loop
-μ-loop graph set listeners out₀ n₀ i₀ out n i = length listeners - i
+μ-loop bundles set listeners out₀ n₀ i₀ out n i = length listeners - i
 
 loop-holds : tie.Need-loop-holds Inv-loop μ-loop
-loop-holds c = keeping-start (c .before .before .pre .1)
+loop-holds c = keeping-start (c .before .before .before .pre)
 
 mul-listener : tie.Need-mul-listener Inv-loop μ-loop
 mul-listener c = search needs

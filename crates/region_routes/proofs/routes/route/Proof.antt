@@ -1,19 +1,20 @@
 use borrow.Author.Needs.{needs}
 use mathlib.Core.Path.{_≡_, sym, ap, _∙_}
-use mathlib.Core.Bool.{true, false, not}
+use mathlib.Core.List.{List}
+use mathlib.Core.Option.{Option}
 use Prim.Native.Nat.{ℕ, _<_}
-use native.Mathlib.Omega.{arith}
 use lib.ListN.{length}
-use borrow.Author.Tests.{not-true, not-false, le-leb, lt-leb}
+use borrow.Author.Tests.{not-true, not-false}
 use Rattle.region_graph.specs.Size.{regions}
 use Rattle.region_graph.specs.Items.{holds}
 use Rattle.region_graph.specs.Record.{meaning}
 use Rattle.region_graph.specs.Promise.{place-of, holder-set, successor-sets}
 use Rattle.region_graph.specs.declared.Place.the-variants.{Within}
 use Rattle.region_graph.proofs.Bits.{set-below-lt}
-use Rattle.region_routes.specs.Hooks.{item}
+use Rattle.region_routes.specs.Hooks.{item, shown}
 use Rattle.region_routes.specs.Search.{Searched}
 use Rattle.region_routes.proofs.Judging.{region-inside, successors-long, unreached, reached-layer, walkable, walked-chosen}
+use Rattle.region_routes.proofs.Answering.{route-outside, route-unknown, route-cramped, route-answers}
 use Rattle.region_routes.proofs.routes.route.Statement.{statement}
 use Rattle.region_routes.proofs.routes.route.Tie as tie
 
@@ -40,13 +41,19 @@ enum-told : tie.Need-enum-told
 enum-told c = search needs
 
 returns : tie.Need-returns
-returns c = rw (sym (c .before .before .region-of .ensures) ∙ c .enum-told .given .1)
+returns c =
+    let s = c .before .before .before .before in
+    route-outside (meaning (s .args .graph)) (s .args .location) (s .args .kind) (s .args .number) (s .args .out .now) (sym (c .before .before .region-of .ensures) ∙ c .enum-told .given .1)
 
 returns-2 : tie.Need-returns-2
-returns-2 c = rw (place (c .before), lt-leb _ _ (c .if1 .taken))
+returns-2 c =
+    let s = c .before .before .before .before .before .before in
+    route-unknown (meaning (s .args .graph)) (s .args .location) (s .args .kind) (s .args .number) (s .args .out .now) (place (c .before)) (c .if1 .taken)
 
 returns-3 : tie.Need-returns-3
-returns-3 c = rw (place (c .before .before), le-leb _ _ (c .before .if1 .left), lt-leb _ _ (c .if2 .taken))
+returns-3 c =
+    let s = c .before .before .before .before .before .before .before in
+    route-cramped (meaning (s .args .graph)) (s .args .location) (s .args .kind) (s .args .number) (s .args .out .now) (place (c .before .before)) (c .before .if1 .left) (c .if2 .taken)
 
 successors-requires : tie.Need-successors-requires
 successors-requires c κs = search needs
@@ -70,13 +77,11 @@ has-requires c κs = search needs
 returns-4 : tie.Need-returns-4
 returns-4 c =
     let s = c .before .before .before .before .before .before .before .before .before .before .before .before .before in
-    rw (
-      place (c .before .before .before .before .before .before .before .before),
-      le-leb _ _ (c .before .before .before .before .before .before .before .if1 .left),
-      le-leb _ _ (c .before .before .before .before .before .before .if2 .left),
-      sym (unreached (meaning (s .args .graph)) (item (s .args .kind) (s .args .number)) (s .pre .good) (searched (c .before .before)) (c .before .before .before .before .before .before .before .before .before .place .given .0 .0) (inside (c .before .before .before .before .before .before .before .before))
-          (sym (c .before .has .ensures) ∙ not-true _ (c .if3 .taken))),
-    )
+    let m = meaning (s .args .graph) in
+    let i = item (s .args .kind) (s .args .number) in
+    route-answers (meaning (s .args .graph)) (s .args .location) (s .args .kind) (s .args .number) (s .args .out .now) (place (c .before .before .before .before .before .before .before .before)) (c .before .before .before .before .before .before .before .if1 .left) (c .before .before .before .before .before .before .if2 .left)
+    (ap (λ (p : Option (List ℕ)). shown p (s .args .out .now))
+    (unreached m i (s .pre .good) (searched (c .before .before)) (c .before .before .before .before .before .before .before .before .before .place .given .0 .0) (inside (c .before .before .before .before .before .before .before .before)) (sym (c .before .has .ensures) ∙ not-true _ (c .if3 .taken))))
 
 distance-requires : tie.Need-distance-requires
 distance-requires c κs =
@@ -102,8 +107,10 @@ same-length c = search needs
 returns-5 : tie.Need-returns-5
 returns-5 c =
     let s = c .before .before .before .before .before .before .before .before .before .before .before .before .before .before .before .before .before .before .before in
-    rw (place (c .before .before .before .before .before .before .before .before .before .before .before .before .before .before), le-leb _ _ (c .before .before .before .before .before .before .before .before .before .before .before .before .before .if1 .left), le-leb _ _ (c .before .before .before .before .before .before .before .before .before .before .before .before .if2 .left))
-    (walked-chosen (meaning (s .args .graph)) (item (s .args .kind) (s .args .number)) (s .pre .good) (searched (c .before .before .before .before .before .before .before .before)) (c .before .before .before .before .before .before .before .before .before .before .before .before .before .before .before .place .given .0 .0) (inside (c .before .before .before .before .before .before .before .before .before .before .before .before .before .before))
+    let m = meaning (s .args .graph) in
+    let i = item (s .args .kind) (s .args .number) in
+    route-answers (meaning (s .args .graph)) (s .args .location) (s .args .kind) (s .args .number) (s .args .out .now) (place (c .before .before .before .before .before .before .before .before .before .before .before .before .before .before)) (c .before .before .before .before .before .before .before .before .before .before .before .before .before .if1 .left) (c .before .before .before .before .before .before .before .before .before .before .before .before .if2 .left)
+    (walked-chosen m i (s .pre .good) (searched (c .before .before .before .before .before .before .before .before)) (c .before .before .before .before .before .before .before .before .before .before .before .before .before .before .before .place .given .0 .0) (inside (c .before .before .before .before .before .before .before .before .before .before .before .before .before .before))
     (rw (c .before .before .before .before .before .before .before .before .before .before .before .successors .ensures) at (c .before .before .walk .ensures)))
 
 pub route-spec : {M : Type 1} → statement M

@@ -1,0 +1,64 @@
+-- What a query answers, by the first of its questions that is answered no.
+use mathlib.Core.Path.{_≡_}
+use mathlib.Core.Bool.{true, false}
+use mathlib.Core.List.{List}
+use Prim.Native.Nat.{ℕ, _<_, _≤_}
+use lib.ListN.{length}
+use borrow.Author.Tests.{le-leb, lt-leb}
+use Rattle.region_graph.specs.Size.{regions}
+use Rattle.region_graph.specs.Refusals.{not-installed, not-a-kind, no-place}
+use Rattle.region_graph.specs.Lists.{keep}
+use Rattle.region_graph.specs.Model.{Model}
+use Rattle.region_graph.specs.Promise.{place-of}
+use Rattle.region_graph.specs.declared.Place.the-variants.{Within, Nowhere}
+use Rattle.region_routes.specs.Chosen.{chosen, sees}
+use Rattle.region_routes.specs.Hooks.{Outcome, item, kind-number, routed, kept, shown, kept-outcome, sees-from, all-installed, route-outcome, find-outcome, event-outcome}
+use Rattle.region_routes.specs.declared.Kind.{Kind}
+use Rattle.region_routes.specs.declared.Routed.{Routed}
+use Rattle.region_routes.specs.declared.Routed.the-variants as Routed
+use Rattle.region_routes.specs.declared.Kept.{Kept}
+use Rattle.region_routes.specs.declared.Kept.the-variants as Kept
+
+module _ (m : Model) (l kind number : ℕ) (entry : List ℕ) where
+  pub route-outside : place-of (m .bundles) l ≡ Nowhere
+      → _≡_ {A = Outcome Routed} (routed (Routed.Refused not-installed) entry) (route-outcome m l kind number entry)
+  route-outside e = rw e
+
+  module _ {r : ℕ} (e : place-of (m .bundles) l ≡ Within r) where
+    pub route-unknown : 2 < kind → _≡_ {A = Outcome Routed} (routed (Routed.Refused not-a-kind) entry) (route-outcome m l kind number entry)
+    route-unknown k = rw (e, lt-leb kind 2 k)
+
+    pub route-cramped : kind ≤ 2 → length entry < regions
+        → _≡_ {A = Outcome Routed} (routed (Routed.Refused no-place) entry) (route-outcome m l kind number entry)
+    route-cramped k h = rw (e, le-leb kind 2 k, lt-leb regions (length entry) h)
+
+    pub route-answers : {a : Outcome Routed} → kind ≤ 2 → regions ≤ length entry → a ≡ shown (chosen m (item kind number) r) entry
+        → a ≡ route-outcome m l kind number entry
+    route-answers k h q = rw (e, le-leb kind 2 k, le-leb regions (length entry) h) q
+
+module _ (m : Model) (kind : Kind) (l : ℕ) (xs entry : List ℕ) where
+  pub find-outside : place-of (m .bundles) l ≡ Nowhere
+      → _≡_ {A = Outcome Kept} (kept (Kept.Refused not-installed) entry) (find-outcome m kind l xs entry)
+  find-outside e = rw e
+
+  module _ {r : ℕ} (e : place-of (m .bundles) l ≡ Within r) where
+    pub find-cramped : length entry < length xs → _≡_ {A = Outcome Kept} (kept (Kept.Refused no-place) entry) (find-outcome m kind l xs entry)
+    find-cramped h = rw (e, lt-leb (length xs) (length entry) h)
+
+    pub find-answers : {a : Outcome Kept} → length xs ≤ length entry
+        → a ≡ kept-outcome (keep (λ n. sees m (item (kind-number kind) n) r) xs) entry → a ≡ find-outcome m kind l xs entry
+    find-answers h q = rw (e, le-leb (length xs) (length entry) h) q
+
+module _ (m : Model) (kind : Kind) (ls : List ℕ) (number : ℕ) (entry : List ℕ) where
+  pub event-outside : all-installed m ls ≡ false
+      → _≡_ {A = Outcome Kept} (kept (Kept.Refused not-installed) entry) (event-outcome m kind ls number entry)
+  event-outside e = rw e
+
+  pub event-cramped : all-installed m ls ≡ true → length entry < length ls
+      → _≡_ {A = Outcome Kept} (kept (Kept.Refused no-place) entry) (event-outcome m kind ls number entry)
+  event-cramped e h = rw (e, lt-leb (length ls) (length entry) h)
+
+  pub event-answers : {a : Outcome Kept} → all-installed m ls ≡ true → length ls ≤ length entry
+      → a ≡ kept-outcome (keep (λ l. sees-from m (item (kind-number kind) number) (place-of (m .bundles) l)) ls) entry
+      → a ≡ event-outcome m kind ls number entry
+  event-answers e h q = rw (e, le-leb (length ls) (length entry) h) q

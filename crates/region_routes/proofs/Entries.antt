@@ -1,0 +1,316 @@
+-- Tables: how a loop fills one, what an entry says, and what a table says of the model whose table it is.
+use mathlib.Core.Path.{_≡_, refl, sym, ap, ap₂, _∙_}
+use mathlib.Core.Bool.{Bool, true, false, _&&_, _||_, and-false}
+use mathlib.Core.List.{List, [], _∷_, _++_, map, append-assoc, append-nil}
+use Prim.Native.Nat.{ℕ, zero, suc, _+_, _*_, _-_, _≤_, _<_, _^_}
+use native.Mathlib.Numerals.{add-one}
+use native.Mathlib.Omega.{arith}
+use lib.Dec.{eqb}
+use lib.ListN.{length, getD, take, drop, set, replicate, length-append, length-map, drop-of-length-le}
+use lib.Seq.{take-suc, take-suc-set, length-take-le, drop-cons, take-at, take-all}
+use borrow.Author.Tests.{ne-eqb}
+use Rattle.region_graph.specs.Size.{regions, most-bundles, most-connections, most-provided, most-listed}
+use Rattle.region_graph.specs.Lists.{pick, any, All, member, count-from}
+use Rattle.region_graph.specs.Sets.{set-of}
+use Rattle.region_graph.specs.Model.{Model, Bundle, Filter, Part, Connection, Word, NumberedPart, Legal, LegalBundle, LegalFilter, LegalConnection}
+use Rattle.region_graph.specs.Items.{provided, part-of, part-passes, provides, passes}
+use Rattle.region_graph.specs.Record.{store-bundle, store-connection, bundle-in, connection-in, no-bundle, no-connection}
+use Rattle.region_graph.specs.Places.{ShortBundle, ShortConnection, BundleStored, ConnectionStored}
+use Rattle.region_graph.specs.Promise.{place-of, holder-set, successor-sets}
+use Rattle.region_graph.specs.declared.Place.{Place}
+use Rattle.region_graph.specs.declared.Place.the-variants.{Within, Nowhere}
+use Rattle.region_graph.specs.declared.bundles.StoredBundle.{StoredBundle}
+use Rattle.region_graph.specs.declared.connections.StoredConnection.{StoredConnection}
+use Rattle.region_graph.proofs.Lists.{any-append, all-at, all-map, member-all, map-append, eqb-sym}
+use Rattle.region_graph.proofs.Bits.{set-below-lt}
+use Rattle.region_graph.proofs.Arrays.{Filled, filled-at, filled-inside, filled-means}
+use Rattle.region_graph.proofs.Storing.{map-back, stored-as, bundle-back, connection-back, short-bundle, short-connection}
+use Rattle.region_routes.specs.Hooks.{item, installed, all-installed}
+use Rattle.region_routes.specs.Tables.{width, every, entry, number-in, place-in, ends, source-in, target-in, gather, passed, offer, passage, offers, passages, Appended, Holding, of-number, held-in, led-in, place-at, all-placed, FromRegions, Tables}
+
+-- what is put at the end of what stands in a buffer
+
+pub appended-none : {before : List ℕ} {at : ℕ} → Appended before at [] before at
+appended-none {before} {at} = record { counted = omega arith; kept = sym (append-nil (take at before)) }
+
+pub appended-one : {before : List ℕ} {at x y : ℕ} → at < length before → x ≡ y → Appended before at (y ∷ []) (set before at x) (at + 1)
+appended-one {before} {at} {x} {y} h e = record { counted = refl; kept = rw (add-one, ← e) (take-suc-set before at x h) }
+
+pub appended-then : {before mid after : List ℕ} {at j k : ℕ} {xs ys : List ℕ} → Appended before at xs mid j → Appended mid j ys after k
+    → Appended before at (xs ++ ys) after k
+appended-then {before} {mid} {after} {at} {j} {k} {xs} {ys} a b = record {
+  counted = rw length-append (omega (arith, a .counted, b .counted));
+  kept = b .kept ∙ ap (λ (l : List ℕ). l ++ ys) (a .kept) ∙ append-assoc (take at before) xs ys;
+}
+
+-- the numbers of a list are put one by one
+module _ (f : ℕ → ℕ) (xs : List ℕ) (i : ℕ) (h : i < length xs) {before mid : List ℕ} {at j : ℕ} (a : Appended before at (map f (take i xs)) mid j) where
+  pub appended-room : at + length (map f xs) ≤ length before → length mid ≡ length before → j < length mid
+  appended-room r e = omega (arith, a .counted, length-map xs f, length-map (take i xs) f, length-take-le i xs (omega arith))
+
+  pub appended-next : {after : List ℕ} {k x : ℕ} → x ≡ f (getD xs i 0) → Appended mid j (x ∷ []) after k
+      → Appended before at (map f (take (i + 1) xs)) after k
+  appended-next {x = x} e b = rw (add-one, take-suc xs i 0 h, map-append, ← e) (appended-then a b)
+
+-- the entries of each element
+
+module _ {A : Type 0} (f : A → List ℕ) where
+  gather-append : (xs ys : List A) → gather f (xs ++ ys) ≡ gather f xs ++ gather f ys
+  gather-append [] ys = refl
+  gather-append (x ∷ xs) ys = ap (λ (l : List ℕ). f x ++ l) (gather-append xs ys) ∙ sym (append-assoc (f x) (gather f xs) (gather f ys))
+
+  gather-more : (xs : List A) (i : ℕ) (d : A) → i < length xs → gather f (take (i + 1) xs) ≡ gather f (take i xs) ++ f (getD xs i d)
+  gather-more xs i d h =
+      rw (add-one, take-suc xs i d h)
+      (gather-append (take i xs) (getD xs i d ∷ []) ∙ ap (λ (l : List ℕ). gather f (take i xs) ++ l) (append-nil (f (getD xs i d))))
+
+  -- the entries of one element more are put
+  pub gathered-next : (xs : List A) (i : ℕ) (d : A) {before mid after : List ℕ} {j k : ℕ} {ys : List ℕ} → i < length xs
+      → Appended before 0 (gather f (take i xs)) mid j → ys ≡ f (getD xs i d) → Appended mid j ys after k
+      → Appended before 0 (gather f (take (i + 1) xs)) after k
+  gathered-next xs i d h a e b = rw (gather-more xs i d h, ← e) (appended-then a b)
+
+  -- with at most w entries of each element
+  pub gather-few : (w : ℕ) (xs : List A) → All (λ x. length (f x) ≤ w) xs → (i : ℕ) → length (gather f (take i xs)) ≤ i * w
+  gather-few w xs h zero = omega arith
+  gather-few w [] h (suc i) = omega arith
+  gather-few w (x ∷ xs) h (suc i) = rw length-append (omega (arith, h .0, gather-few w xs (h .1) i))
+
+  any-gather : (p : ℕ → Bool) (xs : List A) → any p (gather f xs) ≡ any (λ x. any p (f x)) xs
+  any-gather p [] = refl
+  any-gather p (x ∷ xs) = any-append p (f x) (gather f xs) ∙ ap (λ (b : Bool). any p (f x) || b) (any-gather p xs)
+
+  all-gather : (P : A → Type 0) (Q : ℕ → Type 0) → ((x : A) → P x → All Q (f x)) → (xs : List A) → All P xs → All Q (gather f xs)
+  all-gather P Q g [] h = tt
+  all-gather P Q g (x ∷ xs) h = go (f x) (g x (h .0)) (all-gather P Q g xs (h .1))
+    where
+      go : (ys : List ℕ) → All Q ys → All Q (gather f xs) → All Q (ys ++ gather f xs)
+      go [] a b = b
+      go (y ∷ ys) a b = (a .0, go ys (a .1) b)
+
+  -- tests that agree on each element
+  any-each : (P : A → Type 0) (p q : A → Bool) → ((x : A) → P x → p x ≡ q x) → (xs : List A) → All P xs → any p xs ≡ any q xs
+  any-each P p q e [] h = refl
+  any-each P p q e (x ∷ xs) h = ap₂ _||_ (e x (h .0)) (any-each P p q e xs (h .1))
+
+-- a loop over an array whose first places hold a list puts the entries of each element
+module _ {A B : Type 0} {store : A → B} {none : B} {size : ℕ} (out : B → A) (back : (x : A) → out (store x) ≡ x) (f : A → List ℕ)
+    {items : List B} {count : ℕ} {xs : List A} (h : Filled store none size items count xs) where
+  filled-read : map out (take count items) ≡ xs
+  filled-read =
+      rw (h .shape, h .counted)
+      (ap (map out) (take-at (map store xs) (replicate (size - length xs) none) (length xs) (length-map xs store)) ∙ map-back store out back xs)
+
+  module _ {before mid : List ℕ} {j : ℕ} (i : ℕ) (l : i < count) (e : B) (d : A) (a : Appended before 0 (gather f (take i (map out (take count items)))) mid j) where
+    pub gathered-step : {after : List ℕ} {k : ℕ} → Appended mid j (f (out (getD items i e))) after k
+        → Appended before 0 (gather f (take (i + 1) (map out (take count items)))) after k
+    gathered-step b =
+        rw filled-read (gathered-next f xs i d (filled-inside h i l) (rw filled-read at a) (ap f (filled-means h out back i e d l)) b)
+
+    -- with at most w entries of each element
+    pub gathered-room : (w : ℕ) → suc i * w ≤ length mid → All (λ x. length (f x) ≤ w) xs → j + length (f (out (getD items i e))) ≤ length mid
+    gathered-room w r g =
+        rw (filled-means h out back i e d l)
+        (omega (arith, (rw filled-read at a) .counted, gather-few f w xs g i, all-at (λ x. length (f x) ≤ w) xs i d (filled-inside h i l) g))
+
+  -- at the end
+  pub gathered-end : {before after : List ℕ} {i n : ℕ} (w : ℕ) → count ≤ i → i * w ≤ length after → All (λ x. length (f x) ≤ w) xs
+      → Appended before 0 (gather f (take i (map out (take count items)))) after n → Holding (gather f xs) after n
+  gathered-end {i = i} w l r g a = record {
+    room = omega (arith, (rw filled-read at a) .counted, gather-few f w xs g i);
+    table = (rw filled-read at a) .kept ∙ ap (gather f) (take-all i xs (omega (arith, h .counted)));
+  }
+
+-- what an entry says
+
+entry-number : (n p : ℕ) → p < width → number-in (entry n p) ≡ n
+entry-number n p h = omega arith
+
+entry-place : (n p : ℕ) → p < width → place-in (entry n p) ≡ p
+entry-place n p h = omega arith
+
+module _ {a b : ℕ} (h : a < regions) (k : b < regions) where
+  entry-of : (n : ℕ) → number-in (entry n (ends a b)) ≡ n
+  entry-of n = omega arith
+
+  entry-source : (n : ℕ) → source-in (entry n (ends a b)) ≡ a
+  entry-source n = rw (entry-place n (ends a b) (omega arith)) (omega arith)
+
+  entry-target : (n : ℕ) → target-in (entry n (ends a b)) ≡ b
+  entry-target n = rw (entry-place n (ends a b) (omega arith)) (omega arith)
+
+-- a test that a fixed one and one of each element make up
+both : (a b c : Bool) → ((a && b) || (a && c)) ≡ (a && (b || c))
+both true b c = refl
+both false b c = refl
+
+any-fixed : (a : Bool) (p : ℕ → Bool) (xs : List ℕ) → any (λ x. a && p x) xs ≡ (a && any p xs)
+any-fixed a p [] = sym (and-false a)
+any-fixed a p (x ∷ xs) = ap (λ (t : Bool). (a && p x) || t) (any-fixed a p xs) ∙ both a (p x) (any p xs)
+
+any-map : (f : ℕ → ℕ) (p : ℕ → Bool) (xs : List ℕ) → any p (map f xs) ≡ any (λ x. p (f x)) xs
+any-map f p [] = refl
+any-map f p (x ∷ xs) = ap (λ (t : Bool). p (f x) || t) (any-map f p xs)
+
+-- offers
+
+module _ (m : Model) (h : Legal m) where
+  -- the number and the region of a bundle's entries
+  offer-says : (k n r : ℕ) (b : Bundle) → LegalBundle (m .regions) b
+      → any (λ e. eqb (place-in e) r && eqb (number-in e) n) (offer k b) ≡ (eqb (b .region) r && provides (item k n) b)
+  offer-says k n r b l =
+      let i : b .region < regions = member-all (λ x. x < regions) (b .region) (m .regions) (h .region-numbers) (l .region) in
+      any-map (λ x. entry x (b .region)) (λ e. eqb (place-in e) r && eqb (number-in e) n) (provided k b)
+      ∙ ap (λ (p : ℕ → Bool). any p (provided k b))
+      (λ j x. eqb (entry-place x (b .region) (omega arith) j) r && (ap (λ (y : ℕ). eqb y n) (entry-number x (b .region) (omega arith)) ∙ eqb-sym x n) j)
+      ∙ any-fixed (eqb (b .region) r) (eqb n) (provided k b)
+
+  -- the regions that the table names for a number are those that hold the item
+  pub held-offers : (k n : ℕ) → held-in (offers k (m .bundles)) n ≡ holder-set m (item k n)
+  held-offers k n =
+      ap set-of
+      (λ j r.
+      (any-gather (offer k) (λ e. eqb (place-in e) r && eqb (number-in e) n) (m .bundles)
+      ∙ any-each (offer k) (LegalBundle (m .regions)) (λ b. any (λ e. eqb (place-in e) r && eqb (number-in e) n) (offer k b))
+      (λ b. eqb (b .region) r && provides (item k n) b) (offer-says k n r) (m .bundles) (h .bundles-legal)) j)
+
+  few-provided : (k : ℕ) (b : Bundle) → LegalBundle (m .regions) b → length (provided k b) ≤ most-provided
+  few-provided zero b l = omega arith
+  few-provided (suc zero) b l = l .packages .few
+  few-provided (suc (suc zero)) b l = l .services .few
+  few-provided (suc (suc (suc k))) b l = omega arith
+
+  pub offers-few : (k : ℕ) → All (λ b. length (offer k b) ≤ most-provided) (m .bundles)
+  offers-few k =
+      all-map (LegalBundle (m .regions)) (λ b. length (offer k b) ≤ most-provided) (λ b l. rw length-map (few-provided k b l)) (m .bundles) (h .bundles-legal)
+
+  -- the place of a location in the table of the bundles is its region
+  pub place-offers : (l : ℕ) → place-at (offers 0 (m .bundles)) l ≡ place-of (m .bundles) l
+  place-offers l = go (m .bundles) (h .bundles-legal)
+    where
+      go : (bs : List Bundle) → All (LegalBundle (m .regions)) bs → place-at (offers 0 bs) l ≡ place-of bs l
+      go [] a = refl
+      go (b ∷ bs) a =
+          let i : b .region < regions = member-all (λ x. x < regions) (b .region) (m .regions) (h .region-numbers) (a .0 .region) in
+          rw (entry-number (b .location) (b .region) (omega arith), entry-place (b .location) (b .region) (omega arith), go bs (a .1))
+
+  -- passages
+
+  source-inside : {c : Connection} → LegalConnection (m .regions) c → c .source < regions
+  source-inside {c} l = member-all (λ x. x < regions) (c .source) (m .regions) (h .region-numbers) (l .source)
+
+  target-inside : {c : Connection} → LegalConnection (m .regions) c → c .target < regions
+  target-inside {c} l = member-all (λ x. x < regions) (c .target) (m .regions) (h .region-numbers) (l .target)
+
+  part-legal : (k : ℕ) (f : Filter) → LegalFilter f → NumberedPart (part-of k f)
+  part-legal zero f l = l .bundles
+  part-legal (suc zero) f l = l .packages
+  part-legal (suc (suc zero)) f l = l .services
+  part-legal (suc (suc (suc k))) f l = record { few = omega arith; words = tt; ascend = refl }
+
+  -- what a part passes
+  part-says : (n : ℕ) (p : Part) → NumberedPart p → any (λ x. eqb x every || eqb x n) (passed p) ≡ part-passes n p
+  part-says n (Part.listed xs) l = go xs (l .words)
+    where
+      go : (ys : List ℕ) → All Word ys → any (λ x. eqb x every || eqb x n) ys ≡ member n ys
+      go [] a = refl
+      go (y ∷ ys) a = rw (ne-eqb y every (λ e. omega (arith, a .0)), eqb-sym y n, go ys (a .1))
+  part-says n Part.everything l = refl
+
+  -- the numbers and the two ends of a connection's entries
+  passage-says : (k n r s : ℕ) (c : Connection) → LegalConnection (m .regions) c
+      → any (λ e. (eqb (source-in e) r && eqb (target-in e) s) && of-number n e) (passage k c)
+      ≡ ((eqb (c .source) r && eqb (c .target) s) && passes (item k n) (c .filter))
+  passage-says k n r s c l =
+      let a = source-inside l in
+      let b = target-inside l in
+      let xs = passed (part-of k (c .filter)) in
+      any-map (λ x. entry x (ends (c .source) (c .target))) (λ e. (eqb (source-in e) r && eqb (target-in e) s) && of-number n e) xs
+      ∙ ap (λ (p : ℕ → Bool). any p xs)
+      (λ j x. (eqb (entry-source a b x j) r && eqb (entry-target a b x j) s) && (eqb (entry-of a b x j) every || eqb (entry-of a b x j) n))
+      ∙ any-fixed (eqb (c .source) r && eqb (c .target) s) (λ x. eqb x every || eqb x n) xs
+      ∙ ap (λ (t : Bool). (eqb (c .source) r && eqb (c .target) s) && t) (part-says n (part-of k (c .filter)) (part-legal k (c .filter) (l .filter)))
+
+  -- the table leads where a connection that passes the item leads
+  pub led-passages : (k n : ℕ) → led-in (passages k (m .connections)) n ≡ successor-sets m (item k n)
+  unfolding led-in successor-sets
+  led-passages k n =
+      ap (λ (f : ℕ → ℕ → Bool). map (λ r. set-of (f r)) (count-from 0 regions))
+      (λ j r s.
+      (any-gather (passage k) (λ e. (eqb (source-in e) r && eqb (target-in e) s) && of-number n e) (m .connections)
+      ∙ any-each (passage k) (LegalConnection (m .regions)) (λ c. any (λ e. (eqb (source-in e) r && eqb (target-in e) s) && of-number n e) (passage k c))
+      (λ c. (eqb (c .source) r && eqb (c .target) s) && passes (item k n) (c .filter)) (passage-says k n r s) (m .connections) (h .connections-legal)) j)
+
+  pub passages-from : (k : ℕ) → FromRegions (passages k (m .connections))
+  passages-from k =
+      all-gather (passage k) (LegalConnection (m .regions)) (λ e. source-in e < regions) (λ c l. each l (passed (part-of k (c .filter)))) (m .connections)
+      (h .connections-legal)
+    where
+      each : {c : Connection} → LegalConnection (m .regions) c → (xs : List ℕ)
+          → All (λ e. source-in e < regions) (map (λ x. entry x (ends (c .source) (c .target))) xs)
+      each l [] = tt
+      each l (x ∷ xs) = (rw (entry-source (source-inside l) (target-inside l) x) (source-inside l), each l xs)
+
+  few-passed : (p : Part) → NumberedPart p → length (passed p) ≤ most-listed
+  few-passed (Part.listed xs) l = l .few
+  few-passed Part.everything l = omega arith
+
+  pub passages-few : (k : ℕ) → All (λ c. length (passage k c) ≤ most-listed) (m .connections)
+  passages-few k =
+      all-map (LegalConnection (m .regions)) (λ c. length (passage k c) ≤ most-listed)
+      (λ c l. rw length-map (few-passed (part-of k (c .filter)) (part-legal k (c .filter) (l .filter)))) (m .connections) (h .connections-legal)
+
+  -- the places of the bundles and of the connections: each is stored in the one way, and a connection's ends are regions
+  module _ {items : List StoredBundle} {count : ℕ} (f : Filled store-bundle (store-bundle no-bundle) most-bundles items count (m .bundles)) where
+    pub bundle-placed : (i : ℕ) (e : StoredBundle) → i < count → BundleStored (getD items i e)
+    bundle-placed i e l =
+        stored-as store-bundle bundle-in bundle-back ShortBundle (getD (m .bundles) i no-bundle) (filled-at f i e no-bundle l)
+        (short-bundle (all-at (LegalBundle (m .regions)) (m .bundles) i no-bundle (filled-inside f i l) (h .bundles-legal)))
+
+  module _ {items : List StoredConnection} {count : ℕ} (f : Filled store-connection (store-connection no-connection) most-connections items count (m .connections))
+      (i : ℕ) (e : StoredConnection) (l : i < count) where
+    connection-legal : LegalConnection (m .regions) (getD (m .connections) i no-connection)
+    connection-legal = all-at (LegalConnection (m .regions)) (m .connections) i no-connection (filled-inside f i l) (h .connections-legal)
+
+    pub connection-placed : ConnectionStored (getD items i e)
+    connection-placed =
+        stored-as store-connection connection-in connection-back ShortConnection (getD (m .connections) i no-connection) (filled-at f i e no-connection l)
+        (short-connection connection-legal)
+
+    pub connection-ends : (getD items i e .source < regions) × (getD items i e .target < regions)
+    connection-ends = rw (filled-at f i e no-connection l) (source-inside connection-legal, target-inside connection-legal)
+
+-- each listener has a place where each is installed
+pub placed-installed : (m : Model) {place : ℕ → Place} → ((l : ℕ) → place l ≡ place-of (m .bundles) l) → (ls : List ℕ)
+    → all-placed place ls ≡ all-installed m ls
+placed-installed m e [] = refl
+placed-installed m e (l ∷ ls) = ap₂ _&&_ (ap installed (e l)) (placed-installed m e ls)
+
+-- the entries from the i-th on
+module _ (es : List ℕ) (l i : ℕ) (h : i < length es) (e : place-at es l ≡ place-at (drop i es) l) where
+  place-next : place-at (drop i es) l ≡ pick (eqb (number-in (getD es i 0)) l) (Within (place-in (getD es i 0))) (place-at (drop (i + 1) es) l)
+  place-next = rw add-one (ap (λ (t : List ℕ). place-at t l) (drop-cons es i 0 h))
+
+  pub place-here : eqb (number-in (getD es i 0)) l ≡ true → Within (place-in (getD es i 0)) ≡ place-at es l
+  place-here t = sym (e ∙ place-next ∙ rw t)
+
+  pub place-later : eqb (number-in (getD es i 0)) l ≡ false → place-at es l ≡ place-at (drop (i + 1) es) l
+  place-later t = e ∙ place-next ∙ rw t
+
+pub place-end : (es : List ℕ) (l i : ℕ) → place-at es l ≡ place-at (drop i es) l → length es ≤ i → Nowhere ≡ place-at es l
+place-end es l i e h = sym (e ∙ rw (drop-of-length-le es h))
+
+-- the sets that the tables of a model give are the model's
+module _ {m : Model} {kind : ℕ} {offered passing : List ℕ} (t : Tables m kind offered passing) (n : ℕ) where
+  pub held-table : held-in offered n ≡ holder-set m (item kind n)
+  held-table = ap (λ (es : List ℕ). held-in es n) (t .offered-is) ∙ held-offers m (t .legal) kind n
+
+  pub led-table : led-in passing n ≡ successor-sets m (item kind n)
+  led-table = ap (λ (es : List ℕ). led-in es n) (t .passing-is) ∙ led-passages m (t .legal) kind n
+
+pub held-small : (es : List ℕ) (n : ℕ) → held-in es n < 2 ^ regions
+held-small es n = set-below-lt regions (λ r. any (λ e. eqb (place-in e) r && eqb (number-in e) n) es)
+
+pub led-long : (es : List ℕ) (n : ℕ) → length (led-in es n) ≡ regions
+unfolding led-in
+led-long es n = refl

@@ -1,0 +1,106 @@
+-- What the functions on tables promise each other. A table has the items of one kind as plain numbers, so that it is lent and not copied.
+use mathlib.Core.Path.{_≡_}
+use mathlib.Core.Bool.{Bool, true, _&&_, _||_}
+use mathlib.Core.List.{List, [], _∷_, _++_, map}
+use Prim.Native.Nat.{ℕ, _+_, _*_, _/_, _%_, _<_, _≤_}
+use lib.Dec.{eqb}
+use lib.ListN.{length, take}
+use Rattle.region_graph.specs.Size.{regions}
+use Rattle.region_graph.specs.Lists.{pick, any, All, count-from}
+use Rattle.region_graph.specs.Sets.{set-of}
+use Rattle.region_graph.specs.Model.{Model, Bundle, Part, Connection, Legal}
+use Rattle.region_graph.specs.Items.{provided, part-of}
+use Rattle.region_graph.specs.declared.Place.{Place}
+use Rattle.region_graph.specs.declared.Place.the-variants.{Within, Nowhere}
+use Rattle.region_routes.specs.Hooks.{installed}
+
+-- an entry: a number of an item with the place that it goes with, below `width`; the number `every`, which no item has, stands for all
+abbrev pub width : ℕ
+width = 65536
+
+abbrev pub every : ℕ
+every = 4294967296
+
+abbrev pub entry : ℕ → ℕ → ℕ
+entry n place = n * width + place
+
+abbrev pub number-in : ℕ → ℕ
+number-in e = e / width
+
+abbrev pub place-in : ℕ → ℕ
+place-in e = e % width
+
+-- the two ends of a connection as one place
+abbrev pub ends : ℕ → ℕ → ℕ
+ends source target = source * regions + target
+
+abbrev pub source-in : ℕ → ℕ
+source-in e = place-in e / regions
+
+abbrev pub target-in : ℕ → ℕ
+target-in e = place-in e % regions
+
+-- the entries of each element, one after the other
+abbrev pub gather : {A : Type 0} → (A → List ℕ) → List A → List ℕ
+gather f [] = []
+gather f (x ∷ xs) = f x ++ gather f xs
+
+-- what a part of a filter passes
+abbrev pub passed : Part → List ℕ
+passed (Part.listed xs) = xs
+passed Part.everything = every ∷ []
+
+-- what a bundle brings, of a kind, with its region; what a connection passes, of a kind, with its two ends
+abbrev pub offer : ℕ → Bundle → List ℕ
+offer kind b = map (λ n. entry n (b .region)) (provided kind b)
+
+abbrev pub passage : ℕ → Connection → List ℕ
+passage kind c = map (λ n. entry n (ends (c .source) (c .target))) (passed (part-of kind (c .filter)))
+
+-- the tables of a kind
+abbrev pub offers : ℕ → List Bundle → List ℕ
+offers kind bs = gather (offer kind) bs
+
+abbrev pub passages : ℕ → List Connection → List ℕ
+passages kind cs = gather (passage kind) cs
+
+-- xs was put at the places from `at` on; what stands before them is as it was, and `next` is the place after them
+pub record Appended (before : List ℕ) (at : ℕ) (xs after : List ℕ) (next : ℕ) : Type 0 where
+  pub counted : next ≡ at + length xs
+  pub kept : take next after ≡ take at before ++ xs
+
+-- the first `count` places hold the table
+pub record Holding (xs items : List ℕ) (count : ℕ) : Type 0 where
+  pub room : count ≤ length items
+  pub table : take count items ≡ xs
+
+-- an entry is of a number: it has that number, or stands for all
+abbrev pub of-number : ℕ → ℕ → Bool
+of-number n e = eqb (number-in e) every || eqb (number-in e) n
+
+-- the regions that entries name for a number, and for each region those to which entries lead with it
+abbrev pub held-in : List ℕ → ℕ → ℕ
+held-in es n = set-of (λ r. any (λ e. eqb (place-in e) r && eqb (number-in e) n) es)
+
+unfoldable pub led-in : List ℕ → ℕ → List ℕ
+led-in es n = map (λ r. set-of (λ s. any (λ e. (eqb (source-in e) r && eqb (target-in e) s) && of-number n e) es)) (count-from 0 regions)
+
+-- the place of the first entry that has the number
+abbrev pub place-at : List ℕ → ℕ → Place
+place-at [] l = Nowhere
+place-at (e ∷ es) l = pick (eqb (number-in e) l) (Within (place-in e)) (place-at es l)
+
+-- each number has a place
+abbrev pub all-placed : (ℕ → Place) → List ℕ → Bool
+all-placed place [] = true
+all-placed place (l ∷ ls) = installed (place l) && all-placed place ls
+
+-- each entry leads from a region
+abbrev pub FromRegions : List ℕ → Type 0
+FromRegions es = All (λ e. source-in e < regions) es
+
+-- the tables are those of a model, for a kind
+pub record Tables (m : Model) (kind : ℕ) (offered passing : List ℕ) : Type 0 where
+  pub legal : Legal m
+  pub offered-is : offered ≡ offers kind (m .bundles)
+  pub passing-is : passing ≡ passages kind (m .connections)

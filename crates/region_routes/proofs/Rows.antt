@@ -6,7 +6,7 @@ use Prim.Native.Nat.{ℕ, suc}
 use lib.ListN.{length}
 use borrow.Author.Needs.{needs}
 use Rattle.region_graph.specs.Lists.{All, keep}
-use Rattle.region_graph.specs.Model.{Model, Legal, nothing}
+use Rattle.region_graph.specs.Model.{Legal, nothing}
 use Rattle.region_graph.specs.Calls.{Call, Words, run}
 use Rattle.region_graph.specs.Promise.{place-of}
 use Rattle.region_graph.specs.declared.Item.{Item}
@@ -56,17 +56,17 @@ every-row = (
   (
     (finds graph-g words-g 20 1 (1 ∷ 2 ∷ 3 ∷ []) refl, tt),
     (
-      (shows graph-g words-g 10 0 (item 1 1) (0 ∷ 1 ∷ []) 1 refl refl refl, tt),
+      (shows graph-g words-g 10 0 (item 1 1) _ _ refl refl refl, tt),
       (
         (shows-none graph-g words-g 10 0 (item 1 3) refl refl, tt),
         (
           (shows-none graph-g words-g 20 1 (item 0 30) refl refl, tt),
           (
-            (shows graph-g words-g 10 0 (item 0 10) (0 ∷ []) 0 refl refl refl, tt),
+            (shows graph-g words-g 10 0 (item 0 10) _ _ refl refl refl, tt),
             (
               (shows-none cycle words-cycle 10 3 (item 2 77) refl refl, (shows-none cycle words-cycle 20 4 (item 2 77) refl refl, tt)),
               (
-                (shows diamond words-diamond 10 0 (item 2 5) (0 ∷ 1 ∷ 3 ∷ []) 2 refl refl refl, tt),
+                (shows diamond words-diamond 10 0 (item 2 5) _ _ refl refl refl, tt),
                 (
                   (refl, tt),
                   ((refl, tt), tt),

@@ -2,7 +2,6 @@
 // in order. The file `stdout` has the numbers that document 01 gives.
 mod calls;
 mod filling;
-mod lines;
 mod script;
 
 fn main() {

@@ -3,23 +3,18 @@ ghost use Rattle.region_graph.specs.Record.{Valid};
 use crate::calls::call;
 use crate::filling::network;
 use crate::filling::occupied;
-use crate::lines::end_of;
-use crate::lines::first;
-use crate::lines::start_of;
-use crate::lines::value;
 use region_graph::Graph;
-
-fn show(number: u64) {
-    io::write_all(1, b" ");
-    io::print_decimal(1, number);
-}
+use script_lines::end_of;
+use script_lines::first;
+use script_lines::show;
+use script_lines::show_name;
+use script_lines::value;
 
 // start NAME
 fn start(line: &[u8]) -> Graph
     ensures { λ r. ⌜ Valid r ⌝ }
 {
-    let name = start_of(line, b' ', 1);
-    io::write_all(1, &line[name..]);
+    show_name(line);
     Graph::empty()
 }
 

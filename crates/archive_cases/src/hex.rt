@@ -1,0 +1,45 @@
+// The bytes that a line has in hex.
+ghost use Prim.Native.Nat.{_≤_, _*_};
+ghost use lib.ListN.{length};
+
+// What a hex digit is worth; 16 for any other byte.
+fn digit(byte: u8) -> u8
+    ensures { λ r. ⌜ r ≤ 16 ⌝ }
+{
+    match byte {
+        b'0'..=b'9' => byte - b'0',
+        b'A'..=b'F' => byte - b'A' + 10,
+        _ => 16,
+    }
+}
+
+// Puts a digit after so many others, and hands back how many there are then. What is no digit, or has no room, is passed over.
+fn put(bytes: &mut [u8], count: usize, byte: u8) -> usize
+    requires { ⌜ count ≤ length (now bytes) * 2 ⌝ }
+    ensures { λ r. ⌜ (count ≤ r) × (r ≤ length (now (bytes .entry)) * 2) ⌝ }
+{
+    let worth = digit(byte);
+    let at = count / 2;
+    if worth == 16 {
+        return count;
+    }
+    if bytes.len() <= at {
+        return count;
+    }
+    bytes[at] = bytes[at] % 16 * 16 + worth;
+    count + 1
+}
+
+// Puts the bytes of a line at a place, and hands back the place after them.
+pub fn append(bytes: &mut [u8], at: usize, line: &[u8]) -> usize
+    requires { ⌜ at ≤ length (now bytes) ⌝ }
+    ensures { λ r. ⌜ (at ≤ r) × (r ≤ length (now (bytes .entry))) ⌝ }
+{
+    let mut count = at * 2;
+    let mut i: usize = 0;
+    while i < line.len() {
+        count = put(bytes, count, line[i]);
+        i += 1;
+    }
+    count / 2
+}

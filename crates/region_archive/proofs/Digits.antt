@@ -1,0 +1,70 @@
+-- Bytes of a number, one more at the end.
+use mathlib.Core.Path.{_≡_, refl, sym, ap, _∙_, subst}
+use mathlib.Core.List.{List, [], _∷_, _++_, append-assoc}
+use Prim.Native.Nat.{ℕ, zero, suc, _+_, _*_, _/_, _%_, _^_, _≤_, _<_}
+use native.Mathlib.Numerals.{add-one}
+use native.Mathlib.Nat.{add-zero, pow-suc, mul-comm, div-div-eq-div-mul}
+use native.Mathlib.Omega.{arith}
+use lib.ListN.{length, drop, getD}
+use lib.Seq.{drop-cons}
+use Rattle.region_archive.specs.Bytes.{big}
+use Rattle.region_archive.specs.Rows.{Parsed}
+use Rattle.region_archive.proofs.Pieces.{big-length}
+
+-- one byte more
+pub drop-byte : (s : List ℕ) (at : ℕ) → at < length s → drop at s ≡ getD s at 0 ∷ drop (at + 1) s
+drop-byte s at h = rw add-one (drop-cons s at 0 h)
+
+pub big-snoc : (w v b : ℕ) → b < 256 → big (suc w) (v * 256 + b) ≡ big w v ++ (b ∷ [])
+big-snoc zero v b h = ap (λ (n : ℕ). n ∷ []) e
+  where
+    e : (v * 256 + b) / 1 % 256 ≡ b
+    e = omega arith
+big-snoc (suc w) v b h = λ i. e i ∷ big-snoc w v b h i
+  where
+    d : (v * 256 + b) / 256 ≡ v
+    d = omega arith
+
+    e : (v * 256 + b) / 256 ^ suc w % 256 ≡ v / 256 ^ w % 256
+    e =
+        ap (λ (n : ℕ). (v * 256 + b) / n % 256) (pow-suc 256 w ∙ mul-comm (256 ^ w) 256)
+        ∙ ap (λ (n : ℕ). n % 256) (sym (div-div-eq-div-mul (v * 256 + b) 256 (256 ^ w)) ∙ ap (λ (n : ℕ). n / 256 ^ w) d)
+
+pub small-snoc : (w v b : ℕ) → v < 256 ^ w → b < 256 → v * 256 + b < 256 ^ suc w
+small-snoc w v b h k = rw pow-suc (omega arith)
+
+-- the first i bytes of a number stand at a place
+pub record Digits (s : List ℕ) (at i n : ℕ) : Type 0 where
+  pub small : n < 256 ^ i
+  pub shape : drop at s ≡ big i n ++ drop (at + i) s
+
+pub digits-none : (s : List ℕ) (at : ℕ) → Digits s at 0 0
+digits-none s at = record { small = omega arith; shape = rw add-zero refl }
+
+pub digits-more : {s : List ℕ} {at i n : ℕ} → Digits s at i n → at + i < length s → {b : ℕ} → b ≡ getD s (at + i) 0 → b < 256 → Digits s at (i + 1) (n * 256 + b)
+digits-more {s} {at} {i} {n} d h {b} e k =
+    record {
+      small = rw add-one (small-snoc i n b (d .small) k);
+      shape =
+          let f : at + i + 1 ≡ at + (i + 1) = omega arith in
+          d .shape ∙ ap (λ (l : List ℕ). big i n ++ l) (drop-byte s (at + i) h ∙ ap (λ (m : ℕ). m ∷ drop (at + i + 1) s) (sym e) ∙ ap (λ (m : ℕ). b ∷ drop m s) f)
+          ∙ sym (append-assoc (big i n) (b ∷ []) (drop (at + (i + 1)) s)) ∙ ap (λ (l : List ℕ). l ++ drop (at + (i + 1)) s) (sym (big-snoc i n b k) ∙ ap (λ (m : ℕ). big m (n * 256 + b)) (sym (add-one i)));
+    }
+
+-- a number of i bytes fits in 4 bytes, for i at most 4
+pub small-four : (i n : ℕ) → i ≤ 4 → n < 256 ^ i → n < 4294967296
+small-four zero n h k = omega arith
+small-four (suc zero) n h k = omega arith
+small-four (suc (suc zero)) n h k = omega arith
+small-four (suc (suc (suc zero))) n h k = omega arith
+small-four (suc (suc (suc (suc zero)))) n h k = omega arith
+small-four (suc (suc (suc (suc (suc i))))) n h k = absurd (omega arith)
+
+pub digits-all : {s : List ℕ} {at i n w : ℕ} → Digits s at i n → i ≡ w → at + w ≤ length s → Parsed (λ m. m < 256 ^ w) (big w) s at n (at + w)
+digits-all {s} {at} {i} {n} {w} d e h =
+    record {
+      is-good = subst (λ (k : ℕ). n < 256 ^ k) e (d .small);
+      shape = subst (λ (k : ℕ). drop at s ≡ big k n ++ drop (at + k) s) e (d .shape);
+      ends = rw big-length refl;
+      room = h;
+    }

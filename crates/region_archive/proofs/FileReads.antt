@@ -1,0 +1,163 @@
+-- The front of a file, the whole of it, and what the reader and the query answer.
+use mathlib.Core.Path.{_≡_, refl, sym, ap, _∙_, subst}
+use mathlib.Core.Bool.{Bool, true, false, not}
+use mathlib.Core.List.{List, [], _∷_, _++_, append-nil}
+use Prim.Native.Nat.{ℕ, _+_, _-_, _*_, _^_, _≤_, _<_}
+use native.Mathlib.Omega.{arith}
+use borrow.Author.Tests.{le-leb, lt-leb, eq-eqb, ne-eqb, eqb-true, eqb-false, leb-true}
+use lib.Dec.{eqb, leb}
+use lib.ListN.{length, drop, getD, length-drop}
+use lib.Seq.{drop-length}
+use Rattle.region_graph.specs.Refusals.{not-refused, not-an-archive, wrong-length, broken-layout}
+use Rattle.region_graph.specs.Lists.{pick}
+use Rattle.region_graph.specs.Model.{Model, Legal, nothing}
+use Rattle.region_graph.specs.Calls.{first-no, ask}
+use Rattle.region_graph.specs.Record.{Valid, meaning}
+use Rattle.region_graph.specs.Promise.{Empty}
+use Rattle.region_graph.specs.declared.Graph.{Graph}
+use Rattle.region_graph.specs.declared.Changed.{Changed}
+use Rattle.region_graph.proofs.Lists.{and-fst, and-snd}
+use Rattle.region_graph.proofs.Legal.{all-yes, first-no-stops, first-no-goes-on}
+use Rattle.region_archive.specs.Bytes.{big}
+use Rattle.region_archive.specs.Image.{version, body, image}
+use Rattle.region_archive.specs.File.{FileMeaning, means, means-none, is-image, sets, opens, length-field, front-questions, read-number}
+use Rattle.region_archive.specs.Rows.{Parsed, Unparsed}
+use Rattle.region_archive.specs.Promise.{Reads, ReadsOver}
+use Rattle.region_archive.specs.Sections.{BodyRead}
+use Rattle.region_archive.specs.declared.sections.SectionAt.{SectionAt}
+use Rattle.region_archive.proofs.Delimits.{head-same}
+use Rattle.region_archive.proofs.Digits.{drop-byte, digits-none, digits-more, digits-all}
+use Rattle.region_archive.proofs.Answers.{byte-stands, answer-stands, answer-fails}
+use Rattle.region_archive.proofs.Readers.{word-bytes}
+use Rattle.region_archive.proofs.OneImage.{body-same, image-body, one-image, image-front}
+
+-- the length field, as the four bytes after the first
+abbrev four : List ℕ → ℕ
+four t = getD t 0 0 * 16777216 + getD t 1 0 * 65536 + getD t 2 0 * 256 + getD t 3 0
+
+field-tail : (s : List ℕ) → length-field s ≡ four (drop 1 s)
+field-tail [] = refl
+field-tail (b ∷ s) = refl
+
+module _ (s : List ℕ) where
+  pub front-short : length s < 5 → not-an-archive ≡ first-no (front-questions s)
+  front-short h = rw (lt-leb 5 (length s) h) refl
+
+  module _ (h : 5 ≤ length s) {n : ℕ} (p : Parsed (λ m. m < 256 ^ 1) (big 1) s 0 n 1) where
+    first-is : getD s 0 0 ≡ n
+    first-is = head-same (sym (drop-byte s 0 (omega arith)) ∙ byte-stands (λ m. m < 256 ^ 1) (λ m h. h) s 0 n 1 p)
+
+    pub front-other : (n ≡ 1 → ⊥) → not-an-archive ≡ first-no (front-questions s)
+    front-other u = rw (le-leb 5 (length s) h, ne-eqb (getD s 0 0) 1 (λ e. u (sym first-is ∙ e))) refl
+
+    module _ (one : n ≡ 1) {k : ℕ} (q : Parsed (λ m. m < 256 ^ 4) (big 4) s 1 k 5) where
+      length-is : length-field s ≡ k
+      length-is = field-tail s ∙ ap four (q .shape) ∙ word-bytes k (q .is-good)
+
+      pub front-misfit : (k ≡ length s - 5 → ⊥) → wrong-length ≡ first-no (front-questions s)
+      front-misfit u = rw (le-leb 5 (length s) h, eq-eqb (getD s 0 0) 1 (first-is ∙ one), ne-eqb (length-field s) (length s - 5) (λ e. u (sym length-is ∙ e))) refl
+
+      pub front-fine : k ≡ length s - 5 → not-refused ≡ first-no (front-questions s)
+      front-fine e = rw (le-leb 5 (length s) h, eq-eqb (getD s 0 0) 1 (first-is ∙ one), eq-eqb (length-field s) (length s - 5) (length-is ∙ e)) refl
+
+  -- a file that passes the questions about its front, and whose body ends where it does, is that body's image
+  module _ (bytes : (i : ℕ) → getD s i 0 < 256) (z : not-refused ≡ first-no (front-questions s)) where
+    passed : (opens s ≡ true) × (eqb (length-field s) (length s - 5) ≡ true)
+    passed =
+        let a = all-yes (front-questions s) (refl, (refl, tt)) (sym z) in
+        (a .0, a .1 .0)
+
+    pub long-enough : 5 ≤ length s
+    long-enough = leb-true 5 (length s) (and-fst (leb 5 (length s)) (eqb (getD s 0 0) version) (passed .0))
+
+    first-one : getD s 0 0 ≡ 1
+    first-one = eqb-true (getD s 0 0) 1 (and-snd (leb 5 (length s)) (eqb (getD s 0 0) version) (passed .0))
+
+    field-stands : Parsed (λ m. m < 256 ^ 4) (big 4) s 1 (length-field s) 5
+    field-stands =
+        let h = long-enough in
+        let a = digits-more (digits-none s 1) (omega arith) refl (bytes 1) in
+        let b = digits-more a (omega arith) refl (bytes 2) in
+        let c = digits-more b (omega arith) refl (bytes 3) in
+        let d = digits-more c (omega arith) refl (bytes 4) in
+        let e : (((0 * 256 + getD s 1 0) * 256 + getD s 2 0) * 256 + getD s 3 0) * 256 + getD s 4 0 ≡ length-field s = omega arith in
+        subst (λ (n : ℕ). Parsed (λ m. m < 256 ^ 4) (big 4) s 1 n 5) e (digits-all d refl h)
+
+    pub image-is : (m : Model) {end : ℕ} → Parsed Legal body s 5 m end → end ≡ length s → image m ≡ s
+    unfolding image
+    image-is m {end} p e =
+        sym (drop-byte s 0 (omega (arith, long-enough)) ∙ ap (λ (n : ℕ). n ∷ drop 1 s) first-one
+        ∙ ap (λ (l : List ℕ). 1 ∷ l) (field-stands .shape ∙ ap (λ (n : ℕ). big 4 n ++ drop 5 s) size ∙ ap (λ (l : List ℕ). big 4 (length (body m)) ++ l) rest))
+      where
+        size : length-field s ≡ length (body m)
+        size = omega (arith, eqb-true (length-field s) (length s - 5) (passed .1), p .ends, e)
+
+        rest : drop 5 s ≡ body m
+        rest = p .shape ∙ ap (λ (n : ℕ). body m ++ drop n s) e ∙ ap (λ (l : List ℕ). body m ++ l) (drop-length s) ∙ append-nil (body m)
+
+  -- no body, or one that ends before the file does: no image
+  pub bodiless : Unparsed Legal body s 5 → (m : Model) → Legal m → image m ≡ s → ⊥
+  bodiless u m h e = u m [] h (ap (drop 5) (sym e) ∙ image-body m)
+
+  pub longer : {x : Model} {end : ℕ} → Parsed Legal body s 5 x end → (end ≡ length s → ⊥) → (m : Model) → Legal m → image m ≡ s → ⊥
+  longer {x} {end} p u m h e =
+      let d = body-same x m (drop end s) [] (p .is-good) h (sym (p .shape) ∙ ap (drop 5) (sym e) ∙ image-body m) in
+      u (omega (arith, p .room, sym (length-drop end s) ∙ ap length (d .1)))
+
+-- the answer about the body
+module _ {s : List ℕ} {r : SectionAt} (a : BodyRead s 5 r) where
+  pub body-stands : not (r .ok) ≡ false → Parsed Legal body s 5 (meaning (r .graph)) (r .next)
+  body-stands e = answer-stands Legal body s 5 (r .ok) (meaning (r .graph)) (r .next) e (a .answer)
+
+  pub body-fails : not (r .ok) ≡ true → Unparsed Legal body s 5
+  body-fails e = answer-fails Legal body s 5 (r .ok) (meaning (r .graph)) (r .next) e (a .answer)
+
+module _ {s : List ℕ} where
+  -- the questions about the front come first
+  pub stopped : (f : FileMeaning s) {k : ℕ} → k ≡ first-no (front-questions s) → (k ≡ not-refused → ⊥) → k ≡ read-number f
+  stopped f {k} e u = sym (first-no-stops (front-questions s) (ask broken-layout (is-image f) ∷ []) (sym e) (ne-eqb k not-refused u))
+
+  last-asked : (f : FileMeaning s) → not-refused ≡ first-no (front-questions s) → read-number f ≡ first-no (ask broken-layout (is-image f) ∷ [])
+  last-asked f e = first-no-goes-on (front-questions s) (ask broken-layout (is-image f) ∷ []) (all-yes (front-questions s) (refl, (refl, tt)) (sym e))
+
+  pub broken : (f : FileMeaning s) → not-refused ≡ first-no (front-questions s) → ((m : Model) → Legal m → image m ≡ s → ⊥) → broken-layout ≡ read-number f
+  broken (means m l e) z u = absurd (u m l e)
+  broken (means-none n) z u = sym (last-asked (means-none n) z)
+
+  -- an image is read with no refusal
+  pub accepted-number : (m : Model) (l : Legal m) (e : image m ≡ s) → not-refused ≡ first-no (front-questions s)
+  accepted-number m l e = sym (ap (λ (t : List ℕ). first-no (front-questions t)) (sym e) ∙ image-front m l)
+
+  pub accepted : (f : FileMeaning s) (m : Model) → Legal m → image m ≡ s → (not-refused ≡ read-number f) × (m ≡ sets f)
+  accepted (means n k i) m l e = (sym (last-asked (means n k i) (accepted-number m l e)), one-image m n l k (e ∙ sym i))
+  accepted (means-none n) m l e = absurd (n m l e)
+
+  -- what is refused means nothing
+  pub refused-sets : (f : FileMeaning s) → (read-number f ≡ not-refused → ⊥) → sets f ≡ nothing
+  refused-sets (means m l e) u = absurd (u (sym (accepted (means m l e) m l e .0)))
+  refused-sets (means-none n) u = refl
+
+  pub over-refused : {g : Graph} → Valid g → {k : ℕ} → (k ≡ not-refused → ⊥) → ((f : FileMeaning s) → k ≡ read-number f) → ReadsOver g s (record { graph = g; number = k })
+  over-refused {g} v {k} u e = record {
+    valid = v;
+    kept = λ w. refl;
+    says = λ f.
+        record { number = e f; next = sym (ap (λ (b : Bool). pick b (sets f) (meaning g)) (ne-eqb (read-number f) not-refused (λ z. u (e f ∙ z)))) };
+  }
+
+  pub over-accepted : {g h : Graph} → Valid h → image (meaning h) ≡ s → ReadsOver g s (record { graph = h; number = not-refused })
+  over-accepted {g} {h} v e = record {
+    valid = v;
+    kept = λ w. absurd (w refl);
+    says = λ f.
+        let a = accepted f (meaning h) (v .good) e in
+        record { number = a .0; next = a .1 ∙ sym (ap (λ (b : Bool). pick b (sets f) (meaning g)) (eq-eqb (read-number f) not-refused (sym (a .0)))) };
+  }
+
+  -- over the empty record, a refused read gives the empty sets
+  pub over-empty : {g : Graph} → Empty g → {r : Changed} → ReadsOver g s r → Reads s r
+  over-empty {g} z o = record { valid = o .valid; says = λ f. record { number = o .says f .number; next = o .says f .next ∙ by f (eqb (read-number f) not-refused) refl } }
+    where
+      by : (f : FileMeaning s) (b : Bool) → eqb (read-number f) not-refused ≡ b → pick b (sets f) (meaning g) ≡ sets f
+      by f true h = refl
+      by f false h = z .sets ∙ sym (refused-sets f (eqb-false (read-number f) not-refused h))

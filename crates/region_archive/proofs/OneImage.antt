@@ -1,0 +1,121 @@
+-- The one image of a legal model: it tells the model, it passes the questions about its front, and it is no longer than 14248 bytes.
+use mathlib.Core.Path.{_≡_, refl, sym, ap, _∙_}
+use mathlib.Core.List.{List, [], _∷_, _++_, append-nil}
+use Prim.Native.Nat.{ℕ, _+_, _-_, _*_, _^_, _≤_, _<_}
+use native.Mathlib.Nat.{mul-le-mul-right}
+use native.Mathlib.Omega.{arith}
+use lib.ListN.{length, drop, length-append}
+use borrow.Author.Tests.{le-leb, eq-eqb}
+use Rattle.region_graph.specs.Size.{regions}
+use Rattle.region_graph.specs.Refusals.{not-refused}
+use Rattle.region_graph.specs.Lists.{All}
+use Rattle.region_graph.specs.Model.{Model, Part, NumberedPart, Legal, nothing}
+use Rattle.region_graph.specs.Calls.{first-no, run}
+use Rattle.region_graph.proofs.Lists.{all-map}
+use Rattle.region_routes.specs.Table.{graph-g}
+use Rattle.region_archive.specs.Bytes.{big, each, counted}
+use Rattle.region_archive.specs.Image.{part-bytes, body, image}
+use Rattle.region_archive.specs.File.{length-field, front-questions}
+use Rattle.region_archive.specs.Rows.{Row}
+use Rattle.region_archive.specs.Entries.{Elem, key, most, LegalElem, elements, record-bytes, section-bytes}
+use Rattle.region_archive.specs.declared.entries.Section.{Section}
+use Rattle.region_archive.specs.declared.entries.Section.the-variants as Section
+use Rattle.region_archive.proofs.Pieces.{big-length, each-length, each-most}
+use Rattle.region_archive.proofs.Delimits.{Delimits, big-same, counted-same}
+use Rattle.region_archive.proofs.RecordLaws.{element-same, part-length, part-listed-of}
+use Rattle.region_archive.proofs.Records.{bundle-record, connection-record}
+use Rattle.region_archive.proofs.Images.{body-size, image-size}
+use Rattle.region_archive.proofs.Readers.{reader-same, word-bytes, read-body}
+use Rattle.region_archive.proofs.Taking.{legal-rows}
+
+-- the regions of a body, and the elements of a section
+abbrev pub RegionRow : List ℕ → Type 0
+RegionRow rs = Row (λ n. n < regions) (λ n. n) regions rs
+
+abbrev pub SectionRow : (k : Section) → List ℕ → List (Elem k) → Type 0
+SectionRow k rs xs = Row (LegalElem k rs) (key k) (most k) xs
+
+-- bytes tell the regions
+pub regions-same : Delimits RegionRow (counted (big 1)) _≡_
+regions-same = counted-same (λ n. n < 256 ^ 1) (big 1) (big-same 1) RegionRow (λ rs r. all-map (λ n. n < regions) (λ n. n < 256 ^ 1) (λ n h. omega arith) rs (r .each))
+
+-- bytes tell the elements of a section
+pub section-same : (k : Section) (rs : List ℕ) → All (λ r. r < regions) rs → Delimits (SectionRow k rs) (counted (record-bytes k)) _≡_
+section-same k rs n = counted-same (LegalElem k rs) (record-bytes k) (element-same rs n k) (SectionRow k rs) (λ xs r. r .each)
+
+-- bytes tell a legal model
+pub body-same : Delimits Legal body _≡_
+body-same = reader-same Legal body read-body
+
+-- what stands after the length of an image
+pub image-body : (m : Model) → drop 5 (image m) ≡ body m ++ []
+unfolding image
+image-body m = sym (append-nil (body m))
+
+-- legal models with one image are one
+pub one-image : (m n : Model) → Legal m → Legal n → image m ≡ image n → m ≡ n
+one-image m n h g e = body-same m n [] [] h g (sym (image-body m) ∙ ap (drop 5) e ∙ image-body n) .0
+
+-- a list takes one byte, and four for each number
+list-length : (xs : List ℕ) → length (counted (big 4) xs) ≡ 1 + length xs * 4
+list-length xs = omega (arith, each-length (big 4) 4 (big-length 4) xs)
+
+-- a legal part takes at most 65 bytes
+part-most : (p : Part) → NumberedPart p → length (part-bytes (big 4) p) ≤ 65
+part-most p h = part-length p (part-listed-of p h)
+
+-- the most bytes that a record of a section takes
+abbrev record-limit : Section → ℕ
+record-limit Section.Bundles = 73
+record-limit Section.Connections = 199
+
+-- a legal element's record takes no more
+record-most : (k : Section) (rs : List ℕ) (x : Elem k) → LegalElem k rs x → length (record-bytes k x) ≤ record-limit k
+record-most Section.Bundles rs b h =
+    let ps = counted (big 4) (b .packages) in
+    let ss = counted (big 4) (b .services) in
+    omega (arith, ap length (bundle-record b), length-append ps ss, list-length (b .packages), list-length (b .services), h .packages .few, h .services .few)
+record-most Section.Connections rs c h =
+    let bs = counted (big 4) (c .filter .bundles) in
+    let ps = part-bytes (big 4) (c .filter .packages) in
+    let ss = part-bytes (big 4) (c .filter .services) in
+    omega (
+      arith,
+      ap length (connection-record c),
+      length-append bs (ps ++ ss),
+      length-append ps ss,
+      list-length (c .filter .bundles),
+      h .filter .bundles .few,
+      part-most (c .filter .packages) (h .filter .packages),
+      part-most (c .filter .services) (h .filter .services),
+    )
+
+-- nor does a section than its records
+section-most : (k : Section) (m : Model) → Legal m → length (section-bytes k m) ≤ 1 + most k * record-limit k
+section-most k m h =
+    let r = legal-rows m h .1 k in
+    omega (arith, each-most (LegalElem k (m .regions)) (record-bytes k) (record-limit k) (record-most k (m .regions)) (elements k m) (r .each), mul-le-mul-right (record-limit k) (r .few))
+
+-- the longest image has 14248 bytes
+pub image-bound : (m : Model) → Legal m → length (image m) ≤ 14248
+image-bound m h = omega (arith, image-size m, body-size m, legal-rows m h .0 .few, section-most Section.Bundles m h, section-most Section.Connections m h)
+
+-- an image passes the questions about its front
+pub image-front : (m : Model) → Legal m → first-no (front-questions (image m)) ≡ not-refused
+unfolding image
+image-front m h = rw (le-leb 5 (length (image m)) (omega arith), eq-eqb (length-field (image m)) (length (image m) - 5) (word-bytes (length (body m)) (omega (arith, image-bound m h)) ∙ omega arith))
+
+-- graph G's image, all 84 bytes
+abbrev pub g-image : List ℕ
+g-image =
+    0x01 ∷ 0x00 ∷ 0x00 ∷ 0x00 ∷ 0x4F ∷ 0x03 ∷ 0x00 ∷ 0x01 ∷ 0x02 ∷ 0x03 ∷ 0x00 ∷ 0x07 ∷ 0x00 ∷ 0x00 ∷ 0x00 ∷ 0x0A
+    ∷ 0x00 ∷ 0x00 ∷ 0x00 ∷ 0x00 ∷ 0x0B ∷ 0x00 ∷ 0x00 ∷ 0x00 ∷ 0x14 ∷ 0x01 ∷ 0x01 ∷ 0x00 ∷ 0x00 ∷ 0x00 ∷ 0x01 ∷ 0x00
+    ∷ 0x00 ∷ 0x13 ∷ 0x00 ∷ 0x00 ∷ 0x00 ∷ 0x1E ∷ 0x02 ∷ 0x03 ∷ 0x00 ∷ 0x00 ∷ 0x00 ∷ 0x01 ∷ 0x00 ∷ 0x00 ∷ 0x00 ∷ 0x02
+    ∷ 0x00 ∷ 0x00 ∷ 0x00 ∷ 0x03 ∷ 0x00 ∷ 0x02 ∷ 0x00 ∷ 0x0D ∷ 0x00 ∷ 0x01 ∷ 0x00 ∷ 0x02 ∷ 0x00 ∷ 0x00 ∷ 0x00 ∷ 0x01
+    ∷ 0x00 ∷ 0x00 ∷ 0x00 ∷ 0x02 ∷ 0x00 ∷ 0x00 ∷ 0x0D ∷ 0x01 ∷ 0x02 ∷ 0x00 ∷ 0x02 ∷ 0x00 ∷ 0x00 ∷ 0x00 ∷ 0x01 ∷ 0x00
+    ∷ 0x00 ∷ 0x00 ∷ 0x03 ∷ 0x00 ∷ []
+
+-- the image of the calls of graph G
+pub image-of-g : image (run nothing graph-g) ≡ g-image
+unfolding image
+image-of-g = refl

@@ -1,0 +1,168 @@
+-- Laws of `All`, `Ascends`, `keep`, `each`, `bytes-to` and `big`, for any element.
+use mathlib.Core.Path.{_≡_, refl, sym, ap, _∙_}
+use mathlib.Core.Bool.{Bool, true, false}
+use mathlib.Core.List.{List, [], _∷_, _++_, append-nil, append-assoc, map}
+use Prim.Native.Nat.{ℕ, zero, suc, _+_, _*_, _/_, _%_, _^_, _≤_, _<_}
+use native.Mathlib.Numerals.{add-one}
+use native.Mathlib.Nat.{zero-mul, suc-mul, pow-suc, div-one, mod-eq-of-lt, div-div-eq-div-mul}
+use native.Mathlib.Decide.{decLt}
+use native.Mathlib.Omega.{arith}
+use lib.ListN.{length, getD, take, drop, length-append, take-append-drop}
+use lib.Seq.{take-suc, take-all}
+use Rattle.region_graph.specs.Lists.{All, keep, count-from}
+use Rattle.region_graph.proofs.Lists.{keep-append, keep-took, keep-left}
+use Rattle.region_archive.specs.Bytes.{big, each}
+use Rattle.region_archive.specs.Rows.{Ascends, floor-of}
+use Rattle.region_archive.specs.Entries.{bytes-to}
+
+module _ {A : Type 0} where
+  pub all-append : (P : A → Type 0) (xs ys : List A) → All P xs → All P ys → All P (xs ++ ys)
+  all-append P [] ys h k = k
+  all-append P (x ∷ xs) ys h k = (h .0, all-append P xs ys (h .1) k)
+
+  pub all-front : (P : A → Type 0) (xs ys : List A) → All P (xs ++ ys) → All P xs
+  all-front P [] ys h = tt
+  all-front P (x ∷ xs) ys h = (h .0, all-front P xs ys (h .1))
+
+  pub all-back : (P : A → Type 0) (xs ys : List A) → All P (xs ++ ys) → All P ys
+  all-back P [] ys h = h
+  all-back P (x ∷ xs) ys h = all-back P xs ys (h .1)
+
+  pub all-at : (P : A → Type 0) (l : List A) (n i : ℕ) (d : A) → i < n → n ≤ length l → All P (take n l) → P (getD l i d)
+  all-at P [] n i d h k a = absurd (omega arith)
+  all-at P (x ∷ l) zero i d h k a = absurd (omega arith)
+  all-at P (x ∷ l) (suc n) zero d h k a = a .0
+  all-at P (x ∷ l) (suc n) (suc i) d h k a = all-at P l n i d (omega arith) (omega arith) (a .1)
+
+  -- the element at a place, or the one that stands for those past the end
+  pub all-or : (P : A → Type 0) (l : List A) (i : ℕ) (d : A) → P d → All P l → P (getD l i d)
+  all-or P [] i d h a = h
+  all-or P (x ∷ l) zero d h a = a .0
+  all-or P (x ∷ l) (suc i) d h a = all-or P l i d h (a .1)
+
+  module _ (key : A → ℕ) where
+    pub ascends-append : (n : ℕ) (xs ys : List A) → Ascends key n xs → Ascends key (floor-of key n xs) ys → Ascends key n (xs ++ ys)
+    ascends-append n [] ys h k = k
+    ascends-append n (x ∷ xs) ys h k = (h .0, ascends-append (key x + 1) xs ys (h .1) k)
+
+    pub ascends-back : (n : ℕ) (xs ys : List A) → Ascends key n (xs ++ ys) → Ascends key (floor-of key n xs) ys
+    ascends-back n [] ys h = h
+    ascends-back n (x ∷ xs) ys h = ascends-back (key x + 1) xs ys (h .1)
+
+    pub floor-snoc : (n : ℕ) (xs : List A) (x : A) → floor-of key n (xs ++ (x ∷ [])) ≡ key x + 1
+    floor-snoc n [] x = refl
+    floor-snoc n (y ∷ xs) x = floor-snoc (key y + 1) xs x
+
+pub map-snoc : {A B : Type 0} (f : A → B) (xs : List A) (x : A) → map f (xs ++ (x ∷ [])) ≡ map f xs ++ (f x ∷ [])
+map-snoc f [] x = refl
+map-snoc {A} {B} f (y ∷ xs) x = ap (λ (l : List B). f y ∷ l) (map-snoc f xs x)
+
+pub map-length : {A B : Type 0} (f : A → B) (xs : List A) → length (map f xs) ≡ length xs
+map-length f [] = refl
+map-length f (x ∷ xs) = ap suc (map-length f xs)
+
+pub big-length : (w n : ℕ) → length (big w n) ≡ w
+big-length zero n = refl
+big-length (suc w) n = ap suc (big-length w n)
+
+-- a number of one byte
+pub big-one : (n : ℕ) → n < 256 → big 1 n ≡ n ∷ []
+big-one n h = ap (λ (m : ℕ). m ∷ []) (ap (λ (m : ℕ). m % 256) (div-one n) ∙ mod-eq-of-lt h)
+
+-- what is left of a number above one byte more
+pub div-next : (n k : ℕ) → n / 256 ^ k / 256 ≡ n / 256 ^ suc k
+div-next n k = div-div-eq-div-mul n (256 ^ k) 256 ∙ ap (λ (p : ℕ). n / p) (sym (pow-suc 256 k))
+
+module _ {A : Type 0} (f : A → List ℕ) where
+  pub each-append : (xs ys : List A) → each f (xs ++ ys) ≡ each f xs ++ each f ys
+  each-append [] ys = refl
+  each-append (x ∷ xs) ys = ap (λ (l : List ℕ). f x ++ l) (each-append xs ys) ∙ sym (append-assoc (f x) (each f xs) (each f ys))
+
+  pub each-snoc : (xs : List A) (x : A) → each f (xs ++ (x ∷ [])) ≡ each f xs ++ f x
+  each-snoc xs x = each-append xs (x ∷ []) ∙ ap (λ (l : List ℕ). each f xs ++ l) (append-nil (f x))
+
+  pub each-next : (l : List A) (i : ℕ) (d : A) → i < length l → each f (take (i + 1) l) ≡ each f (take i l) ++ f (getD l i d)
+  each-next l i d h = rw (add-one, take-suc l i d h) (each-snoc (take i l) (getD l i d))
+
+  -- elements of one width
+  pub each-length : (w : ℕ) → ((x : A) → length (f x) ≡ w) → (xs : List A) → length (each f xs) ≡ length xs * w
+  each-length w h [] = sym (zero-mul w)
+  each-length w h (x ∷ xs) = rw (length-append, h, each-length w h xs, suc-mul) (omega arith)
+
+pub each-map : {A B : Type 0} (f : B → List ℕ) (g : A → B) (xs : List A) → each f (map g xs) ≡ each (λ x. f (g x)) xs
+each-map f g [] = refl
+each-map f g (x ∷ xs) = ap (λ (l : List ℕ). f (g x) ++ l) (each-map f g xs)
+
+-- an element below n is within the bytes of the first n
+pub each-within : {A : Type 0} (f : A → List ℕ) (l : List A) (i n : ℕ) (d : A) → i < n → n ≤ length l → length (each f (take i l)) + length (f (getD l i d)) ≤ length (each f (take n l))
+each-within f [] i n d h k = absurd (omega arith)
+each-within f (x ∷ l) i zero d h k = absurd (omega arith)
+each-within f (x ∷ l) zero (suc n) d h k = rw length-append (omega arith)
+each-within f (x ∷ l) (suc i) (suc n) d h k = omega (arith, each-within f l i n d (omega arith) (omega arith), length-append (f x) (each f (take i l)), length-append (f x) (each f (take n l)))
+
+-- elements of at most w bytes each
+pub each-most : {A : Type 0} (P : A → Type 0) (f : A → List ℕ) (w : ℕ) → ((x : A) → P x → length (f x) ≤ w) → (xs : List A) → All P xs → length (each f xs) ≤ length xs * w
+each-most P f w h [] a = omega arith
+each-most P f w h (x ∷ xs) a = rw (length-append, suc-mul) (omega (arith, h x (a .0), each-most P f w h xs (a .1)))
+
+-- the numbers below k, by place
+pub count-length : (n k : ℕ) → length (count-from n k) ≡ k
+count-length n zero = refl
+count-length n (suc k) = ap suc (count-length (suc n) k)
+
+pub count-at : (n k i : ℕ) → i < k → getD (count-from n k) i 0 ≡ n + i
+count-at n zero i h = absurd (omega arith)
+count-at n (suc k) zero h = omega arith
+count-at n (suc k) (suc i) h = count-at (suc n) k i (omega arith) ∙ omega arith
+
+-- all numbers below k that pass a test
+pub below-all : (p : ℕ → Bool) (k i : ℕ) → k ≤ i → keep p (take i (count-from 0 k)) ≡ keep p (count-from 0 k)
+below-all p k i h = ap (keep p) (take-all i (count-from 0 k) (rw count-length h))
+
+-- the numbers below k that pass a test: one number more
+module _ (p : ℕ → Bool) (k i : ℕ) (h : i < k) where
+  at : getD (count-from 0 k) i 0 ≡ i
+  at = count-at 0 k i h ∙ omega arith
+
+  inside : i < length (count-from 0 k)
+  inside = rw count-length h
+
+  pub below-took : p i ≡ true → keep p (take (i + 1) (count-from 0 k)) ≡ keep p (take i (count-from 0 k)) ++ (i ∷ [])
+  below-took e =
+      keep-took p (count-from 0 k) i 0 inside (ap p at ∙ e) ∙ ap (λ (n : ℕ). keep p (take i (count-from 0 k)) ++ (n ∷ [])) at
+
+  pub below-left : p i ≡ false → keep p (take (i + 1) (count-from 0 k)) ≡ keep p (take i (count-from 0 k))
+  below-left e = keep-left p (count-from 0 k) i 0 inside (ap p at ∙ e)
+
+  pub below-within : p i ≡ true → length (keep p (take i (count-from 0 k))) + 1 ≤ length (keep p (count-from 0 k))
+  below-within e =
+      let l = count-from 0 k in
+      omega (
+        arith,
+        ap (λ (m : List ℕ). length (keep p m)) (sym (take-append-drop (i + 1) l)) ∙ ap length (keep-append p (take (i + 1) l) (drop (i + 1) l)),
+        length-append (keep p (take (i + 1) l)) (keep p (drop (i + 1) l)),
+        ap length (below-took e) ∙ length-append (keep p (take i l)) (i ∷ []),
+      )
+
+  -- a number that passes is within the bytes of all that do
+  pub below-byte : p i ≡ true → length (each (big 1) (keep p (take i (count-from 0 k)))) + 1 ≤ length (each (big 1) (keep p (count-from 0 k)))
+  below-byte e =
+      omega (arith, below-within e, each-length (big 1) 1 (big-length 1) (keep p (take i (count-from 0 k))), each-length (big 1) 1 (big-length 1) (keep p (count-from 0 k)))
+
+-- the first fields of a value, in bytes
+module _ {A : Type 0} (bytes : ℕ → A → List ℕ) where
+  -- one field more
+  pub bytes-next : (k : ℕ) (x : A) → bytes-to bytes (k + 1) x ≡ bytes-to bytes k x ++ bytes k x
+  bytes-next k x = rw add-one
+
+  -- a field below n is within the bytes of the first n
+  pub bytes-within : (n k : ℕ) (x : A) → k < n → length (bytes-to bytes k x) + length (bytes k x) ≤ length (bytes-to bytes n x)
+  bytes-within zero k x h = absurd (omega arith)
+  bytes-within (suc n) k x h = go (decLt k n) (bytes-within n k x)
+    where
+      go : Dec (k < n) → (k < n → length (bytes-to bytes k x) + length (bytes k x) ≤ length (bytes-to bytes n x))
+          → length (bytes-to bytes k x) + length (bytes k x) ≤ length (bytes-to bytes n x ++ bytes n x)
+      go (yes l) r = omega (arith, r l, length-append (bytes-to bytes n x) (bytes n x))
+      go (no l) r =
+          let e : k ≡ n = omega arith in
+          rw e (omega (arith, length-append (bytes-to bytes n x) (bytes n x)))

@@ -1,0 +1,58 @@
+-- The records of an archive as their fields in order are the records of the image.
+use mathlib.Core.Path.{_≡_, sym, ap}
+use mathlib.Core.List.{List, [], _++_, append-assoc}
+use Prim.Native.Nat.{ℕ, zero, suc, _-_, _≤_, _<_}
+use native.Mathlib.Omega.{arith}
+use lib.ListN.{length, getD}
+use Rattle.region_graph.specs.Model.{Model, Bundle, Connection, Part}
+use Rattle.region_graph.specs.Record.{part-in}
+use Rattle.region_graph.specs.declared.connections.StoredPart.{StoredPart}
+use Rattle.region_graph.proofs.Arrays.{getD-map-in}
+use Rattle.region_archive.specs.Bytes.{big, counted, sized}
+use Rattle.region_archive.specs.Image.{version, part-bytes, bundle-fields, connection-fields, body}
+use Rattle.region_archive.specs.Entries.{Fields, field-bytes, fields-bytes, first-width, Elem, fields-of, fields-in, EntryIs, record-bytes, section-bytes}
+use Rattle.region_archive.specs.declared.entries.Entry.{Entry}
+use Rattle.region_archive.specs.declared.entries.Section.{Section}
+use Rattle.region_archive.specs.declared.entries.Section.the-variants as Section
+use Rattle.region_archive.proofs.RecordLaws.{same-bytes}
+
+-- a bundle's record is the length of its four fields and the fields
+pub bundle-record : (b : Bundle) → record-bytes Section.Bundles b ≡ sized 2 (bundle-fields version (big 4) (big 4)) b
+bundle-record b = ap (λ (l : List ℕ). big 2 (length l) ++ l) fields
+  where
+    fields : fields-bytes Section.Bundles (fields-of Section.Bundles b) ≡ bundle-fields version (big 4) (big 4) b
+    fields = simp append-assoc
+
+-- a connection's record is the length of its five fields and the fields
+pub connection-record : (c : Connection) → record-bytes Section.Connections c ≡ sized 2 (connection-fields version (big 4) (big 4)) c
+connection-record c = ap (λ (l : List ℕ). big 2 (length l) ++ l) fields
+  where
+    fields : fields-bytes Section.Connections (fields-of Section.Connections c) ≡ connection-fields version (big 4) (big 4) c
+    fields = simp append-assoc
+
+-- a body is the regions and the two sections
+pub body-sections : (m : Model)
+    → body m ≡ counted (big 1) (m .regions) ++ (section-bytes Section.Bundles m ++ section-bytes Section.Connections m)
+body-sections m = λ i.
+    counted (big 1) (m .regions)
+    ++ (counted (λ b. sym (bundle-record b) i) (m .bundles) ++ counted (λ c. sym (connection-record c) i) (m .connections))
+
+-- a value with the fields of an element has the element's record
+pub entry-record : (s : Section) (e : Entry) (x : Elem s) → EntryIs s e x → sized 2 (fields-bytes s) (fields-in e) ≡ record-bytes s x
+entry-record s e x h = ap (λ (l : List ℕ). big 2 (length l) ++ l) (same-bytes s (fields-in e) (fields-of s x) (h .same))
+
+-- the bytes of the two fields that are numbers
+pub first-field : (s : Section) (f : Fields) {k : ℕ} → k ≡ 0 → field-bytes s k f ≡ big (first-width s) (f .first)
+first-field s f e = rw e
+
+pub second-field : (s : Section) (f : Fields) {k : ℕ} → k ≡ 1 → field-bytes s k f ≡ big 1 (f .second)
+second-field s f e = rw e
+
+-- the bytes of a field that is a part
+pub part-field : (s : Section) (e : Entry) (k : ℕ) (d : StoredPart) → 2 ≤ k → k - 2 < length (e .parts)
+    → field-bytes s k (fields-in e) ≡ part-bytes (big 4) (part-in (getD (e .parts) (k - 2) d))
+part-field s e zero d h l = absurd (omega arith)
+part-field s e (suc zero) d h l = absurd (omega arith)
+part-field s e (suc (suc k)) d h l =
+    let f : suc (suc k) - 2 ≡ k = omega arith in
+    rw f (ap (part-bytes (big 4)) (getD-map-in part-in (e .parts) k (Part.listed []) d (omega arith)))

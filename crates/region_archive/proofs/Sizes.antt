@@ -1,0 +1,64 @@
+-- How many bytes the pieces of an archive take, and which piece comes next.
+use mathlib.Core.Path.{_≡_, sym}
+use mathlib.Core.Bool.{true, false}
+use mathlib.Core.List.{_++_}
+use Prim.Native.Nat.{ℕ, _+_, _*_, _≤_, _<_}
+use native.Mathlib.Omega.{arith}
+use lib.ListN.{length, take}
+use lib.Seq.{length-take-le, take-length}
+use Rattle.region_graph.specs.Size.{most-bundles}
+use Rattle.region_graph.specs.Model.{Model, Part}
+use Rattle.region_graph.specs.Record.{Valid, meaning, numbers-of, part-in, no-bundle, no-connection}
+use Rattle.region_graph.specs.declared.Graph.{Graph}
+use Rattle.region_graph.specs.declared.numbers.Numbers.{Numbers}
+use Rattle.region_graph.specs.declared.connections.StoredPart.{StoredPart}
+use Rattle.region_archive.specs.Bytes.{big, each, counted}
+use Rattle.region_archive.specs.Entries.{NumbersFit, first-width, field-count, record-bytes, elements, element-at}
+use Rattle.region_archive.specs.declared.entries.Section.{Section}
+use Rattle.region_archive.specs.declared.entries.Section.the-variants as Section
+use Rattle.region_archive.proofs.Pieces.{big-length, each-length, each-next, each-within}
+
+-- the count of a list that fits is its length
+pub numbers-length : (n : Numbers) → NumbersFit n → n .count ≡ length (numbers-of n)
+unfolding numbers-of
+numbers-length n h = sym (length-take-le (n .count) (n .items) (omega (arith, h .count, h .size)))
+
+-- a list takes one byte, and four for each number
+pub list-size : (n : Numbers) → NumbersFit n → length (counted (big 4) (numbers-of n)) ≡ 1 + n .count * 4
+list-size n h = omega (arith, each-length (big 4) 4 (big-length 4) (numbers-of n), numbers-length n h)
+
+-- a part by its flag
+pub part-all : (p : StoredPart) → p .all ≡ true → part-in p ≡ Part.everything
+part-all p e = rw e
+
+pub part-listed : (p : StoredPart) → p .all ≡ false → part-in p ≡ Part.listed (numbers-of (p .numbers))
+part-listed p e = rw e
+
+-- a section's records have few fields, and a narrow first one
+pub few-fields : (s : Section) → field-count s ≤ 5
+few-fields Section.Bundles = omega arith
+few-fields Section.Connections = omega arith
+
+pub narrow-first : (s : Section) → first-width s ≤ 4
+narrow-first Section.Bundles = omega arith
+narrow-first Section.Connections = omega arith
+
+-- a section of a valid graph has few records
+pub few-elements : (g : Graph) → Valid g → (s : Section) → length (elements s (meaning g)) ≤ most-bundles
+few-elements g v Section.Bundles = v .good .bundles-few
+few-elements g v Section.Connections = omega (arith, v .good .connections-few)
+
+-- one record more of a section
+pub section-next : (s : Section) (m : Model) (i : ℕ) → i < length (elements s m)
+    → each (record-bytes s) (take (i + 1) (elements s m)) ≡ each (record-bytes s) (take i (elements s m)) ++ record-bytes s (element-at s m i)
+section-next Section.Bundles m i h = each-next (record-bytes Section.Bundles) (m .bundles) i no-bundle h
+section-next Section.Connections m i h = each-next (record-bytes Section.Connections) (m .connections) i no-connection h
+
+-- a record is within the bytes of its section
+pub section-within : (s : Section) (m : Model) (i : ℕ) → i < length (elements s m)
+    → length (each (record-bytes s) (take i (elements s m))) + length (record-bytes s (element-at s m i)) ≤ length (each (record-bytes s) (elements s m))
+section-within s m i h = rw (take-length (elements s m)) at (within s h)
+  where
+    within : (k : Section) → i < length (elements k m) → length (each (record-bytes k) (take i (elements k m))) + length (record-bytes k (element-at k m i)) ≤ length (each (record-bytes k) (take (length (elements k m)) (elements k m)))
+    within Section.Bundles h = each-within (record-bytes Section.Bundles) (m .bundles) i (length (m .bundles)) no-bundle h (omega arith)
+    within Section.Connections h = each-within (record-bytes Section.Connections) (m .connections) i (length (m .connections)) no-connection h (omega arith)

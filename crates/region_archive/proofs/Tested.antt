@@ -1,0 +1,105 @@
+-- Legality is told by a test.
+use mathlib.Core.Path.{_≡_, refl, ap}
+use mathlib.Core.Bool.{Bool, true, false, not, _&&_}
+use mathlib.Core.List.{List, [], _∷_}
+use Prim.Native.Nat.{ℕ, _≤_, _<_, _^_}
+use lib.Dec.{ltb, leb, eqb}
+use lib.ListN.{length}
+use borrow.Author.Tests.{lt-ltb, ltb-true, le-leb, leb-true, not-true}
+use Rattle.region_graph.specs.Size.{regions, most-bundles, most-connections, most-provided, most-listed}
+use Rattle.region_graph.specs.Lists.{All, member, ascends}
+use Rattle.region_graph.specs.Model.{Model, Bundle, Filter, Part, Connection, Word, Numbered, NumberedPart, LegalBundle, LegalFilter, LegalConnection, Legal, bundle-before, connection-before}
+use Rattle.region_graph.proofs.Lists.{and-yes, and-fst, and-snd}
+
+-- a test that tells whether P holds
+pub record Tested (P : Type 0) : Type 0 where
+  pub test : Bool
+  pub holds : test ≡ true → P
+  pub tests : P → test ≡ true
+
+-- a test for what always holds, for a test's own answer, and for a bound
+unfoldable pub tested-none : Tested (Unit {0})
+tested-none = record { test = true; holds = λ e. tt; tests = λ h. refl }
+
+unfoldable pub tested-true : (b : Bool) → Tested (b ≡ true)
+tested-true b = record { test = b; holds = λ e. e; tests = λ h. h }
+
+unfoldable pub tested-false : (b : Bool) → Tested (b ≡ false)
+tested-false b = record { test = not b; holds = not-true b; tests = λ h. ap not h }
+
+unfoldable pub tested-le : (a b : ℕ) → Tested (a ≤ b)
+tested-le a b = record { test = leb a b; holds = leb-true a b; tests = le-leb a b }
+
+unfoldable pub tested-lt : (a b : ℕ) → Tested (a < b)
+tested-lt a b = record { test = ltb a b; holds = ltb-true a b; tests = lt-ltb a b }
+
+module _ {P Q : Type 0} where
+  -- for two facts together
+  unfoldable pub tested-both : Tested P → Tested Q → Tested (P × Q)
+  tested-both p q =
+      record {
+        test = p .test && q .test;
+        holds = λ e. (p .holds (and-fst (p .test) (q .test) e), q .holds (and-snd (p .test) (q .test) e));
+        tests = λ h. and-yes (p .tests (h .0)) (q .tests (h .1));
+      }
+
+  -- for what comes to the same
+  unfoldable pub tested-as : (P → Q) → (Q → P) → Tested P → Tested Q
+  tested-as to from p = record { test = p .test; holds = λ e. to (p .holds e); tests = λ h. p .tests (from h) }
+
+-- for a fact of each element
+unfoldable pub tested-all : {A : Type 0} (P : A → Type 0) → ((x : A) → Tested (P x)) → (xs : List A) → Tested (All P xs)
+tested-all P f [] = tested-none
+tested-all P f (x ∷ xs) = tested-both (f x) (tested-all P f xs)
+
+-- for each part of a model
+unfoldable pub tested-numbered : (most : ℕ) (xs : List ℕ) → Tested (Numbered most xs)
+tested-numbered most xs =
+    tested-as (λ t. record { few = t .0; words = t .1 .0; ascend = t .1 .1 }) (λ h. (h .few, (h .words, h .ascend)))
+    (tested-both (tested-le (length xs) most) (tested-both (tested-all Word (λ n. tested-lt n (2 ^ 32)) xs) (tested-true (ascends ltb xs))))
+
+unfoldable pub tested-part : (p : Part) → Tested (NumberedPart p)
+tested-part (Part.listed xs) = tested-numbered most-listed xs
+tested-part Part.everything = tested-none
+
+unfoldable pub tested-bundle : (rs : List ℕ) (b : Bundle) → Tested (LegalBundle rs b)
+tested-bundle rs b =
+    tested-as (λ t. record { location = t .0; region = t .1 .0; packages = t .1 .1 .0; services = t .1 .1 .1 })
+    (λ h. (h .location, (h .region, (h .packages, h .services))))
+    (tested-both (tested-lt (b .location) (2 ^ 32))
+    (tested-both (tested-true (member (b .region) rs)) (tested-both (tested-numbered most-provided (b .packages)) (tested-numbered most-provided (b .services)))))
+
+unfoldable pub tested-filter : (f : Filter) → Tested (LegalFilter f)
+tested-filter f =
+    tested-as (λ t. record { bundles = t .0; packages = t .1 .0; services = t .1 .1 }) (λ h. (h .bundles, (h .packages, h .services)))
+    (tested-both (tested-numbered most-listed (f .bundles)) (tested-both (tested-part (f .packages)) (tested-part (f .services))))
+
+unfoldable pub tested-connection : (rs : List ℕ) (c : Connection) → Tested (LegalConnection rs c)
+tested-connection rs c =
+    tested-as (λ t. record { source = t .0; target = t .1 .0; differ = t .1 .1 .0; filter = t .1 .1 .1 })
+    (λ h. (h .source, (h .target, (h .differ, h .filter))))
+    (tested-both (tested-true (member (c .source) rs))
+    (tested-both (tested-true (member (c .target) rs)) (tested-both (tested-false (eqb (c .source) (c .target))) (tested-filter (c .filter)))))
+
+-- whether a model is legal
+unfoldable pub tested-legal : (m : Model) → Tested (Legal m)
+tested-legal m =
+    tested-as
+    (λ t. record {
+      region-numbers = t .0;
+      regions-ascend = t .1 .0;
+      bundles-few = t .1 .1 .0;
+      bundles-ascend = t .1 .1 .1 .0;
+      bundles-legal = t .1 .1 .1 .1 .0;
+      connections-few = t .1 .1 .1 .1 .1 .0;
+      connections-ascend = t .1 .1 .1 .1 .1 .1 .0;
+      connections-legal = t .1 .1 .1 .1 .1 .1 .1;
+    })
+    (λ h. (h .region-numbers, (h .regions-ascend, (h .bundles-few, (h .bundles-ascend, (h .bundles-legal, (h .connections-few, (h .connections-ascend, h .connections-legal))))))))
+    (tested-both (tested-all (λ r. r < regions) (λ r. tested-lt r regions) (m .regions))
+    (tested-both (tested-true (ascends ltb (m .regions)))
+    (tested-both (tested-le (length (m .bundles)) most-bundles)
+    (tested-both (tested-true (ascends bundle-before (m .bundles)))
+    (tested-both (tested-all (LegalBundle (m .regions)) (tested-bundle (m .regions)) (m .bundles))
+    (tested-both (tested-le (length (m .connections)) most-connections)
+    (tested-both (tested-true (ascends connection-before (m .connections))) (tested-all (LegalConnection (m .regions)) (tested-connection (m .regions)) (m .connections)))))))))

@@ -1,0 +1,24 @@
+use borrow.Author.Needs.{needs}
+use Rattle.region_archive.proofs.entries.order.Statement.{statement}
+use Rattle.region_archive.proofs.entries.order.Tie as tie
+
+enum-told : tie.Need-enum-told
+enum-told c = search needs
+
+enum-told-2 : tie.Need-enum-told-2
+enum-told-2 c = search needs
+
+mul-result : tie.Need-mul-result
+mul-result c = search needs
+
+add-result : tie.Need-add-result
+add-result c = search needs
+
+returns : tie.Need-returns
+returns c = search needs
+
+returns-2 : tie.Need-returns-2
+returns-2 c = rw (c .enum-told2 .given .1)
+
+pub order-spec : {M : Type 1} → statement M
+order-spec = tie.close (tie.spec enum-told enum-told-2 mul-result add-result returns returns-2)

@@ -1,0 +1,78 @@
+use mathlib.Core.Path.{_≡_, sym, ap, _∙_}
+use mathlib.Core.List.{[], _∷_}
+use Prim.Native.Nat.{ℕ, _+_, _-_, _≤_}
+use native.Mathlib.Omega.{arith}
+use borrow.Author.Needs.{needs}
+use lib.ListN.{length, length-append}
+use Rattle.region_graph.specs.Size.{regions}
+use Rattle.region_archive.proofs.Members.{met, met-took, met-left, met-all}
+use Rattle.region_archive.proofs.writing.region_count.Statement.{statement}
+use Rattle.region_archive.proofs.writing.region_count.Tie as tie
+
+abbrev Inv-loop : tie.InvT-loop
+Inv-loop set n₀ region₀ n region = (region ≤ regions) × (n ≡ length (met set region)) × (n ≤ region)
+
+abbrev μ-loop : tie.MeasureT-loop
+μ-loop set n₀ region₀ n region = regions - region
+
+region-set-requires : tie.Need-region-set-requires Inv-loop μ-loop
+region-set-requires c κs = search needs
+
+loop-holds : tie.Need-loop-holds Inv-loop μ-loop
+loop-holds c = search needs
+
+cast-loop : tie.Need-cast-loop Inv-loop μ-loop
+cast-loop c = search needs
+
+has-requires : tie.Need-has-requires Inv-loop μ-loop
+has-requires c κs = search needs
+
+add-region : tie.Need-add-region Inv-loop μ-loop
+add-region c = search needs
+
+add-n : tie.Need-add-n Inv-loop μ-loop
+add-n c = search needs
+
+loop-less : tie.Need-loop-less Inv-loop μ-loop
+loop-less c = search needs
+
+loop-again : tie.Need-loop-again Inv-loop μ-loop
+loop-again c =
+    let x = c .before .before .before .before .region-set .result in
+    let l = c .before .before .before .loop in (
+      omega arith,
+      ap (λ (n : ℕ). n + 1) (l .inv .1) ∙ sym (ap length (met-took x (l .region) (omega arith) (sym (c .before .has .ensures) ∙ c .if1 .taken)) ∙ length-append (met x (l .region)) (l .region ∷ [])),
+      omega arith,
+    )
+
+loop-less-2 : tie.Need-loop-less-2 Inv-loop μ-loop
+loop-less-2 c = search needs
+
+loop-again-2 : tie.Need-loop-again-2 Inv-loop μ-loop
+loop-again-2 c =
+    let l = c .before .before .before .loop in
+    (omega arith, l .inv .1 ∙ sym (ap length (met-left (c .before .before .before .before .region-set .result) (l .region) (omega arith) (sym (c .before .has .ensures) ∙ c .if1 .left))), omega arith)
+
+returns : tie.Need-returns Inv-loop μ-loop
+returns c =
+    let s = c .before .before .before in
+    let l = c .before .loop in
+    (l .inv .1 ∙ ap length (met-all (s .args .graph) (s .pre) (c .before .before .region-set .ensures) (l .region) (omega arith)), omega arith)
+
+pub region-count-spec : {M : Type 1} → statement M
+region-count-spec =
+    tie.close
+    (tie.spec
+    Inv-loop
+    μ-loop
+    region-set-requires
+    loop-holds
+    cast-loop
+    has-requires
+    add-region
+    add-n
+    loop-less
+    loop-again
+    loop-less-2
+    loop-again-2
+    returns)

@@ -1,0 +1,162 @@
+-- A record of an archive as its fields: two numbers, then parts. The record of a bundle has four fields, that of a connection five.
+use mathlib.Core.Path.{_≡_}
+use mathlib.Core.List.{List, [], _∷_, _++_, map}
+use Prim.Native.Nat.{ℕ, zero, suc, _+_, _*_, _≤_, _<_, _^_}
+use lib.ListN.{length, getD}
+use Rattle.region_graph.specs.Size.{most-listed, most-bundles, most-connections}
+use Rattle.region_graph.specs.Lists.{All}
+use Rattle.region_graph.specs.Model.{Model, Bundle, Part, Connection, Word, LegalBundle, LegalConnection}
+use Rattle.region_graph.specs.Calls.{Call}
+use Rattle.region_graph.specs.Record.{part-in}
+use Rattle.region_graph.specs.Promise.{bundle-at, connection-at}
+use Rattle.region_graph.specs.declared.numbers.Numbers.{Numbers}
+use Rattle.region_graph.specs.declared.bundles.StoredBundle.{StoredBundle}
+use Rattle.region_graph.specs.declared.connections.StoredPart.{StoredPart}
+use Rattle.region_graph.specs.declared.connections.StoredConnection.{StoredConnection}
+use Rattle.region_archive.specs.Bytes.{big, counted, sized}
+use Rattle.region_archive.specs.Image.{part-bytes}
+use Rattle.region_archive.specs.declared.entries.Entry.{Entry}
+use Rattle.region_archive.specs.declared.entries.Section.{Section}
+use Rattle.region_archive.specs.declared.entries.Section.the-variants as Section
+
+-- values whose bytes are those of fields, one after the other: their first k fields
+module _ {A : Type 0} where
+  abbrev pub GoodTo : (ℕ → A → Type 0) → ℕ → A → Type 0
+  GoodTo good zero x = Unit {0}
+  GoodTo good (suc k) x = GoodTo good k x × good k x
+
+  abbrev pub bytes-to : (ℕ → A → List ℕ) → ℕ → A → List ℕ
+  bytes-to bytes zero x = []
+  bytes-to bytes (suc k) x = bytes-to bytes k x ++ bytes k x
+
+  abbrev pub SameTo : (ℕ → A → A → Type 0) → ℕ → A → A → Type 0
+  SameTo same zero x y = Unit {0}
+  SameTo same (suc k) x y = SameTo same k x y × same k x y
+
+pub record Fields : Type 0 where
+  pub first : ℕ
+  pub second : ℕ
+  pub parts : List Part
+
+abbrev pub part-at : Fields → ℕ → Part
+part-at f k = getD (f .parts) k (Part.listed [])
+
+-- a list and a part as they can stand in an archive
+pub record Listed (xs : List ℕ) : Type 0 where
+  pub few : length xs ≤ most-listed
+  pub words : All Word xs
+
+abbrev pub ListedPart : Part → Type 0
+ListedPart (Part.listed xs) = Listed xs
+ListedPart Part.everything = Unit {0}
+
+-- the bytes of a record's first number, and the count of its fields
+abbrev pub first-width : Section → ℕ
+first-width Section.Bundles = 4
+first-width Section.Connections = 1
+
+abbrev pub field-count : Section → ℕ
+field-count Section.Bundles = 4
+field-count Section.Connections = 5
+
+module _ (s : Section) where
+  abbrev pub FieldGood : ℕ → Fields → Type 0
+  FieldGood zero f = f .first < 256 ^ first-width s
+  FieldGood (suc zero) f = f .second < 256
+  FieldGood (suc (suc k)) f = ListedPart (part-at f k)
+
+  abbrev pub field-bytes : ℕ → Fields → List ℕ
+  field-bytes zero f = big (first-width s) (f .first)
+  field-bytes (suc zero) f = big 1 (f .second)
+  field-bytes (suc (suc k)) f = part-bytes (big 4) (part-at f k)
+
+  abbrev pub fields-bytes : Fields → List ℕ
+  fields-bytes f = bytes-to field-bytes (field-count s) f
+
+abbrev pub FieldSame : ℕ → Fields → Fields → Type 0
+FieldSame zero x y = x .first ≡ y .first
+FieldSame (suc zero) x y = x .second ≡ y .second
+FieldSame (suc (suc k)) x y = part-at x k ≡ part-at y k
+
+-- what the two sections have, and the fields of each element
+abbrev pub Elem : Section → Type 0
+Elem Section.Bundles = Bundle
+Elem Section.Connections = Connection
+
+abbrev pub fields-of : (s : Section) → Elem s → Fields
+fields-of Section.Bundles b =
+    record { first = b .location; second = b .region; parts = Part.listed (b .packages) ∷ Part.listed (b .services) ∷ [] }
+fields-of Section.Connections c =
+    record { first = c .source; second = c .target; parts = Part.listed (c .filter .bundles) ∷ c .filter .packages ∷ c .filter .services ∷ [] }
+
+abbrev pub record-bytes : (s : Section) → Elem s → List ℕ
+record-bytes s x = sized 2 (λ y. fields-bytes s (fields-of s y)) x
+
+-- by which the elements ascend
+abbrev pub field-key : Section → ℕ → ℕ → ℕ
+field-key Section.Bundles first second = first
+field-key Section.Connections first second = first * 256 + second
+
+abbrev pub key : (s : Section) → Elem s → ℕ
+key s x = field-key s (fields-of s x .first) (fields-of s x .second)
+
+abbrev pub most : Section → ℕ
+most Section.Bundles = most-bundles
+most Section.Connections = most-connections
+
+abbrev pub LegalElem : (s : Section) → List ℕ → Elem s → Type 0
+LegalElem Section.Bundles rs b = LegalBundle rs b
+LegalElem Section.Connections rs c = LegalConnection rs c
+
+-- the model with these elements in the section, those before it as they are, and nothing in the one after it
+abbrev pub filled : (s : Section) → Model → List (Elem s) → Model
+filled Section.Bundles m bs = record { regions = m .regions; bundles = bs; connections = [] }
+filled Section.Connections m cs = record { regions = m .regions; bundles = m .bundles; connections = cs }
+
+abbrev pub elements : (s : Section) → Model → List (Elem s)
+elements Section.Bundles m = m .bundles
+elements Section.Connections m = m .connections
+
+abbrev pub element-at : (s : Section) → Model → ℕ → Elem s
+element-at Section.Bundles m i = bundle-at m i
+element-at Section.Connections m i = connection-at m i
+
+abbrev pub section-bytes : (s : Section) → Model → List ℕ
+section-bytes s m = counted (record-bytes s) (elements s m)
+
+abbrev pub call : (s : Section) → Elem s → Call
+call Section.Bundles b = Call.install b
+call Section.Connections c = Call.connect c
+
+-- the engine's value of a record
+pub record NumbersFit (n : Numbers) : Type 0 where
+  pub count : n .count ≤ most-listed
+  pub size : length (n .items) ≡ most-listed
+
+abbrev pub PartFits : StoredPart → Type 0
+PartFits p = NumbersFit (p .numbers)
+
+pub record BundleFits (b : StoredBundle) : Type 0 where
+  pub packages : NumbersFit (b .packages)
+  pub services : NumbersFit (b .services)
+
+pub record ConnectionFits (c : StoredConnection) : Type 0 where
+  pub bundles : NumbersFit (c .bundles)
+  pub packages : PartFits (c .packages)
+  pub services : PartFits (c .services)
+
+pub record EntryFits (e : Entry) : Type 0 where
+  pub size : length (e .parts) ≡ 3
+  pub each : All PartFits (e .parts)
+
+abbrev pub fields-in : Entry → Fields
+fields-in e = record { first = e .first; second = e .second; parts = map part-in (e .parts) }
+
+-- two values have the same fields
+abbrev pub SameFields : Section → Fields → Fields → Type 0
+SameFields s x y = SameTo FieldSame (field-count s) x y
+
+-- the value has the fields of an element
+pub record EntryIs (s : Section) (e : Entry) (x : Elem s) : Type 0 where
+  pub fits : EntryFits e
+  pub same : SameFields s (fields-in e) (fields-of s x)

@@ -1,0 +1,11 @@
+-- What a reader must believe of the archive, in document 01's order.
+pub mod Bytes
+pub mod Image
+pub mod File
+pub mod Promise
+pub mod Decimal
+pub mod Listing
+pub mod Rows
+pub mod Entries
+pub mod Sections
+pub mod Counts

@@ -1,0 +1,230 @@
+// The writer: the length of the image first, then its bytes.
+ghost use mathlib.Core.Path.{_≡_};
+ghost use Prim.Native.Nat.{_+_, _≤_};
+ghost use lib.ListN.{length};
+ghost use Rattle.region_graph.specs.Record.{Valid, meaning, «numbers-of», «part-in»};
+ghost use Rattle.region_archive.specs.Bytes.{big, counted, sized};
+ghost use Rattle.region_archive.specs.Image.{«part-bytes»};
+ghost use Rattle.region_archive.specs.Rows.{Wrote};
+ghost use Rattle.region_archive.specs.Entries.{NumbersFit, PartFits, EntryFits, «fields-in», «field-bytes», «fields-bytes», «field-count», «section-bytes»};
+ghost use Rattle.region_archive.specs.Promise.{wrote, «write-outcome»};
+use crate::FRONT;
+use crate::VERSION;
+use crate::Written;
+use crate::entries::Entry;
+use crate::entries::Section;
+use crate::entries::count;
+use crate::entries::entry_at;
+use crate::entries::fields;
+use crate::entries::first_width;
+use crate::numbers::put_number;
+use region_graph::Graph;
+use region_graph::Numbers;
+use region_graph::StoredPart;
+use region_graph::refusals::NO_PLACE;
+use region_graph::region_set::has;
+use region_graph::size::REGIONS;
+
+// How many bytes a part takes.
+fn part_size(part: StoredPart) -> usize
+    requires { ⌜ PartFits part ⌝ }
+    ensures { λ r. ⌜ (r ≡ length (part-bytes (big 4) (part-in part))) × (r ≤ 65) ⌝ }
+{
+    if part.all {
+        return 1;
+    }
+    let numbers = part.numbers;
+    1 + numbers.count * 4
+}
+
+// How many bytes a field of a record takes.
+fn field_size(section: Section, field: usize, entry: Entry) -> usize
+    requires { ⌜ EntryFits entry ⌝ }
+    requires { ⌜ field + 1 ≤ field-count section ⌝ }
+    ensures { λ r. ⌜ (r ≡ length (field-bytes section field (fields-in entry))) × (r ≤ 65) ⌝ }
+{
+    match field {
+        0 => first_width(section),
+        1 => 1,
+        _ => {
+            let part = entry.parts[field - 2];
+            part_size(part)
+        }
+    }
+}
+
+// How many bytes the fields of a record take.
+fn fields_size(section: Section, entry: Entry) -> usize
+    requires { ⌜ EntryFits entry ⌝ }
+    ensures { λ r. ⌜ (r ≡ length (fields-bytes section (fields-in entry))) × (r ≤ 325) ⌝ }
+{
+    let total = fields(section);
+    let mut size: usize = 0;
+    let mut field: usize = 0;
+    while field < total {
+        size += field_size(section, field, entry);
+        field += 1;
+    }
+    size
+}
+
+// How many bytes a section takes.
+fn section_size(graph: Graph, section: Section) -> usize
+    requires { ⌜ Valid graph ⌝ }
+    ensures { λ r. ⌜ (r ≡ length (section-bytes section (meaning graph))) × (r ≤ 20929) ⌝ }
+{
+    let total = count(graph, section);
+    let mut size: usize = 1;
+    let mut i: usize = 0;
+    while i < total {
+        let entry = entry_at(graph, section, i);
+        i += 1;
+        size += 2 + fields_size(section, entry);
+    }
+    size
+}
+
+// How many regions a graph has.
+fn region_count(graph: Graph) -> usize
+    requires { ⌜ Valid graph ⌝ }
+    ensures { λ r. ⌜ (r ≡ length (meaning graph .regions)) × (r ≤ 16) ⌝ }
+{
+    let set = graph.region_set();
+    let mut n: usize = 0;
+    let mut region: u32 = 0;
+    while (region as usize) < REGIONS {
+        let held = has(set, region);
+        region += 1;
+        if held {
+            n += 1;
+        }
+    }
+    n
+}
+
+// A list: its count, then its numbers.
+fn put_list(buffer: &mut [u8], at: usize, list: Numbers) -> usize
+    requires { ⌜ NumbersFit list ⌝ }
+    requires { ⌜ at + length (counted (big 4) (numbers-of list)) ≤ length (now buffer) ⌝ }
+    ensures { λ r. ⌜ Wrote (now (buffer .entry)) (now (buffer .exit)) at (counted (big 4) (numbers-of list)) r ⌝ }
+{
+    let total = list.count;
+    let mut to = put_number(buffer, at, 1, total);
+    let mut i: usize = 0;
+    while i < total {
+        to = put_number(buffer, to, 4, list.items[i] as usize);
+        i += 1;
+    }
+    to
+}
+
+// A part: a list, or the sign for everything.
+fn put_part(buffer: &mut [u8], at: usize, part: StoredPart) -> usize
+    requires { ⌜ PartFits part ⌝ }
+    requires { ⌜ at + length (part-bytes (big 4) (part-in part)) ≤ length (now buffer) ⌝ }
+    ensures { λ r. ⌜ Wrote (now (buffer .entry)) (now (buffer .exit)) at (part-bytes (big 4) (part-in part)) r ⌝ }
+{
+    if part.all {
+        return put_number(buffer, at, 1, 255);
+    }
+    let numbers = part.numbers;
+    put_list(buffer, at, numbers)
+}
+
+// A field of a record.
+fn put_field(buffer: &mut [u8], at: usize, section: Section, field: usize, entry: Entry) -> usize
+    requires { ⌜ EntryFits entry ⌝ }
+    requires { ⌜ (field + 1 ≤ field-count section) × (at + length (field-bytes section field (fields-in entry)) ≤ length (now buffer)) ⌝ }
+    ensures { λ r. ⌜ Wrote (now (buffer .entry)) (now (buffer .exit)) at (field-bytes section field (fields-in entry)) r ⌝ }
+{
+    match field {
+        0 => {
+            let first = entry.first as usize;
+            let width = first_width(section);
+            put_number(buffer, at, width, first)
+        }
+        1 => {
+            let second = entry.second as usize;
+            put_number(buffer, at, 1, second)
+        }
+        _ => {
+            let part = entry.parts[field - 2];
+            put_part(buffer, at, part)
+        }
+    }
+}
+
+// A record: the length of its fields, then the fields.
+fn put_entry(buffer: &mut [u8], at: usize, section: Section, entry: Entry) -> usize
+    requires { ⌜ EntryFits entry ⌝ }
+    requires { ⌜ at + length (sized 2 (fields-bytes section) (fields-in entry)) ≤ length (now buffer) ⌝ }
+    ensures { λ r. ⌜ Wrote (now (buffer .entry)) (now (buffer .exit)) at (sized 2 (fields-bytes section) (fields-in entry)) r ⌝ }
+{
+    let size = fields_size(section, entry);
+    let total = fields(section);
+    let mut to = put_number(buffer, at, 2, size);
+    let mut field: usize = 0;
+    while field < total {
+        to = put_field(buffer, to, section, field, entry);
+        field += 1;
+    }
+    to
+}
+
+// A section: the count of its records, then the records.
+fn put_section(buffer: &mut [u8], at: usize, graph: Graph, section: Section) -> usize
+    requires { ⌜ Valid graph ⌝ }
+    requires { ⌜ at + length (section-bytes section (meaning graph)) ≤ length (now buffer) ⌝ }
+    ensures { λ r. ⌜ Wrote (now (buffer .entry)) (now (buffer .exit)) at (section-bytes section (meaning graph)) r ⌝ }
+{
+    let total = count(graph, section);
+    let mut to = put_number(buffer, at, 1, total);
+    let mut i: usize = 0;
+    while i < total {
+        let entry = entry_at(graph, section, i);
+        to = put_entry(buffer, to, section, entry);
+        i += 1;
+    }
+    to
+}
+
+// The regions: their count, then their numbers.
+fn put_regions(buffer: &mut [u8], at: usize, graph: Graph) -> usize
+    requires { ⌜ Valid graph ⌝ }
+    requires { ⌜ at + length (counted (big 1) (meaning graph .regions)) ≤ length (now buffer) ⌝ }
+    ensures { λ r. ⌜ Wrote (now (buffer .entry)) (now (buffer .exit)) at (counted (big 1) (meaning graph .regions)) r ⌝ }
+{
+    let set = graph.region_set();
+    let total = region_count(graph);
+    let mut to = put_number(buffer, at, 1, total);
+    let mut region: u32 = 0;
+    while (region as usize) < REGIONS {
+        let held = has(set, region);
+        let number = region as usize;
+        region += 1;
+        if held {
+            to = put_number(buffer, to, 1, number);
+        }
+    }
+    to
+}
+
+// The image of a graph at the buffer's start.
+pub fn write(graph: Graph, buffer: &mut [u8]) -> Written
+    requires { ⌜ Valid graph ⌝ }
+    ensures { λ r. ⌜ wrote r (now (buffer .exit)) ≡ write-outcome (meaning graph) (now (buffer .entry)) ⌝ }
+{
+    let regions = region_count(graph);
+    let bundles = section_size(graph, Section::Bundles);
+    let connections = section_size(graph, Section::Connections);
+    let size = 1 + regions + bundles + connections;
+    if buffer.len() < size + FRONT {
+        return Written::Refused(NO_PLACE);
+    }
+    let a = put_number(buffer, 0, 1, VERSION);
+    let b = put_number(buffer, a, 4, size);
+    let c = put_regions(buffer, b, graph);
+    let d = put_section(buffer, c, graph, Section::Bundles);
+    let end = put_section(buffer, d, graph, Section::Connections);
+    Written::Bytes(end)
+}

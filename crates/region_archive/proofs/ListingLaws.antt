@@ -218,9 +218,10 @@ text-fits f = go (eqb (read-number f) not-refused)
     go true = listing-fits (sets f) (sets-legal f)
     go false = refusal-fits (read-number f)
 
--- what a listing hands back lies within its places
-pub listed-inside : (s : List ℕ) (r : Text) → Lists s r → r .length ≤ longest-text
+-- the text of a listing stands in its places
+pub listed-inside : (s : List ℕ) (r : Text) → Lists s r → r .length ≤ length (r .bytes)
 unfolding store-text
 listed-inside s r l =
-    let f = file-meaning s in
-    omega (arith, ap (λ (t : Text). t .length) (l f), text-fits f)
+    let t = file-text (file-meaning s) in
+    let e = l (file-meaning s) in
+    omega (arith, ap (λ (t : Text). t .length) e, ap (λ (t : Text). length (t .bytes)) e, length-append t (replicate (longest-text - length t) 0))

@@ -7,8 +7,8 @@ use native.Mathlib.Omega.{arith}
 use lib.ListN.{length, drop, length-append, length-drop}
 use Rattle.region_graph.specs.Lists.{All}
 use Rattle.region_archive.specs.Bytes.{big, each, counted, sized}
-use Rattle.region_archive.specs.Rows.{Ascends, floor-of, Row, Parsed, Unparsed}
-use Rattle.region_archive.proofs.Pieces.{all-append, all-back, ascends-append, ascends-back, floor-snoc, each-snoc}
+use Rattle.region_archive.specs.Rows.{Ascends, Row, Parsed, Unparsed}
+use Rattle.region_archive.proofs.Pieces.{floor-of, all-append, all-back, ascends-append, ascends-back, floor-snoc, each-snoc}
 
 -- the bytes of good values, whatever follows them, tell the values apart and where they end
 abbrev pub Delimits : {A : Type 0} → (A → Type 0) → (A → List ℕ) → (A → A → Type 0) → Type 0

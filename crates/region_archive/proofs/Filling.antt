@@ -13,11 +13,12 @@ use Rattle.region_graph.specs.Promise.{Follows}
 use Rattle.region_graph.specs.declared.Graph.{Graph}
 use Rattle.region_graph.specs.declared.Changed.{Changed}
 use Rattle.region_archive.specs.Bytes.{counted}
-use Rattle.region_archive.specs.Rows.{Parsed, Unparsed, Ascends, floor-of, Row}
+use Rattle.region_archive.specs.Rows.{Parsed, Unparsed, Ascends, Row}
 use Rattle.region_archive.specs.Sections.{Stands, StandsOr}
 use Rattle.region_archive.specs.declared.sections.SectionAt.{SectionAt}
 use Rattle.region_archive.proofs.Delimits.{Delimits, Going, NoNext, going-none, going-more, row-parsed, row-stuck}
 use Rattle.region_archive.proofs.Answers.{Count, count-byte}
+use Rattle.region_archive.proofs.Pieces.{floor-of}
 
 module _ {A : Type 0} (good : A → Type 0) (bytes : A → List ℕ) (delim : Delimits good bytes _≡_) (key : A → ℕ) (most : ℕ) (small : most < 256) (with : List A → Model)
     (call : A → Call)

@@ -12,8 +12,13 @@ use lib.Seq.{take-suc, take-all}
 use Rattle.region_graph.specs.Lists.{All, keep, count-from}
 use Rattle.region_graph.proofs.Lists.{keep-append, keep-took, keep-left}
 use Rattle.region_archive.specs.Bytes.{big, each}
-use Rattle.region_archive.specs.Rows.{Ascends, floor-of}
+use Rattle.region_archive.specs.Rows.{Ascends}
 use Rattle.region_archive.specs.Entries.{bytes-to}
+
+-- the least key that may come after a list
+abbrev pub floor-of : {A : Type 0} → (A → ℕ) → ℕ → List A → ℕ
+floor-of key n [] = n
+floor-of key n (x ∷ xs) = floor-of key (key x + 1) xs
 
 module _ {A : Type 0} where
   pub all-append : (P : A → Type 0) (xs ys : List A) → All P xs → All P ys → All P (xs ++ ys)

@@ -14,11 +14,11 @@ use Rattle.region_graph.specs.declared.Graph.{Graph}
 use Rattle.region_graph.proofs.Lists.{all-map}
 use Rattle.region_graph.proofs.Legal.{legal-nothing, legal-run}
 use Rattle.region_graph.proofs.Storing.{stores-valid}
-use Rattle.region_archive.specs.Rows.{Ascends, floor-of, Row}
+use Rattle.region_archive.specs.Rows.{Ascends, Row}
 use Rattle.region_archive.specs.Entries.{Elem, key, most, LegalElem, filled, elements, call}
 use Rattle.region_archive.specs.declared.entries.Section.{Section}
 use Rattle.region_archive.specs.declared.entries.Section.the-variants as Section
-use Rattle.region_archive.proofs.Pieces.{all-append, all-front, all-back, ascends-back}
+use Rattle.region_archive.proofs.Pieces.{floor-of, all-append, all-front, all-back, ascends-back}
 use Rattle.region_archive.proofs.Taking.{only, region-taken, region-joined, taken, joined, legal-rows, rows-legal}
 
 -- calls one after the other

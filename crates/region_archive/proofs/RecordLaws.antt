@@ -12,13 +12,13 @@ use Rattle.region_graph.proofs.Lists.{member-all}
 use Rattle.region_archive.specs.Bytes.{big, each, counted}
 use Rattle.region_archive.specs.Image.{part-bytes}
 use Rattle.region_archive.specs.Rows.{Parsed, Answer}
-use Rattle.region_archive.specs.Entries.{GoodTo, bytes-to, SameTo, Fields, Listed, ListedPart, part-at, first-width, field-count, FieldGood, field-bytes, fields-bytes, FieldSame, SameFields, Elem, fields-of, record-bytes, LegalElem}
+use Rattle.region_archive.specs.Entries.{bytes-to, SameTo, Fields, Listed, ListedPart, part-at, first-width, field-count, FieldGood, field-bytes, fields-bytes, FieldSame, SameFields, Elem, fields-of, record-bytes, LegalElem}
 use Rattle.region_archive.specs.declared.entries.Section.{Section}
 use Rattle.region_archive.specs.declared.entries.Section.the-variants as Section
 use Rattle.region_archive.proofs.Pieces.{big-length, each-length}
 use Rattle.region_archive.proofs.Delimits.{Delimits, big-same, counted-same, head-same, tail-same, sized-same}
 use Rattle.region_archive.proofs.Digits.{drop-byte}
-use Rattle.region_archive.proofs.FieldLaws.{to-same, to-moves}
+use Rattle.region_archive.proofs.FieldLaws.{GoodTo, to-same, to-moves}
 use Rattle.region_archive.proofs.Sizes.{few-fields}
 use Rattle.region_archive.proofs.Answers.{list-words}
 

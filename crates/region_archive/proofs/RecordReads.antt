@@ -17,7 +17,7 @@ use Rattle.region_graph.specs.declared.Graph.{Graph}
 use Rattle.region_graph.specs.declared.Changed.{Changed}
 use Rattle.region_archive.specs.Bytes.{big}
 use Rattle.region_archive.specs.Rows.{Parsed, Unparsed, Answer, Row}
-use Rattle.region_archive.specs.Entries.{GoodTo, bytes-to, SameTo, Fields, field-count, FieldGood, field-bytes, fields-bytes, FieldSame, SameFields, Elem, fields-of, record-bytes, key, field-key, most, LegalElem, filled, call, EntryFits, fields-in}
+use Rattle.region_archive.specs.Entries.{bytes-to, SameTo, Fields, field-count, FieldGood, field-bytes, fields-bytes, FieldSame, SameFields, Elem, fields-of, record-bytes, key, field-key, most, LegalElem, filled, call, EntryFits, fields-in}
 use Rattle.region_archive.specs.Sections.{FieldRead, Took, called, unlike, SectionRead}
 use Rattle.region_archive.specs.declared.numbers.NumberAt.{NumberAt}
 use Rattle.region_archive.specs.declared.entries.Entry.{Entry}
@@ -26,7 +26,7 @@ use Rattle.region_archive.specs.declared.entries.Section.{Section}
 use Rattle.region_archive.specs.declared.entries.Section.the-variants as Section
 use Rattle.region_archive.proofs.Pieces.{big-length}
 use Rattle.region_archive.proofs.Delimits.{NoNext, big-same}
-use Rattle.region_archive.proofs.FieldLaws.{to-none, to-more, to-stuck, to-all}
+use Rattle.region_archive.proofs.FieldLaws.{GoodTo, to-none, to-more, to-stuck, to-all}
 use Rattle.region_archive.proofs.RecordLaws.{field-same, field-moves, fields-same, fields-small, same-bytes, same-element, same-back, same-then, element-good, element-same}
 use Rattle.region_archive.proofs.Answers.{answer-stands, answer-fails, count-stands, no-count}
 use Rattle.region_archive.proofs.Taking.{taken, joined, taken-legal}

@@ -16,11 +16,11 @@ use Rattle.region_graph.specs.Calls.{Call, Question, first-no, questions, numbe
 use Rattle.region_graph.proofs.Lists.{and-yes, and-left, and-right, and-fst, and-snd, pick-yes, all-map, all-both, member-all}
 use Rattle.region_graph.proofs.Ascending.{none-any}
 use Rattle.region_graph.proofs.Legal.{connectable}
-use Rattle.region_archive.specs.Rows.{Ascends, floor-of, Row}
+use Rattle.region_archive.specs.Rows.{Ascends, Row}
 use Rattle.region_archive.specs.Entries.{Elem, key, most, LegalElem, filled, elements, call}
 use Rattle.region_archive.specs.declared.entries.Section.{Section}
 use Rattle.region_archive.specs.declared.entries.Section.the-variants as Section
-use Rattle.region_archive.proofs.Pieces.{all-back}
+use Rattle.region_archive.proofs.Pieces.{floor-of, all-back}
 
 -- the order by a key: the test of neighbours, and the ascent from a floor
 

@@ -21,10 +21,6 @@ use Rattle.region_archive.specs.declared.entries.Section.the-variants as
 
 -- values whose bytes are those of fields, one after the other: their first k fields
 module _ {A : Type 0} where
-  abbrev pub GoodTo : (ℕ → A → Type 0) → ℕ → A → Type 0
-  GoodTo good zero x = Unit {0}
-  GoodTo good (suc k) x = GoodTo good k x × good k x
-
   abbrev pub bytes-to : (ℕ → A → List ℕ) → ℕ → A → List ℕ
   bytes-to bytes zero x = []
   bytes-to bytes (suc k) x = bytes-to bytes k x ++ bytes k x

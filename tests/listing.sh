@@ -19,9 +19,9 @@ expect() {
     fi
 }
 
-# COUNT: so many zero bytes
-zeros() {
-    head -c "$1" /dev/zero
+# COUNT: so many spaces, which are no archive's body
+spaces() {
+    printf "%${1}s" ''
 }
 
 header='asker region bundles packages services'
@@ -41,11 +41,11 @@ expect refused-17 examples/refused-17.archive 'refused 17'
 expect no-bytes "$work/none" 'refused 15'
 
 # a whole input of 65,536 bytes, with the length that goes with it
-{ printf '\001\000\000\377\373'; zeros 65531; } > "$work/whole"
+{ printf '\001\000\000\377\373'; spaces 65531; } > "$work/whole"
 expect 65536-bytes "$work/whole" 'refused 17'
 
 # one byte more: judged by its first 65,536, which have the right length
-{ cat "$work/whole"; zeros 1; } > "$work/over"
+{ cat "$work/whole"; spaces 1; } > "$work/over"
 expect 65537-bytes "$work/over" 'refused 17'
 
 # one byte less than the length says

@@ -23,7 +23,7 @@ put-refusal-requires c κs = search needs
 returns : tie.Need-returns
 returns c =
     λ f. text-stored (c .before .before .before .before .before .blank .ensures) (c .before .put-refusal .ensures)
-    ∙ ap store-text (refused-text f (c .before .before .before .before .before .before .read .ensures .says f .number) (c .before .before .before .if1 .taken))
+    ∙ ap store-text (refused-text f (c .before .before .before .before .before .before .read .ensures .says f .number) (λ z. omega (arith, z, c .before .before .before .if1 .taken)))
 
 slice-aggregate-put-listing : tie.Need-slice-aggregate-put-listing
 slice-aggregate-put-listing c = search needs

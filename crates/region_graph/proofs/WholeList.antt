@@ -1,5 +1,5 @@
 -- The claim about whole lists of changing calls.
-use mathlib.Core.Path.{_≡_, refl, sym, ap, _∙_}
+use mathlib.Core.Path.{_≡_, refl, ap, _∙_}
 use mathlib.Core.Bool.{Bool}
 use mathlib.Core.List.{List, [], _∷_}
 use Prim.Native.Nat.{ℕ}
@@ -66,10 +66,14 @@ pub record Means (g : Graph) (m : Model) : Type 0 where
   pub valid : Valid g
   pub sets : meaning g ≡ m
 
-pub change-means : (g h : Graph) (c : Call) (n : ℕ) (m : Model) → Means g m → Change g c n h → (n ≡ number m c) × Means h (after m c)
-change-means g h c n m t p =
-    let f = follows p in
+-- what every changing call promises keeps that, and gives the model's number
+pub follows-means : {g h : Graph} {c : Call} {n : ℕ} {m : Model} → Means g m → Follows g c (record { graph = h; number = n })
+    → (n ≡ number m c) × Means h (after m c)
+follows-means {c = c} t f =
     (f .number ∙ ap (λ (m : Model). number m c) (t .sets), record { valid = f .valid; sets = f .next ∙ ap (λ (m : Model). after m c) (t .sets) })
+
+pub change-means : (g h : Graph) (c : Call) (n : ℕ) (m : Model) → Means g m → Change g c n h → (n ≡ number m c) × Means h (after m c)
+change-means g h c n m t p = follows-means t (follows p)
 
 -- From the empty record, for every list of changing calls, refused ones included: the numbers are the model's, the last record means the
 -- model's last sets, and it is valid.

@@ -16,6 +16,7 @@ use crate::numbers::no_numbers;
 use crate::size::MOST_BUNDLES;
 use crate::size::MOST_PROVIDED;
 
+#[repr(C)]
 pub struct StoredBundle {
     pub location: u32,
     pub region: u32,
@@ -23,6 +24,7 @@ pub struct StoredBundle {
     pub services: Numbers,
 }
 
+#[repr(C)]
 pub struct Bundles {
     pub count: usize,
     pub items: [StoredBundle; MOST_BUNDLES],

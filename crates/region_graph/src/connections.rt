@@ -19,11 +19,13 @@ use crate::size::MOST_CONNECTIONS;
 use crate::size::MOST_LISTED;
 
 // A package or a service part of a filter: everything, or the numbers listed.
+#[repr(C)]
 pub struct StoredPart {
     pub all: bool,
     pub numbers: Numbers,
 }
 
+#[repr(C)]
 pub struct StoredConnection {
     pub source: u32,
     pub target: u32,
@@ -32,6 +34,7 @@ pub struct StoredConnection {
     pub services: StoredPart,
 }
 
+#[repr(C)]
 pub struct Connections {
     pub count: usize,
     pub items: [StoredConnection; MOST_CONNECTIONS],

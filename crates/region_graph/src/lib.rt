@@ -17,6 +17,7 @@ pub use connections::StoredPart;
 pub use numbers::Numbers;
 
 // R as a set, B and F in ascending order in the first places of their arrays.
+#[repr(C)]
 pub struct Graph {
     regions: u64,
     bundles: Bundles,

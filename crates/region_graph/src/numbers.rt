@@ -10,6 +10,7 @@ ghost use Rattle.region_graph.specs.Record.{«store-numbers», «numbers
 ghost use Rattle.region_graph.specs.Places.{NumbersStored};
 use crate::size::MOST_LISTED;
 
+#[repr(C)]
 pub struct Numbers {
     pub count: usize,
     pub items: [u32; MOST_LISTED],

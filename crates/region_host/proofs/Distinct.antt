@@ -1,0 +1,81 @@
+-- No two answers of a query are one number for C: what C reads back in the number is the answer.
+use mathlib.Core.Path.{_≡_, refl, sym, ap, _∙_}
+use native.Mathlib.Omega.{arith}
+use Prim.Native.Nat.{ℕ, zero, suc, _-_, _<_, _≤_}
+use lib.Dec.{eqb}
+use borrow.Author.Tests.{lt-ltb, le-ltb, ne-eqb}
+use Rattle.region_graph.specs.Lists.{pick}
+use Rattle.region_graph.proofs.Lists.{pick-no}
+use Rattle.region_routes.specs.declared.Routed.{Routed}
+use Rattle.region_routes.specs.declared.Routed.the-variants as Routed
+use Rattle.region_routes.specs.declared.Kept.{Kept}
+use Rattle.region_routes.specs.declared.Kept.the-variants as Kept
+use Rattle.region_archive.specs.Promise.{hidden}
+use Rattle.region_archive.specs.declared.Written.{Written}
+use Rattle.region_archive.specs.declared.Written.the-variants as Written
+use Rattle.region_host.specs.Answers.{minus, routed-value, kept-value, written-value, read-back, routed-of, kept-of, written-of}
+
+-- a list in memory has fewer than 2^63 places; the questions have numbers below that of "hidden"
+abbrev pub Counted : ℕ → Type 0
+Counted n = n < 9223372036854775808
+
+abbrev pub Numbered : ℕ → Type 0
+Numbered n = (0 < n) × (n ≤ 100)
+
+abbrev pub RoutedGiven : Routed → Type 0
+RoutedGiven Routed.Hidden = Unit {0}
+RoutedGiven (Routed.Count n) = Counted n
+RoutedGiven (Routed.Refused n) = Numbered n
+
+abbrev pub KeptGiven : Kept → Type 0
+KeptGiven (Kept.Wrote n) = Counted n
+KeptGiven (Kept.Refused n) = Numbered n
+
+abbrev pub WrittenGiven : Written → Type 0
+WrittenGiven (Written.Bytes n) = Counted n
+WrittenGiven (Written.Refused n) = Numbered n
+
+-- a number of the papers stands above every count, and is had back
+minus-is : (n : ℕ) → 0 < n → minus n ≡ 18446744073709551616 - n
+minus-is zero h = omega (arith, h)
+minus-is (suc n) h = refl
+
+module _ {A : Type 0} (count numbered : ℕ → A) where
+  count-back : (n : ℕ) → Counted n → read-back count numbered n ≡ count n
+  count-back n h = rw (lt-ltb n 9223372036854775808 h) refl
+
+  number-back : (n : ℕ) → 0 < n → n ≤ 101 → read-back count numbered (minus n) ≡ numbered n
+  number-back n h k =
+      rw (le-ltb (minus n) 9223372036854775808 (omega (arith, minus-is n h, k))) (ap numbered (omega (arith, minus-is n h, k)))
+
+-- a number that a route call gives below zero
+abbrev unseen : ℕ → Routed
+unseen n = pick (eqb n hidden) Routed.Hidden (Routed.Refused n)
+
+pub routed-back : (a : Routed) → RoutedGiven a → routed-of (routed-value a) ≡ a
+routed-back Routed.Hidden g = refl
+routed-back (Routed.Count n) g = count-back Routed.Count unseen n g
+routed-back (Routed.Refused n) g =
+    number-back Routed.Count unseen n (g .0) (omega (arith, g .1)) ∙ pick-no Routed.Hidden (Routed.Refused n) (ne-eqb n hidden (λ e. omega (arith, e, g .1)))
+
+pub kept-back : (a : Kept) → KeptGiven a → kept-of (kept-value a) ≡ a
+kept-back (Kept.Wrote n) g = count-back Kept.Wrote Kept.Refused n g
+kept-back (Kept.Refused n) g = number-back Kept.Wrote Kept.Refused n (g .0) (omega (arith, g .1))
+
+pub written-back : (a : Written) → WrittenGiven a → written-of (written-value a) ≡ a
+written-back (Written.Bytes n) g = count-back Written.Bytes Written.Refused n g
+written-back (Written.Refused n) g = number-back Written.Bytes Written.Refused n (g .0) (omega (arith, g .1))
+
+-- so two answers with one number are one
+distinct : {A : Type 0} {Given : A → Type 0} {value : A → ℕ} (of : ℕ → A) → ((a : A) → Given a → of (value a) ≡ a) → (a b : A) → Given a → Given b
+    → value a ≡ value b → a ≡ b
+distinct of back a b g h e = sym (back a g) ∙ ap of e ∙ back b h
+
+pub routed-distinct : (a b : Routed) → RoutedGiven a → RoutedGiven b → routed-value a ≡ routed-value b → a ≡ b
+routed-distinct = distinct routed-of routed-back
+
+pub kept-distinct : (a b : Kept) → KeptGiven a → KeptGiven b → kept-value a ≡ kept-value b → a ≡ b
+kept-distinct = distinct kept-of kept-back
+
+pub written-distinct : (a b : Written) → WrittenGiven a → WrittenGiven b → written-value a ≡ written-value b → a ≡ b
+written-distinct = distinct written-of written-back

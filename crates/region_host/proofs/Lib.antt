@@ -1,0 +1,9 @@
+pub mod Changing
+pub mod Distinct
+pub mod Filling
+pub mod Given
+pub mod Learnt
+pub mod Names
+pub mod Outcomes
+pub mod Parameters
+pub mod WholeList

@@ -1,0 +1,6 @@
+-- The names that the proofs of the calls on a lent record use.
+pub use mathlib.Core.Path.{refl}
+pub use mathlib.Core.List.{[], _∷_}
+pub use mir.Syntax.{w8, w32}
+pub use denote.Builtin.{u8, u32}
+pub use Rattle.region_host.proofs.Parameters.{number, flag, words}

@@ -1,0 +1,80 @@
+-- The outcome of a query, for C and back.
+use mathlib.Core.Path.{_≡_, refl, ap, _∙_}
+use mathlib.Core.Bool.{Bool, true, false}
+use mathlib.Core.List.{List, []}
+use mathlib.Core.Option.{Option, some, none}
+use Prim.Native.Nat.{ℕ}
+use lib.Dec.{eqb}
+use Rattle.region_graph.specs.Refusals.{not-refused}
+use Rattle.region_graph.specs.Lists.{pick, keep}
+use Rattle.region_graph.specs.Model.{Model}
+use Rattle.region_graph.specs.Calls.{first-no}
+use Rattle.region_graph.specs.Promise.{place-of}
+use Rattle.region_graph.specs.declared.Item.{Item}
+use Rattle.region_graph.specs.declared.Place.{Place}
+use Rattle.region_graph.specs.declared.Place.the-variants.{Within, Nowhere}
+use Rattle.region_routes.specs.Chosen.{chosen}
+use Rattle.region_routes.specs.Hooks.{Returned, Outcome, kind-number, item, routed-as, kept-as, route-questions, find-questions, event-questions, judged, shown, shown-from, route-outcome, kept-outcome, sees-from, find-outcome, event-outcome}
+use Rattle.region_routes.specs.declared.Kind.{Kind}
+use Rattle.region_routes.specs.declared.Routed.the-variants as Routed
+use Rattle.region_routes.specs.declared.Kept.the-variants as Kept
+use Rattle.region_host.specs.Answers.{Answered, answered, for-c}
+
+module _ {A : Type 0} where
+  -- what an answer is for C, with the buffer beside it
+  pub handed-on : (value : A → ℕ) {o p : Outcome A} {n : ℕ} → n ≡ value (o .answer) → o ≡ p → _≡_ {A = Answered} (answered n (o .exit)) (for-c value p)
+  handed-on value {o} e q = ap (λ (n : ℕ). answered n (o .exit)) e ∙ ap (for-c value) q
+
+  -- the number v is that of an answer of which P holds
+  pub record Of (value : A → ℕ) (v : ℕ) (P : A → Type 0) : Type 0 where
+    pub answer : A
+    pub number : v ≡ value answer
+    pub says : P answer
+
+  -- an outcome is an answer, what is returned for it, and a buffer
+  abbrev outcome : (A → Returned) → A → List ℕ → Outcome A
+  outcome gives a exit = record { answer = a; returned = gives a; exit = exit }
+
+  abbrev Whole : (A → Returned) → Outcome A → Type 0
+  Whole gives o = _≡_ {A = Outcome A} (outcome gives (o .answer) (o .exit)) o
+
+  -- what C gets tells the answer, with all that the outcome says
+  pub back : (gives : A → Returned) (value : A → ℕ) {o : Outcome A} {v : ℕ} {exit : List ℕ} → Whole gives o → _≡_ {A = Answered} (answered v exit) (for-c value o)
+      → Of value v (λ a. _≡_ {A = Outcome A} (outcome gives a exit) o)
+  back gives value {o} w e = record {
+    answer = o .answer;
+    number = ap (λ (x : Answered). x .value) e;
+    says = ap (λ (x : Answered). outcome gives (o .answer) (x .exit)) e ∙ w;
+  }
+
+  judged-whole : (gives : A → Returned) (refused : ℕ → A) → ((n : ℕ) → gives (refused n) ≡ record { number = n; values = [] }) → (n : ℕ) {o : Outcome A} (entry : List ℕ)
+      → Whole gives o → Whole gives (judged refused n o entry)
+  judged-whole gives refused r n {o} entry w = go (eqb n not-refused)
+    where
+      go : (b : Bool) → Whole gives (pick b o (record { answer = refused n; returned = record { number = n; values = [] }; exit = entry }))
+      go true = w
+      go false = ap (λ (t : Returned). record { answer = refused n; returned = t; exit = entry }) (r n)
+
+shown-whole : (x : Option (List ℕ)) (entry : List ℕ) → Whole routed-as (shown x entry)
+shown-whole none entry = refl
+shown-whole (some p) entry = refl
+
+shown-from-whole : (m : Model) (i : Item) (p : Place) (entry : List ℕ) → Whole routed-as (shown-from m i p entry)
+shown-from-whole m i (Within r) entry = shown-whole (chosen m i r) entry
+shown-from-whole m i Nowhere entry = refl
+
+pub route-whole : (m : Model) (l kind number : ℕ) (entry : List ℕ) → Whole routed-as (route-outcome m l kind number entry)
+route-whole m l kind number entry =
+    judged-whole routed-as Routed.Refused (λ n. refl) (first-no (route-questions m l kind entry)) entry
+    (shown-from-whole m (item kind number) (place-of (m .bundles) l) entry)
+
+kept-whole : (n : ℕ) (xs entry : List ℕ) → Whole kept-as (judged Kept.Refused n (kept-outcome xs entry) entry)
+kept-whole n xs entry = judged-whole kept-as Kept.Refused (λ n. refl) n {o = kept-outcome xs entry} entry refl
+
+pub find-whole : (m : Model) (k : Kind) (l : ℕ) (xs entry : List ℕ) → Whole kept-as (find-outcome m k l xs entry)
+find-whole m k l xs entry =
+    kept-whole (first-no (find-questions m l xs entry)) (keep (λ n. sees-from m (item (kind-number k) n) (place-of (m .bundles) l)) xs) entry
+
+pub event-whole : (m : Model) (k : Kind) (xs : List ℕ) (number : ℕ) (entry : List ℕ) → Whole kept-as (event-outcome m k xs number entry)
+event-whole m k xs number entry =
+    kept-whole (first-no (event-questions m xs entry)) (keep (λ l. sees-from m (item (kind-number k) number) (place-of (m .bundles) l)) xs) entry

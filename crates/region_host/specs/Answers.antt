@@ -1,0 +1,56 @@
+-- What a query answers, as one number for C. C reads the 64 digits as a signed number: a count as it is, and a number of the papers below zero.
+use mathlib.Core.List.{List}
+use Prim.Native.Nat.{ℕ, zero, suc, _-_}
+use lib.Dec.{eqb, ltb}
+use Rattle.region_graph.specs.Lists.{pick}
+use Rattle.region_routes.specs.Hooks.{Outcome}
+use Rattle.region_routes.specs.declared.Routed.{Routed}
+use Rattle.region_routes.specs.declared.Routed.the-variants as Routed
+use Rattle.region_routes.specs.declared.Kept.{Kept}
+use Rattle.region_routes.specs.declared.Kept.the-variants as Kept
+use Rattle.region_archive.specs.Promise.{hidden}
+use Rattle.region_archive.specs.declared.Written.{Written}
+use Rattle.region_archive.specs.declared.Written.the-variants as Written
+
+-- a number below zero, in two's complement
+abbrev pub minus : ℕ → ℕ
+minus zero = 0
+minus (suc n) = 18446744073709551616 - suc n
+
+abbrev pub routed-value : Routed → ℕ
+routed-value Routed.Hidden = minus hidden
+routed-value (Routed.Count n) = n
+routed-value (Routed.Refused n) = minus n
+
+abbrev pub kept-value : Kept → ℕ
+kept-value (Kept.Wrote n) = n
+kept-value (Kept.Refused n) = minus n
+
+abbrev pub written-value : Written → ℕ
+written-value (Written.Bytes n) = n
+written-value (Written.Refused n) = minus n
+
+-- what C reads in such a number: a count where it is not below zero, else a number of the papers
+abbrev pub read-back : {A : Type 0} → (ℕ → A) → (ℕ → A) → ℕ → A
+read-back count numbered v = pick (ltb v 9223372036854775808) (count v) (numbered (18446744073709551616 - v))
+
+abbrev pub routed-of : ℕ → Routed
+routed-of = read-back Routed.Count (λ n. pick (eqb n hidden) Routed.Hidden (Routed.Refused n))
+
+abbrev pub kept-of : ℕ → Kept
+kept-of = read-back Kept.Wrote Kept.Refused
+
+abbrev pub written-of : ℕ → Written
+written-of = read-back Written.Bytes Written.Refused
+
+-- the number that C gets, and the lent buffer as the call leaves it
+pub record Answered : Type 0 where
+  pub value : ℕ
+  pub exit : List ℕ
+
+abbrev pub answered : ℕ → List ℕ → Answered
+answered n exit = record { value = n; exit = exit }
+
+-- an outcome for C
+abbrev pub for-c : {A : Type 0} → (A → ℕ) → Outcome A → Answered
+for-c value o = answered (value (o .answer)) (o .exit)

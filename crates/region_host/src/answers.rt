@@ -1,0 +1,45 @@
+// What a query answers, as one number for C.
+ghost use mathlib.Core.Path.{_≡_};
+ghost use Rattle.region_host.specs.Answers.{minus, «routed-value», «kept-value», «written-value»};
+use region_archive::HIDDEN;
+use region_archive::Written;
+use region_routes::Kept;
+use region_routes::Routed;
+
+// A number below zero, in two's complement.
+fn minus(number: u32) -> u64
+    ensures { λ r. ⌜ r ≡ minus number ⌝ }
+{
+    if number == 0 {
+        return 0;
+    }
+    0xFFFFFFFFFFFFFFFF - (number as u64 - 1)
+}
+
+pub fn routed_value(answer: Routed) -> u64
+    ensures { λ r. ⌜ r ≡ routed-value answer ⌝ }
+{
+    match answer {
+        Routed::Hidden => minus(HIDDEN),
+        Routed::Count(count) => count as u64,
+        Routed::Refused(number) => minus(number),
+    }
+}
+
+pub fn kept_value(answer: Kept) -> u64
+    ensures { λ r. ⌜ r ≡ kept-value answer ⌝ }
+{
+    match answer {
+        Kept::Wrote(count) => count as u64,
+        Kept::Refused(number) => minus(number),
+    }
+}
+
+pub fn written_value(answer: Written) -> u64
+    ensures { λ r. ⌜ r ≡ written-value answer ⌝ }
+{
+    match answer {
+        Written::Bytes(count) => count as u64,
+        Written::Refused(number) => minus(number),
+    }
+}

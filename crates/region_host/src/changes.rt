@@ -1,0 +1,112 @@
+// The calls that change the lent record. Each puts a copy of the record to the call that takes it by value, stores the record that
+// this hands back, and returns its number.
+ghost use Rattle.region_graph.specs.Calls.{Call};
+ghost use Rattle.region_graph.specs.Record.{Valid};
+ghost use Rattle.region_graph.specs.Promise.{Empty, Follows, bundle, connection};
+ghost use Rattle.region_archive.specs.Promise.{ReadsOver};
+use region_archive::read_over;
+use region_graph::Changed;
+use region_graph::Graph;
+
+// Makes the record the one with nothing in it, whatever it was.
+#[no_mangle]
+pub extern "C" fn region_empty(graph: &mut Graph)
+    ensures { λ r. ⌜ Empty (now (graph .exit)) ⌝ }
+{
+    let empty = Graph::empty();
+    *graph = empty;
+}
+
+#[no_mangle]
+pub extern "C" fn region_add(graph: &mut Graph, region: u32) -> u32
+    requires { ⌜ Valid (now graph) ⌝ }
+    ensures { λ n. ⌜ Follows (now (graph .entry)) (Call.add-region region) (record { graph = now (graph .exit); number = n }) ⌝ }
+{
+    let changed = graph.add_region(region);
+    *graph = changed.graph;
+    changed.number
+}
+
+#[no_mangle]
+pub extern "C" fn region_remove(graph: &mut Graph, region: u32) -> u32
+    requires { ⌜ Valid (now graph) ⌝ }
+    ensures { λ n. ⌜ Follows (now (graph .entry)) (Call.remove-region region) (record { graph = now (graph .exit); number = n }) ⌝ }
+{
+    let changed = graph.remove_region(region);
+    *graph = changed.graph;
+    changed.number
+}
+
+#[no_mangle]
+pub extern "C" fn region_install(
+    graph: &mut Graph,
+    region: u32,
+    location: u32,
+    packages: &[u32],
+    services: &[u32],
+) -> u32
+    requires { ⌜ Valid (now graph) ⌝ }
+    ensures { λ n. ⌜ Follows (now (graph .entry)) (Call.install (bundle region location (now (packages .entry)) (now (services .entry)))) (record { graph = now (graph .exit); number = n }) ⌝ }
+{
+    let changed = graph.install(region, location, packages, services);
+    *graph = changed.graph;
+    changed.number
+}
+
+#[no_mangle]
+pub extern "C" fn region_uninstall(graph: &mut Graph, location: u32) -> u32
+    requires { ⌜ Valid (now graph) ⌝ }
+    ensures { λ n. ⌜ Follows (now (graph .entry)) (Call.uninstall location) (record { graph = now (graph .exit); number = n }) ⌝ }
+{
+    let changed = graph.uninstall(location);
+    *graph = changed.graph;
+    changed.number
+}
+
+#[no_mangle]
+pub extern "C" fn region_connect(
+    graph: &mut Graph,
+    source: u32,
+    target: u32,
+    bundles: &[u32],
+    all_packages: bool,
+    packages: &[u32],
+    all_services: bool,
+    services: &[u32],
+) -> u32
+    requires { ⌜ Valid (now graph) ⌝ }
+    ensures { λ n. ⌜ Follows (now (graph .entry)) (Call.connect (connection source target (now (bundles .entry)) «all_packages» (now (packages .entry)) «all_services» (now (services .entry)))) (record { graph = now (graph .exit); number = n }) ⌝ }
+{
+    let changed = graph.connect(
+        source,
+        target,
+        bundles,
+        all_packages,
+        packages,
+        all_services,
+        services,
+    );
+    *graph = changed.graph;
+    changed.number
+}
+
+#[no_mangle]
+pub extern "C" fn region_disconnect(graph: &mut Graph, source: u32, target: u32) -> u32
+    requires { ⌜ Valid (now graph) ⌝ }
+    ensures { λ n. ⌜ Follows (now (graph .entry)) (Call.disconnect source target) (record { graph = now (graph .exit); number = n }) ⌝ }
+{
+    let changed = graph.disconnect(source, target);
+    *graph = changed.graph;
+    changed.number
+}
+
+// The record becomes the graph whose image the bytes are; a refused read leaves it as it was.
+#[no_mangle]
+pub extern "C" fn region_read(graph: &mut Graph, bytes: &[u8]) -> u32
+    requires { ⌜ Valid (now graph) ⌝ }
+    ensures { λ n. ⌜ ReadsOver (now (graph .entry)) (now (bytes .entry)) (record { graph = now (graph .exit); number = n }) ⌝ }
+{
+    let changed = read_over(*graph, bytes);
+    *graph = changed.graph;
+    changed.number
+}

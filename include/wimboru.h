@@ -1,0 +1,211 @@
+/*
+ * The region graph for a host in C: regions, bundles, filtered connections, routes, hooks and archives.
+ * "Document 01" is the paper of that name in README.md; the questions by which calls refuse are its questions.
+ *
+ * The record
+ *   A host lends a record (region_graph) to each call. A record starts with region_empty, whatever its memory held before; no
+ *   other call may be given a record that did not. From then on only the calls below write it. It has no pointers: a copy of a
+ *   record is a record of its own.
+ *
+ * Lists and buffers
+ *   A list or a buffer is a pointer and the count of its elements. Where the count is 0 the pointer may be NULL. The pointer of
+ *   a record may not. Input lists are only read, and may overlap one another. A buffer that is written may overlap neither an
+ *   input list nor the record, and a record that is changed may overlap no input list. A flag is 0 or 1, as C's bool has it.
+ *
+ * Threads
+ *   Calls keep nothing outside the record and the buffers. While a call changes a record, no other thread may use that record.
+ *   Any number of threads may query a record that nobody changes.
+ *
+ * Stack
+ *   No call allocates memory. A thread that makes calls needs REGION_STACK_BYTES of stack for them; region_read and archive_query
+ *   take the most.
+ *
+ * Answers
+ *   Questions are put in the order in which a call's comment lists their numbers. The first that is answered no refuses the call.
+ *   A refused call changes no byte of a buffer, and the record holds the graph that it held.
+ */
+#ifndef WIMBORU_H
+#define WIMBORU_H
+
+#include <assert.h>
+#include <stdbool.h>
+#include <stddef.h>
+#include <stdint.h>
+#ifndef __cplusplus
+#include <stdalign.h>
+#endif
+
+#ifdef __cplusplus
+extern "C" {
+#endif
+
+/* What a changing call returns: 0, or the number of the question that was answered no. A query returns the same numbers below
+   zero, as in -REGION_NOT_INSTALLED. */
+enum {
+    REGION_NOT_REFUSED = 0,
+    REGION_NOT_A_REGION = 1,       /* a region number is above 15 */
+    REGION_USED = 2,               /* the region is in the graph already */
+    REGION_NO_SUCH_REGION = 3,     /* a region is not in the graph */
+    REGION_ENDS_EQUAL = 4,         /* source and target are the same region */
+    REGION_CONNECTED = 5,          /* there is a connection from source to target already */
+    REGION_NOT_CONNECTED = 6,      /* there is no connection from source to target */
+    REGION_LIST_TOO_LONG = 7,      /* a list has more numbers than its limit */
+    REGION_LIST_OUT_OF_ORDER = 8,  /* a list is not strictly ascending */
+    REGION_INSTALLED = 9,          /* the location is installed already, in this region or another */
+    REGION_FILTERED = 10,          /* a connection that leaves the region names the location in its bundle part */
+    REGION_FULL = 11,              /* there are 64 bundles, or 48 connections, already */
+    REGION_NOT_INSTALLED = 12,     /* the bundle, or a listener, is not installed */
+    REGION_NOT_A_KIND = 13,        /* the kind is above 2 */
+    REGION_NO_PLACE = 14,          /* the output buffer is too short */
+    REGION_NOT_AN_ARCHIVE = 15,    /* there are fewer than 5 bytes, or the first is not 1 */
+    REGION_WRONG_LENGTH = 16,      /* the length field is not the count of bytes after it */
+    REGION_BROKEN_LAYOUT = 17      /* the bytes after the length are not an archive's layout, to the end */
+};
+
+/* What an item may be: archive_query gives these as they are, region_route gives -REGION_HIDDEN. */
+enum {
+    REGION_SEEN = 100,
+    REGION_HIDDEN = 101
+};
+
+/* The kinds of items. */
+enum {
+    REGION_KIND_BUNDLE = 0,
+    REGION_KIND_PACKAGE = 1,
+    REGION_KIND_SERVICE = 2
+};
+
+/* The limits. */
+enum {
+    REGION_REGIONS = 16,           /* region numbers are below this */
+    REGION_MOST_BUNDLES = 64,
+    REGION_MOST_CONNECTIONS = 48,
+    REGION_MOST_PROVIDED = 8,      /* packages, and services, of one bundle */
+    REGION_MOST_LISTED = 16,       /* numbers in one part of a filter */
+    REGION_ROUTE_BYTES = 16,       /* the buffer that a route needs, however short the route is */
+    REGION_LONGEST_IMAGE = 14248,  /* bytes; a buffer of this length takes the image of any graph */
+    REGION_STACK_BYTES = 524288    /* the stack that is enough for any call */
+};
+
+/* The record. Its members are here for its size and alignment alone: a host neither reads nor writes them. */
+struct region_numbers {
+    size_t count;
+    uint32_t items[REGION_MOST_LISTED];
+};
+
+struct region_part {
+    bool all;
+    struct region_numbers numbers;
+};
+
+struct region_bundle {
+    uint32_t location;
+    uint32_t region;
+    struct region_numbers packages;
+    struct region_numbers services;
+};
+
+struct region_connection {
+    uint32_t source;
+    uint32_t target;
+    struct region_numbers bundles;
+    struct region_part packages;
+    struct region_part services;
+};
+
+struct region_graph {
+    uint64_t regions;
+    size_t bundle_count;
+    struct region_bundle bundles[REGION_MOST_BUNDLES];
+    size_t connection_count;
+    struct region_connection connections[REGION_MOST_CONNECTIONS];
+};
+
+typedef struct region_graph region_graph;
+
+static_assert(sizeof(size_t) == 8, "the calls take lengths of 8 bytes");
+static_assert(sizeof(bool) == 1, "the calls take flags of one byte");
+static_assert(sizeof(region_graph) == 21272, "the size of the record");
+static_assert(alignof(region_graph) == 8, "the alignment of the record");
+
+/*
+ * Calls that change the record. Each returns 0 where it is accepted, else the number of the question that was answered no; the
+ * record then holds the graph that it held.
+ */
+
+/* Makes the record the graph with nothing in it. The record's memory may hold anything before. */
+void region_empty(region_graph *graph);
+
+/* Adds a region. Refused with 1, 2. */
+uint32_t region_add(region_graph *graph, uint32_t region);
+
+/* Removes a region, with its bundles and every connection from or to it. Refused with 1, 3. */
+uint32_t region_remove(region_graph *graph, uint32_t region);
+
+/* Installs a bundle in a region. It provides at most 8 packages and at most 8 services, each list strictly ascending. Refused
+   with 1, 3, 7, 8, 9, 10, 11. */
+uint32_t region_install(region_graph *graph, uint32_t region, uint32_t location,
+                        const uint32_t *packages, size_t package_count,
+                        const uint32_t *services, size_t service_count);
+
+/* Uninstalls the bundle at a location. Filters that name it do not change. Refused with 12. */
+uint32_t region_uninstall(region_graph *graph, uint32_t location);
+
+/* Connects source to target: source imports from target what the filter passes, which is the bundles at the locations listed,
+   and the packages and the services listed, or all of them. Each list has at most 16 numbers, strictly ascending. Where
+   all_packages is true the list of packages is not asked about and not kept, and so with all_services: NULL and 0 will do.
+   Refused with 1, 3, 4, 5, 7, 8, 11. */
+uint32_t region_connect(region_graph *graph, uint32_t source, uint32_t target,
+                        const uint32_t *bundles, size_t bundle_count,
+                        bool all_packages, const uint32_t *packages, size_t package_count,
+                        bool all_services, const uint32_t *services, size_t service_count);
+
+/* Removes the connection from source to target. Refused with 1, 3, 4, 6. */
+uint32_t region_disconnect(region_graph *graph, uint32_t source, uint32_t target);
+
+/* Makes the record the graph of an archive. Refused with 15, 16, 17. */
+uint32_t region_read(region_graph *graph, const uint8_t *bytes, size_t length);
+
+/*
+ * Queries. Each returns a count, 0 or more, or a number below zero: minus the number of the question that was answered no. What
+ * it writes stands at the start of the output buffer, which comes right after the record; later places keep their values. Where
+ * the answer is below zero every place keeps its value.
+ */
+
+/* Writes the image of the graph, an archive, and returns its length. Refused with 14 where the buffer is shorter than the image. */
+int64_t region_write(const region_graph *graph, uint8_t *out, size_t out_length);
+
+/* Writes the route by which the bundle at a location sees an item, and returns the route's count of connections. The buffer then
+   starts with the regions of the route, one byte each, which are one more than the count. The route is the one with fewest
+   connections; among those, the one whose region number is smaller where two first differ. Returns -101 (-REGION_HIDDEN) where
+   there is no route. Refused with 12, 13, 14; 14 where the buffer has fewer than 16 bytes. */
+int64_t region_route(const region_graph *graph, uint8_t *out, size_t out_length,
+                     uint32_t location, uint32_t kind, uint32_t item);
+
+/* Finds: write the candidates that the bundle at a location sees, in the order given, repetitions kept, and return how many. A
+   candidate that nobody holds is not seen. Refused with 12, 14; 14 where the buffer has fewer places than there are candidates.
+   The candidates are locations of bundles, packages (region_resolve) or services. */
+int64_t region_bundle_find(const region_graph *graph, uint32_t *out, size_t out_count,
+                           uint32_t location, const uint32_t *candidates, size_t candidate_count);
+int64_t region_resolve(const region_graph *graph, uint32_t *out, size_t out_count,
+                       uint32_t location, const uint32_t *candidates, size_t candidate_count);
+int64_t region_service_find(const region_graph *graph, uint32_t *out, size_t out_count,
+                            uint32_t location, const uint32_t *candidates, size_t candidate_count);
+
+/* Events: write the listeners (locations of bundles) that see a bundle or a service, in the order given, repetitions kept, and
+   return how many. An item that nobody holds reaches no listener. Refused with 12 where a listener is not installed, with 14
+   where the buffer has fewer places than there are listeners. */
+int64_t region_bundle_event(const region_graph *graph, uint32_t *out, size_t out_count,
+                            const uint32_t *listeners, size_t listener_count, uint32_t bundle);
+int64_t region_service_event(const region_graph *graph, uint32_t *out, size_t out_count,
+                             const uint32_t *listeners, size_t listener_count, uint32_t service);
+
+/* Whether the bundle at a location sees an item in the graph of an archive; no record is needed. Returns 100 (REGION_SEEN), 101
+   (REGION_HIDDEN), or the number of the question that was answered no: 15, 16, 17, 12, 13, in this order. */
+uint32_t archive_query(const uint8_t *bytes, size_t length, uint32_t location, uint32_t kind, uint32_t item);
+
+#ifdef __cplusplus
+}
+#endif
+
+#endif

@@ -1,0 +1,79 @@
+#include "check.h"
+
+#include <stdio.h>
+#include <string.h>
+
+struct lent lent;
+region_graph *const graph = &lent.graph;
+
+static struct lent expected;
+static uint8_t pattern;
+static unsigned long passed;
+static unsigned long failed;
+
+/* No bytes between the parts: every byte that is lent is in a part, and is compared. */
+static_assert(sizeof(struct lent) == 4 * GUARD + sizeof(region_graph) + PLACES * sizeof(uint32_t) + BYTES, "parts with gaps");
+
+void set_pattern(uint8_t byte)
+{
+    pattern = byte;
+}
+
+void lend(void)
+{
+    memset(&lent, pattern, sizeof lent);
+    region_empty(graph);
+}
+
+void expect_same(void)
+{
+    memset(lent.places, pattern, sizeof lent.places);
+    memset(lent.bytes, pattern, sizeof lent.bytes);
+    memcpy(&expected, &lent, sizeof lent);
+}
+
+void expect_numbers(const uint32_t *numbers, size_t count)
+{
+    memcpy(expected.places, numbers, count * sizeof *numbers);
+}
+
+void expect_bytes(const uint8_t *bytes, size_t count)
+{
+    memcpy(expected.bytes, bytes, count);
+}
+
+void expect_record(void)
+{
+    memcpy(&expected.graph, &lent.graph, sizeof lent.graph);
+}
+
+static void count(bool holds, const char *file, int line, const char *before, const char *text)
+{
+    if (holds) {
+        passed++;
+        return;
+    }
+    failed++;
+    printf("%s:%d: %s%s\n", file, line, before, text);
+}
+
+void check(bool holds, const char *file, int line, const char *text)
+{
+    count(holds, file, line, "", text);
+}
+
+void check_call(bool answered, const char *file, int line, const char *text)
+{
+    count(answered, file, line, "", text);
+    count(memcmp(&lent, &expected, sizeof lent) == 0, file, line, "the record and the buffers after ", text);
+}
+
+bool all_passed(void)
+{
+    printf("%lu checks passed", passed);
+    if (failed > 0) {
+        printf(", %lu failed", failed);
+    }
+    printf("\n");
+    return failed == 0;
+}

@@ -1,0 +1,99 @@
+/* Counted checks, and the memory that is lent to the calls. A check that holds prints nothing. */
+#ifndef CHECK_H
+#define CHECK_H
+
+#include "wimboru.h"
+
+/* The calls that share their arguments: the three finds, the two events. */
+typedef int64_t find_call(const region_graph *, uint32_t *, size_t, uint32_t, const uint32_t *, size_t);
+typedef int64_t event_call(const region_graph *, uint32_t *, size_t, const uint32_t *, size_t, uint32_t);
+
+enum {
+    GUARD = 64,
+    PLACES = 1024,
+    BYTES = REGION_LONGEST_IMAGE + 8
+};
+
+/* Everything that is lent to a call for writing, with guard bytes around each part. */
+struct lent {
+    uint8_t before[GUARD];
+    region_graph graph;
+    uint8_t between[GUARD];
+    uint32_t places[PLACES];
+    uint8_t behind[GUARD];
+    uint8_t bytes[BYTES];
+    uint8_t after[GUARD];
+};
+
+extern struct lent lent;
+
+/* The record that is lent, as most calls take it. */
+extern region_graph *const graph;
+
+/* Fills what is lent with a pattern, and makes the record empty. */
+void lend(void);
+
+/* What lend fills with. */
+void set_pattern(uint8_t byte);
+
+/* Fills the buffers with the pattern, then says what is to be lent after a call: what is lent now, but for numbers or bytes at
+   the start of a buffer. */
+void expect_same(void);
+void expect_numbers(const uint32_t *numbers, size_t count);
+void expect_bytes(const uint8_t *bytes, size_t count);
+
+/* Counts a check; prints its place and text where it does not hold. */
+void check(bool holds, const char *file, int line, const char *text);
+
+/* Counts two checks of a call: its answer, and that everything that is lent is as expected. */
+void check_call(bool answered, const char *file, int line, const char *text);
+
+/* Makes the record as it is the expected one. */
+void expect_record(void);
+
+/* Prints how many checks passed and failed, and tells whether all passed. */
+bool all_passed(void);
+
+#define CHECK(expression) check((expression), __FILE__, __LINE__, #expression)
+
+/* A list of numbers as the two arguments that a call takes. */
+#define COUNT(...) (sizeof((uint32_t[]){__VA_ARGS__}) / sizeof(uint32_t))
+#define LIST(...) (const uint32_t[]){__VA_ARGS__}, COUNT(__VA_ARGS__)
+#define NONE NULL, 0
+
+/* A call with its answer, which changes no byte of the record or of a buffer. */
+#define UNCHANGED(answer, call) \
+    do { \
+        expect_same(); \
+        check_call((call) == (answer), __FILE__, __LINE__, #call " == " #answer); \
+    } while (0)
+
+/* A query that returns a count, after which the buffers are as expect_numbers or expect_bytes said. */
+#define WRITES(count, call) check_call((call) == (int64_t)(count), __FILE__, __LINE__, #call " == " #count)
+
+/* A find or an event that writes these numbers at the start of the places, and nothing else. */
+#define KEEPS(call, ...) \
+    do { \
+        expect_same(); \
+        expect_numbers(LIST(__VA_ARGS__)); \
+        check_call((call) == (int64_t)COUNT(__VA_ARGS__), __FILE__, __LINE__, #call " keeps " #__VA_ARGS__); \
+    } while (0)
+
+/* A route call that writes these regions at the start of the bytes, and nothing else. */
+#define ROUTES(call, ...) \
+    do { \
+        expect_same(); \
+        expect_bytes((const uint8_t[]){__VA_ARGS__}, COUNT(__VA_ARGS__)); \
+        check_call((call) == (int64_t)COUNT(__VA_ARGS__) - 1, __FILE__, __LINE__, #call " gives " #__VA_ARGS__); \
+    } while (0)
+
+/* A changing call that is accepted and changes nothing but the record. */
+#define ACCEPTED(call) \
+    do { \
+        expect_same(); \
+        bool accepted = (call) == REGION_NOT_REFUSED; \
+        expect_record(); \
+        check_call(accepted, __FILE__, __LINE__, #call " accepted"); \
+    } while (0)
+
+#endif

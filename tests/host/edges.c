@@ -1,0 +1,104 @@
+/* Memory that ends where a page that faults begins: a call that reads or writes past what it is lent ends the program. */
+#define _DEFAULT_SOURCE
+#include "graphs.h"
+#include "host.h"
+#include "images.h"
+
+#include <string.h>
+#include <sys/mman.h>
+#include <unistd.h>
+
+enum {
+    ROOM = 1 << 16  /* a whole number of pages, for any part that is lent */
+};
+
+/* The end of ROOM bytes of memory, which have a page after them that faults. */
+static uint8_t *edge(void)
+{
+    size_t fault = (size_t)sysconf(_SC_PAGESIZE);
+    uint8_t *start = mmap(NULL, ROOM + fault, PROT_READ | PROT_WRITE, MAP_PRIVATE | MAP_ANONYMOUS, -1, 0);
+    CHECK(start != MAP_FAILED && mprotect(start + ROOM, fault, PROT_NONE) == 0);
+    return start + ROOM;
+}
+
+static void release(uint8_t *end)
+{
+    CHECK(munmap(end - ROOM, ROOM + (size_t)sysconf(_SC_PAGESIZE)) == 0);
+}
+
+/* A record, a list of numbers, or bytes, that end at an edge. */
+static region_graph *record_at(uint8_t *end)
+{
+    return (region_graph *)(void *)(end - sizeof(region_graph));
+}
+
+static uint32_t *numbers_at(uint8_t *end, const uint32_t *numbers, size_t count)
+{
+    return memcpy(end - count * sizeof *numbers, numbers, count * sizeof *numbers);
+}
+
+static uint8_t *bytes_at(uint8_t *end, const uint8_t *bytes, size_t count)
+{
+    return memcpy(end - count, bytes, count);
+}
+
+static void changes_at(uint8_t *a, uint8_t *b)
+{
+    region_graph *record = record_at(a);
+    put_g(record);
+    const uint32_t *two = numbers_at(b, LIST(1, 2));
+    CHECK(region_install(record, 0, 40, two, 2, two, 2) == REGION_NOT_REFUSED);
+    CHECK(region_connect(record, 2, 0, two, 2, false, two, 2, false, two, 2) == REGION_NOT_REFUSED);
+    const uint32_t *wrong = numbers_at(b, LIST(1, 2, 2));
+    CHECK(region_install(record, 0, 41, wrong, 3, wrong, 3) == REGION_LIST_OUT_OF_ORDER);
+    CHECK(region_disconnect(record, 2, 0) == REGION_NOT_REFUSED);
+    CHECK(region_uninstall(record, 40) == REGION_NOT_REFUSED);
+    CHECK(same_image(image_of(record), load("g.archive")));
+}
+
+static void queries_at(uint8_t *a, uint8_t *b, uint8_t *c)
+{
+    region_graph *record = record_at(a);
+    put_g(record);
+    const uint32_t *candidates = numbers_at(b, LIST(1, 2, 3));
+    uint32_t *kept = numbers_at(c, LIST(0, 0, 0));
+    CHECK(region_resolve(record, kept, 3, 20, candidates, 3) == 2 && kept[0] == 1 && kept[1] == 3 && kept[2] == 0);
+    CHECK(region_bundle_find(record, kept, 3, 20, candidates, 3) == 0);
+    CHECK(region_service_find(record, kept, 3, 20, candidates, 3) == 0);
+    const uint32_t *listeners = numbers_at(b, LIST(10, 20, 30));
+    CHECK(region_bundle_event(record, kept, 3, listeners, 3, 20) == 1 && kept[0] == 20);
+    CHECK(region_service_event(record, kept, 3, listeners, 3, 20) == 0);
+    CHECK(region_route(record, c - REGION_ROUTE_BYTES, REGION_ROUTE_BYTES, 10, REGION_KIND_PACKAGE, 1) == 1);
+    CHECK(region_write(record, c - 84, 84) == 84);
+}
+
+/* The file, and every beginning of it. */
+static void archives_at(uint8_t *a, uint8_t *b, struct image file)
+{
+    region_graph *record = record_at(a);
+    region_empty(record);
+    for (size_t length = 0; length <= file.length; length++) {
+        const uint8_t *bytes = bytes_at(b, file.bytes, length);
+        bool whole = length == file.length;
+        CHECK((region_read(record, bytes, length) == REGION_NOT_REFUSED) == whole);
+        CHECK((archive_query(bytes, length, 10, REGION_KIND_PACKAGE, 1) == REGION_SEEN) == whole);
+    }
+    /* Beginnings whose length field is right break the layout at their end. */
+    for (size_t length = 5; length < file.length; length++) {
+        file.bytes[4] = (uint8_t)(length - 5);
+        CHECK(region_read(record, bytes_at(b, file.bytes, length), length) == REGION_BROKEN_LAYOUT);
+    }
+}
+
+void test_edges(void)
+{
+    uint8_t *a = edge();
+    uint8_t *b = edge();
+    uint8_t *c = edge();
+    changes_at(a, b);
+    queries_at(a, b, c);
+    archives_at(a, b, load("g.archive"));
+    release(a);
+    release(b);
+    release(c);
+}

@@ -1,0 +1,14 @@
+/* The tests, by subject. Each leaves nothing behind that the next one reads. */
+#ifndef HOST_H
+#define HOST_H
+
+void test_record(void);
+void test_lists(void);
+void test_changes(void);
+void test_refused_changes(void);
+void test_queries(void);
+void test_archives(void);
+void test_edges(void);
+void test_threads(void);
+
+#endif

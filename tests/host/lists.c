@@ -1,0 +1,100 @@
+/* What C may hand in as a list or a buffer: NULL where it has no elements, lists that overlap, lists of any length. */
+#include "graphs.h"
+#include "host.h"
+#include "images.h"
+
+static void null_lists_of_changes(void)
+{
+    regions(0, 2);
+    ACCEPTED(region_install(graph, 0, 10, NULL, 0, LIST(1)));
+    ACCEPTED(region_install(graph, 0, 20, LIST(1), NULL, 0));
+    ACCEPTED(region_install(graph, 1, 30, NULL, 0, NULL, 0));
+    ACCEPTED(region_connect(graph, 0, 1, NULL, 0, false, NULL, 0, false, NULL, 0));
+    ACCEPTED(region_connect(graph, 1, 0, NULL, 0, true, NULL, 0, true, NULL, 0));
+    UNCHANGED(REGION_NOT_AN_ARCHIVE, region_read(graph, NULL, 0));
+    UNCHANGED(REGION_NOT_AN_ARCHIVE, archive_query(NULL, 0, 10, 0, 10));
+}
+
+static void null_find(find_call *find)
+{
+    UNCHANGED(0, find(graph, NULL, 0, 10, NULL, 0));
+    UNCHANGED(0, find(graph, lent.places, PLACES, 10, NULL, 0));
+    UNCHANGED(-REGION_NO_PLACE, find(graph, NULL, 0, 10, LIST(10)));
+    UNCHANGED(-REGION_NOT_INSTALLED, find(graph, NULL, 0, 11, NULL, 0));
+}
+
+static void null_event(event_call *event)
+{
+    UNCHANGED(0, event(graph, NULL, 0, NULL, 0, 10));
+    UNCHANGED(0, event(graph, lent.places, PLACES, NULL, 0, 10));
+    UNCHANGED(-REGION_NO_PLACE, event(graph, NULL, 0, LIST(10), 10));
+}
+
+static void null_buffers(void)
+{
+    build_g();
+    UNCHANGED(-REGION_NO_PLACE, region_write(graph, NULL, 0));
+    UNCHANGED(-REGION_NO_PLACE, region_route(graph, NULL, 0, 10, REGION_KIND_BUNDLE, 10));
+    null_find(region_bundle_find);
+    null_find(region_resolve);
+    null_find(region_service_find);
+    null_event(region_bundle_event);
+    null_event(region_service_event);
+}
+
+/* Input lists that overlap give what equal lists in memory of their own give. */
+static void overlapping(void)
+{
+    const uint32_t list[] = {1, 2, 3, 4};
+    static region_graph apart;
+    region_empty(&apart);
+    CHECK(region_add(&apart, 0) == REGION_NOT_REFUSED);
+    CHECK(region_add(&apart, 1) == REGION_NOT_REFUSED);
+    CHECK(region_install(&apart, 0, 10, LIST(1, 2, 3, 4), LIST(1, 2, 3, 4)) == REGION_NOT_REFUSED);
+    CHECK(region_install(&apart, 0, 20, LIST(1, 2, 3), LIST(2, 3, 4)) == REGION_NOT_REFUSED);
+    CHECK(region_connect(&apart, 0, 1, LIST(1, 2), false, LIST(1, 2, 3), false, LIST(3, 4)) == REGION_NOT_REFUSED);
+    regions(0, 2);
+    ACCEPTED(region_install(graph, 0, 10, list, 4, list, 4));
+    ACCEPTED(region_install(graph, 0, 20, list, 3, list + 1, 3));
+    ACCEPTED(region_connect(graph, 0, 1, list, 2, false, list, 3, false, list + 2, 2));
+    CHECK(same_graph(graph, &apart));
+}
+
+/* Twelve candidates kept are 12, and are not refusal 12. */
+static void twelve(void)
+{
+    build_g();
+    KEEPS(region_bundle_find(graph, lent.places, PLACES, 10, LIST(10, 10, 10, 10, 10, 10, 10, 10, 10, 10, 10, 10)),
+          10, 10, 10, 10, 10, 10, 10, 10, 10, 10, 10, 10);
+    KEEPS(region_bundle_event(graph, lent.places, PLACES, LIST(10, 10, 10, 10, 10, 10, 10, 10, 10, 10, 10, 10), 10),
+          10, 10, 10, 10, 10, 10, 10, 10, 10, 10, 10, 10);
+    UNCHANGED(-12, region_bundle_find(graph, lent.places, PLACES, 11, LIST(10)));
+    UNCHANGED(-12, region_bundle_event(graph, lent.places, PLACES, LIST(11), 10));
+}
+
+/* As many candidates as the buffer has places, every third one seen. */
+static void many(void)
+{
+    static uint32_t candidates[PLACES];
+    static uint32_t seen[PLACES];
+    size_t count = 0;
+    for (uint32_t i = 0; i < PLACES; i++) {
+        candidates[i] = i % 3 == 0 ? 1 : 100 + i;
+        if (candidates[i] == 1) {
+            seen[count++] = 1;
+        }
+    }
+    build_g();
+    expect_same();
+    expect_numbers(seen, count);
+    WRITES(count, region_resolve(graph, lent.places, PLACES, 10, candidates, PLACES));
+}
+
+void test_lists(void)
+{
+    null_lists_of_changes();
+    null_buffers();
+    overlapping();
+    twelve();
+    many();
+}

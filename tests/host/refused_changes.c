@@ -1,0 +1,148 @@
+/* Every refusal of every changing call but the read. Where one call could be refused for several reasons, they are taken away one
+   by one, so that each number shows its place in the order. */
+#include "graphs.h"
+#include "host.h"
+
+enum {
+    LONG_LIST = REGION_MOST_LISTED + 1
+};
+
+static const uint32_t ascending[LONG_LIST] = {1, 2, 3, 4, 5, 6, 7, 8, 9, 10, 11, 12, 13, 14, 15, 16, 17};
+static const uint32_t descending[LONG_LIST] = {17, 16, 15, 14, 13, 12, 11, 10, 9, 8, 7, 6, 5, 4, 3, 2, 1};
+
+static void add(void)
+{
+    build_g();
+    UNCHANGED(REGION_NOT_A_REGION, region_add(graph, 16));
+    UNCHANGED(REGION_NOT_A_REGION, region_add(graph, 64));
+    UNCHANGED(REGION_NOT_A_REGION, region_add(graph, UINT32_MAX));
+    UNCHANGED(REGION_USED, region_add(graph, 0));
+    UNCHANGED(REGION_USED, region_add(graph, 2));
+}
+
+static void remove_region(void)
+{
+    build_g();
+    UNCHANGED(REGION_NOT_A_REGION, region_remove(graph, 16));
+    UNCHANGED(REGION_NOT_A_REGION, region_remove(graph, UINT32_MAX));
+    UNCHANGED(REGION_NO_SUCH_REGION, region_remove(graph, 3));
+    UNCHANGED(REGION_NO_SUCH_REGION, region_remove(graph, 15));
+}
+
+static void install_lists(void)
+{
+    build_g();
+    UNCHANGED(REGION_LIST_TOO_LONG, region_install(graph, 0, 40, ascending, 9, NONE));
+    UNCHANGED(REGION_LIST_TOO_LONG, region_install(graph, 0, 40, NONE, ascending, 9));
+    UNCHANGED(REGION_LIST_TOO_LONG, region_install(graph, 0, 40, LIST(2, 1), ascending, 9));
+    UNCHANGED(REGION_LIST_OUT_OF_ORDER, region_install(graph, 0, 40, LIST(2, 1), NONE));
+    UNCHANGED(REGION_LIST_OUT_OF_ORDER, region_install(graph, 0, 40, NONE, LIST(2, 1)));
+    UNCHANGED(REGION_LIST_OUT_OF_ORDER, region_install(graph, 0, 40, LIST(1, 2, 2), NONE));
+    UNCHANGED(REGION_LIST_OUT_OF_ORDER, region_install(graph, 0, 40, NONE, LIST(1, 1)));
+    UNCHANGED(REGION_INSTALLED, region_install(graph, 0, 10, NONE, NONE));
+    UNCHANGED(REGION_INSTALLED, region_install(graph, 0, 30, NONE, NONE));
+}
+
+/* 64 bundles, 20 among them; a connection from 0 names 20. */
+static void build_crowd(void)
+{
+    regions(0, 2);
+    ACCEPTED(region_install(graph, 0, 20, NONE, NONE));
+    ACCEPTED(region_connect(graph, 0, 1, LIST(20), false, NONE, false, NONE));
+    fill_bundles(1, REGION_MOST_BUNDLES - 1);
+}
+
+static void install(void)
+{
+    build_crowd();
+    UNCHANGED(REGION_NOT_A_REGION, region_install(graph, 16, 20, descending, 9, descending, 9));
+    UNCHANGED(REGION_NO_SUCH_REGION, region_install(graph, 2, 20, descending, 9, descending, 9));
+    UNCHANGED(REGION_LIST_TOO_LONG, region_install(graph, 0, 20, descending, 9, descending, 9));
+    UNCHANGED(REGION_LIST_OUT_OF_ORDER, region_install(graph, 0, 20, descending, 8, descending, 8));
+    UNCHANGED(REGION_INSTALLED, region_install(graph, 0, 20, ascending, 8, ascending, 8));
+    ACCEPTED(region_uninstall(graph, 20));
+    ACCEPTED(region_install(graph, 1, 999, NONE, NONE));
+    UNCHANGED(REGION_FILTERED, region_install(graph, 0, 20, ascending, 8, ascending, 8));
+    UNCHANGED(REGION_FULL, region_install(graph, 1, 20, ascending, 8, ascending, 8));
+    ACCEPTED(region_disconnect(graph, 0, 1));
+    UNCHANGED(REGION_FULL, region_install(graph, 0, 20, ascending, 8, ascending, 8));
+    ACCEPTED(region_uninstall(graph, 1000));
+    ACCEPTED(region_install(graph, 0, 20, ascending, 8, ascending, 8));
+}
+
+static void uninstall(void)
+{
+    build_g();
+    UNCHANGED(REGION_NOT_INSTALLED, region_uninstall(graph, 0));
+    UNCHANGED(REGION_NOT_INSTALLED, region_uninstall(graph, 11));
+    UNCHANGED(REGION_NOT_INSTALLED, region_uninstall(graph, UINT32_MAX));
+}
+
+static void connect_ends(void)
+{
+    build_g();
+    UNCHANGED(REGION_NOT_A_REGION, region_connect(graph, 16, 0, NONE, false, NONE, false, NONE));
+    UNCHANGED(REGION_NOT_A_REGION, region_connect(graph, 0, 16, NONE, false, NONE, false, NONE));
+    UNCHANGED(REGION_NOT_A_REGION, region_connect(graph, 16, 16, NONE, false, NONE, false, NONE));
+    UNCHANGED(REGION_NOT_A_REGION, region_connect(graph, 3, 16, NONE, false, NONE, false, NONE));
+    UNCHANGED(REGION_NO_SUCH_REGION, region_connect(graph, 3, 0, NONE, false, NONE, false, NONE));
+    UNCHANGED(REGION_NO_SUCH_REGION, region_connect(graph, 0, 3, NONE, false, NONE, false, NONE));
+    UNCHANGED(REGION_NO_SUCH_REGION, region_connect(graph, 3, 3, NONE, false, NONE, false, NONE));
+    UNCHANGED(REGION_ENDS_EQUAL, region_connect(graph, 1, 1, descending, LONG_LIST, false, NONE, false, NONE));
+    UNCHANGED(REGION_CONNECTED, region_connect(graph, 0, 1, descending, LONG_LIST, false, NONE, false, NONE));
+    UNCHANGED(REGION_CONNECTED, region_connect(graph, 1, 2, NONE, true, NONE, true, NONE));
+}
+
+static void connect_lists(void)
+{
+    build_g();
+    UNCHANGED(REGION_LIST_TOO_LONG, region_connect(graph, 2, 0, ascending, 17, false, NONE, false, NONE));
+    UNCHANGED(REGION_LIST_TOO_LONG, region_connect(graph, 2, 0, NONE, false, ascending, 17, false, NONE));
+    UNCHANGED(REGION_LIST_TOO_LONG, region_connect(graph, 2, 0, NONE, false, NONE, false, ascending, 17));
+    UNCHANGED(REGION_LIST_TOO_LONG, region_connect(graph, 2, 0, NONE, true, NONE, false, ascending, 17));
+    UNCHANGED(REGION_LIST_TOO_LONG, region_connect(graph, 2, 0, NONE, false, ascending, 17, true, NONE));
+    UNCHANGED(REGION_LIST_TOO_LONG, region_connect(graph, 2, 0, LIST(2, 1), false, LIST(2, 1), false, ascending, 17));
+    UNCHANGED(REGION_LIST_OUT_OF_ORDER, region_connect(graph, 2, 0, LIST(2, 1), false, NONE, false, NONE));
+    UNCHANGED(REGION_LIST_OUT_OF_ORDER, region_connect(graph, 2, 0, NONE, false, LIST(2, 1), false, NONE));
+    UNCHANGED(REGION_LIST_OUT_OF_ORDER, region_connect(graph, 2, 0, NONE, false, NONE, false, LIST(2, 1)));
+    UNCHANGED(REGION_LIST_OUT_OF_ORDER, region_connect(graph, 2, 0, LIST(1, 1), true, NONE, true, NONE));
+    UNCHANGED(REGION_LIST_OUT_OF_ORDER, region_connect(graph, 2, 0, NONE, true, NONE, false, LIST(1, 2, 2)));
+    UNCHANGED(REGION_LIST_OUT_OF_ORDER, region_connect(graph, 2, 0, NONE, false, LIST(1, 2, 2), true, NONE));
+}
+
+static void connect_full(void)
+{
+    fill_connections();
+    UNCHANGED(REGION_LIST_TOO_LONG, region_connect(graph, 0, 4, descending, 17, false, NONE, false, NONE));
+    UNCHANGED(REGION_LIST_OUT_OF_ORDER, region_connect(graph, 0, 4, descending, 16, false, NONE, false, NONE));
+    UNCHANGED(REGION_FULL, region_connect(graph, 0, 4, ascending, 16, false, NONE, false, NONE));
+    ACCEPTED(region_disconnect(graph, 15, 2));
+    ACCEPTED(region_connect(graph, 0, 4, ascending, 16, false, NONE, false, NONE));
+}
+
+static void disconnect(void)
+{
+    build_g();
+    UNCHANGED(REGION_NOT_A_REGION, region_disconnect(graph, 16, 3));
+    UNCHANGED(REGION_NOT_A_REGION, region_disconnect(graph, 3, 16));
+    UNCHANGED(REGION_NOT_A_REGION, region_disconnect(graph, 16, 16));
+    UNCHANGED(REGION_NO_SUCH_REGION, region_disconnect(graph, 3, 0));
+    UNCHANGED(REGION_NO_SUCH_REGION, region_disconnect(graph, 0, 3));
+    UNCHANGED(REGION_NO_SUCH_REGION, region_disconnect(graph, 3, 3));
+    UNCHANGED(REGION_ENDS_EQUAL, region_disconnect(graph, 0, 0));
+    UNCHANGED(REGION_NOT_CONNECTED, region_disconnect(graph, 1, 0));
+    UNCHANGED(REGION_NOT_CONNECTED, region_disconnect(graph, 0, 2));
+}
+
+void test_refused_changes(void)
+{
+    add();
+    remove_region();
+    install_lists();
+    install();
+    uninstall();
+    connect_ends();
+    connect_lists();
+    connect_full();
+    disconnect();
+}

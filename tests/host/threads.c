@@ -1,0 +1,80 @@
+/* Calls on threads that have no more stack than the header asks for; several threads query one record at a time. */
+#include "graphs.h"
+#include "host.h"
+#include "images.h"
+
+#include <pthread.h>
+
+enum {
+    THREADS = 4,
+    ROUNDS = 20,
+    GUARD_BYTES = 1 << 20  /* memory past the stack's end that faults, more than any frame has */
+};
+
+static struct image longest;
+
+/* What a thread writes. */
+static struct job {
+    region_graph own;
+    uint8_t written[REGION_LONGEST_IMAGE];
+    bool right;
+} jobs[THREADS];
+
+/* The longest archive, read into a record of the thread's own, and changes of it. */
+static bool changes(region_graph *own)
+{
+    region_empty(own);
+    return region_read(own, longest.bytes, longest.length) == REGION_NOT_REFUSED
+        && region_uninstall(own, 1000) == REGION_NOT_REFUSED
+        && region_install(own, 0, 1, NONE, NONE) == REGION_NOT_REFUSED
+        && region_disconnect(own, 0, 1) == REGION_NOT_REFUSED
+        && region_connect(own, 0, 1, NONE, true, NONE, true, NONE) == REGION_NOT_REFUSED
+        && region_remove(own, 1) == REGION_NOT_REFUSED
+        && region_add(own, 1) == REGION_NOT_REFUSED;
+}
+
+/* Each query of the shared record, which holds the longest archive. */
+static bool queries(uint8_t *written)
+{
+    uint8_t route[REGION_ROUTE_BYTES];
+    uint32_t kept[2];
+    return archive_query(longest.bytes, longest.length, 1000, REGION_KIND_PACKAGE, 8) == REGION_SEEN
+        && region_route(graph, route, sizeof route, 1000, REGION_KIND_PACKAGE, 8) == 1
+        && region_bundle_find(graph, kept, 2, 1000, LIST(1015, 1017)) == 1
+        && region_resolve(graph, kept, 2, 1000, LIST(8, 16)) == 1
+        && region_service_find(graph, kept, 2, 1000, LIST(UINT32_MAX)) == 0
+        && region_bundle_event(graph, kept, 2, LIST(1000, 1001), 1017) == 1
+        && region_service_event(graph, kept, 2, LIST(1000, 1001), UINT32_MAX) == 0
+        && region_write(graph, written, REGION_LONGEST_IMAGE) == REGION_LONGEST_IMAGE;
+}
+
+static void *work(void *argument)
+{
+    struct job *job = argument;
+    job->right = true;
+    for (int round = 0; round < ROUNDS; round++) {
+        job->right = job->right && changes(&job->own) && queries(job->written);
+    }
+    return NULL;
+}
+
+void test_threads(void)
+{
+    pthread_t threads[THREADS];
+    pthread_attr_t attributes;
+    longest = load("longest.archive");
+    lend();
+    ACCEPTED(region_read(graph, longest.bytes, longest.length));
+    CHECK(pthread_attr_init(&attributes) == 0);
+    CHECK(pthread_attr_setguardsize(&attributes, GUARD_BYTES) == 0);
+    CHECK(pthread_attr_setstacksize(&attributes, REGION_STACK_BYTES) == 0);
+    expect_same();
+    for (int i = 0; i < THREADS; i++) {
+        CHECK(pthread_create(&threads[i], &attributes, work, &jobs[i]) == 0);
+    }
+    for (int i = 0; i < THREADS; i++) {
+        CHECK(pthread_join(threads[i], NULL) == 0);
+        check_call(jobs[i].right, __FILE__, __LINE__, "the calls of a thread");
+    }
+    pthread_attr_destroy(&attributes);
+}

@@ -1,7 +1,6 @@
 // Runs the reader, the writer and the query of the archive on files, which its file `stdin` has in hex, and writes a line for each case:
 // its name, then what each call gave. The file `stdout` has what document 01 gives.
 mod calls;
-mod hex;
 mod lent;
 mod script;
 

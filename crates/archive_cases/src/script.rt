@@ -5,7 +5,7 @@ use crate::calls::over;
 use crate::calls::query;
 use crate::calls::read;
 use crate::calls::write;
-use crate::hex::append;
+use script_lines::append_hex;
 use script_lines::end_of;
 use script_lines::first;
 use script_lines::show_name;
@@ -51,7 +51,7 @@ fn next(bytes: &mut [u8], file: File, line: &[u8]) -> File
         b's' => File { start, end: start },
         b'k' => File { start: end, end },
         b'0'..=b'9' | b'A'..=b'F' => {
-            let longer = append(bytes, end, line);
+            let longer = append_hex(bytes, end, line);
             File { start, end: longer }
         }
         _ => file,

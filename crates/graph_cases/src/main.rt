@@ -1,6 +1,5 @@
 // Runs the graph layer on a script of calls, its file `stdin`, and writes a line for each case: its name, then the number of each call
 // in order. The file `stdout` has the numbers that document 01 gives.
-mod calls;
 mod filling;
 mod script;
 

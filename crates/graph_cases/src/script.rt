@@ -1,9 +1,9 @@
 // The script, line by line. A line is known by its first letter.
 ghost use Rattle.region_graph.specs.Record.{Valid};
-use crate::calls::call;
 use crate::filling::network;
 use crate::filling::occupied;
 use region_graph::Graph;
+use script_calls::call;
 use script_lines::end_of;
 use script_lines::first;
 use script_lines::show;

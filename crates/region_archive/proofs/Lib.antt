@@ -4,6 +4,7 @@ pub mod Delimits
 pub mod Digits
 pub mod Writes
 pub mod Fits
+pub mod Placed
 pub mod Sizes
 pub mod Answers
 pub mod FieldLaws

@@ -92,7 +92,7 @@ module _ (k : Section) (m : Model) (small : All (λ r. r < regions) (m .regions)
       -- the call refuses what the record has
       pub no-taking : {start : ℕ} {g : Graph} {floor n : ℕ} {r : Changed} → Records k m small s start g at floor n → n < most k → Took k g f r
           → (r .number ≡ not-refused → ⊥) → NoRecord floor
-      no-taking w l (unlike u v) n z r h i e = u z (meets z r h e .0)
+      no-taking w l (unlike u v y) n z r h i e = u z (meets z r h e .0)
       no-taking {floor = floor} w l (called x same follows) n z r h i e =
           let t : x ≡ z = same-element k x z (same-then (field-count k) (fields-of k x) f (fields-of k z) (same-back (field-count k) f (fields-of k x) same) (meets z r h e .0)) in
           filling-refused (LegalElem k (m .regions)) (record-bytes k) (element-same (m .regions) small k) (key k) (most k) (most-small k) (filled k m) (call k) (taken k m) (joined k m) (taken-legal k m) w x follows n l
@@ -116,7 +116,7 @@ module _ (k : Section) (m : Model) (small : All (λ r. r < regions) (m .regions)
       pub taking : size ≡ to - mid → {start : ℕ} {g : Graph} {floor n order : ℕ} {r : Changed} → Records k m small s start g at floor n
           → order ≡ field-key k (f .first) (f .second) → floor ≤ order → Took k g f r → r .number ≡ not-refused
           → Records k m small s start (r .graph) to (order + 1) (n + 1)
-      taking e w o l (unlike u v) z = absurd (v z)
+      taking e w o l (unlike u v y) z = absurd (v z)
       taking e {start} {g} {floor} {n} {order} {r} w o l (called x same follows) z =
           let j : order ≡ key k x = o ∙ same-key k f x same in
           subst (λ (i : ℕ). Records k m small s start (r .graph) to (i + 1) (n + 1)) (sym j)

@@ -5,6 +5,7 @@ use mathlib.Core.List.{List, []}
 use Prim.Native.Nat.{ℕ, _<_}
 use native.Mathlib.Omega.{arith}
 use lib.ListN.{getD, take}
+use Rattle.region_graph.specs.Refusals.{not-refused}
 use Rattle.region_graph.specs.Model.{Part}
 use Rattle.region_graph.specs.Calls.{Call}
 use Rattle.region_graph.specs.Record.{part-in, numbers-of}
@@ -14,7 +15,7 @@ use Rattle.region_graph.specs.declared.Changed.{Changed}
 use Rattle.region_graph.specs.declared.connections.StoredPart.{StoredPart}
 use Rattle.region_graph.proofs.Arrays.{getD-map-in}
 use Rattle.region_graph.proofs.Lists.{all-at}
-use Rattle.region_archive.specs.Entries.{part-at, PartFits, EntryFits, fields-in}
+use Rattle.region_archive.specs.Entries.{Fields, part-at, PartFits, EntryFits, fields-in}
 use Rattle.region_archive.specs.Sections.{Took, called, unlike}
 use Rattle.region_archive.specs.declared.entries.Entry.{Entry}
 use Rattle.region_archive.specs.declared.entries.Section.{Section}
@@ -55,13 +56,13 @@ module _ (g : Graph) (e : Entry) (fits : EntryFits e) where
 
   module _ {n : ℕ} (refused : n ≡ 0 → ⊥) where
     pub open-packages : stored-at 0 .all ≡ true → Took Section.Bundles g (fields-in e) (record { graph = g; number = n })
-    open-packages a = unlike (λ x s. part-not-listed 0 (x .packages) (omega arith) a (s .0 .1)) refused
+    open-packages a = unlike (λ x s. part-not-listed 0 (x .packages) (omega arith) a (s .0 .1)) refused refl
 
     pub open-services : stored-at 1 .all ≡ true → Took Section.Bundles g (fields-in e) (record { graph = g; number = n })
-    open-services a = unlike (λ x s. part-not-listed 1 (x .services) (omega arith) a (s .1)) refused
+    open-services a = unlike (λ x s. part-not-listed 1 (x .services) (omega arith) a (s .1)) refused refl
 
     pub open-bundles : stored-at 0 .all ≡ true → Took Section.Connections g (fields-in e) (record { graph = g; number = n })
-    open-bundles a = unlike (λ x s. part-not-listed 0 (x .filter .bundles) (omega arith) a (s .0 .0 .1)) refused
+    open-bundles a = unlike (λ x s. part-not-listed 0 (x .filter .bundles) (omega arith) a (s .0 .0 .1)) refused refl
 
   pub took-bundle : stored-at 0 .all ≡ false → stored-at 1 .all ≡ false → {r : Changed}
       → Follows g (Call.install (bundle (e .second) (e .first) (take (stored-at 0 .numbers .count) (stored-at 0 .numbers .items)) (take (stored-at 1 .numbers .count) (stored-at 1 .numbers .items)))) r
@@ -76,3 +77,8 @@ module _ (g : Graph) (e : Entry) (fits : EntryFits e) where
   took-connection a f =
       called (connection (e .first) (e .second) (take (stored-at 0 .numbers .count) (stored-at 0 .numbers .items)) (stored-at 1 .all) (take (stored-at 1 .numbers .count) (stored-at 1 .numbers .items)) (stored-at 2 .all) (take (stored-at 2 .numbers .count) (stored-at 2 .numbers .items)))
       (((((tt, refl), refl), part-stands 0 (omega arith) ∙ part-some (stored-at 0) a), part-stands 1 (omega arith) ∙ part-any (stored-at 1)), part-stands 2 (omega arith) ∙ part-any (stored-at 2)) f
+
+-- a refusal leaves the record as it was
+pub took-kept : {s : Section} {g : Graph} {f : Fields} {r : Changed} → Took s g f r → (r .number ≡ not-refused → ⊥) → r .graph ≡ g
+took-kept (called x same follows) n = follows .kept n
+took-kept (unlike u v kept) n = kept

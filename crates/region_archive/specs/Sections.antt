@@ -24,10 +24,10 @@ pub record FieldRead (s : Section) (k : ℕ) (bytes : List ℕ) (at : ℕ) (old 
   pub fits : EntryFits (r .entry)
   pub answer : Answer (λ y. SameTo FieldSame k (fields-in old) y × FieldGood s k y) (field-bytes s k) bytes at (r .ok) (fields-in (r .entry)) (r .next)
 
--- the element with these fields was handed to its call, or there is none and the number is a refusal's
+-- the element with these fields was handed to its call, or there is none, the number is a refusal's and the record stays
 pub data Took (s : Section) (g : Graph) (f : Fields) (r : Changed) : Type 0 where
   called : (x : Elem s) → SameFields s f (fields-of s x) → Follows g (call s x) r → Took s g f r
-  unlike : ((x : Elem s) → SameFields s f (fields-of s x) → ⊥) → (r .number ≡ not-refused → ⊥) → Took s g f r
+  unlike : ((x : Elem s) → SameFields s f (fields-of s x) → ⊥) → (r .number ≡ not-refused → ⊥) → r .graph ≡ g → Took s g f r
 
 -- the elements of a section stand at a place, and the record means the model with them in it
 pub record Stands {A : Type 0} (good : A → Type 0) (key : A → ℕ) (most : ℕ) (bytes : A → List ℕ) (with : List A → Model) (s : List ℕ) (at : ℕ) (r : SectionAt) : Type 0 where

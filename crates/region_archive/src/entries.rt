@@ -2,7 +2,7 @@
 ghost use mathlib.Core.Path.{_≡_};
 ghost use lib.ListN.{length};
 ghost use Rattle.region_graph.specs.Record.{Valid, meaning, «bundle-in», «connection-in»};
-ghost use Rattle.region_archive.specs.Entries.{PartFits, BundleFits, ConnectionFits, EntryFits, EntryIs, «field-key», «field-count», «first-width», most, elements, «element-at»};
+ghost use Rattle.region_archive.specs.Entries.{PartFits, BundleFits, ConnectionFits, EntryFits, EntryIs, «field-key», «field-count», «first-width», most, elements};
 use region_graph::Graph;
 use region_graph::Numbers;
 use region_graph::StoredBundle;
@@ -88,7 +88,7 @@ pub fn order(section: Section, first: u32, second: u32) -> u64
     }
 }
 
-fn bundle_entry(b: StoredBundle) -> Entry
+pub fn bundle_entry(b: StoredBundle) -> Entry
     requires { ⌜ BundleFits b ⌝ }
     ensures { λ r. ⌜ EntryIs Section.Bundles r (bundle-in b) ⌝ }
 {
@@ -111,7 +111,7 @@ fn bundle_entry(b: StoredBundle) -> Entry
     }
 }
 
-fn connection_entry(c: StoredConnection) -> Entry
+pub fn connection_entry(c: StoredConnection) -> Entry
     requires { ⌜ ConnectionFits c ⌝ }
     ensures { λ r. ⌜ EntryIs Section.Connections r (connection-in c) ⌝ }
 {
@@ -128,23 +128,6 @@ fn connection_entry(c: StoredConnection) -> Entry
         first: c.source,
         second: c.target,
         parts,
-    }
-}
-
-// The i-th record of a section; past the count, that of the element which has nothing.
-pub fn entry_at(graph: Graph, section: Section, i: usize) -> Entry
-    requires { ⌜ Valid graph ⌝ }
-    ensures { λ r. ⌜ EntryIs section r (element-at section (meaning graph) i) ⌝ }
-{
-    match section {
-        Section::Bundles => {
-            let b = graph.bundle_at(i);
-            bundle_entry(b)
-        }
-        Section::Connections => {
-            let c = graph.connection_at(i);
-            connection_entry(c)
-        }
     }
 }
 

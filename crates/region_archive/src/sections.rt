@@ -340,10 +340,11 @@ pub fn section_at(bytes: &[u8], from: usize, section: Section, start: Graph) -> 
             break 'records;
         }
         let changed = take(graph, section, entry);
+        // A refused call hands the graph back as it was.
+        graph = changed.graph;
         if changed.number != NOT_REFUSED {
             break 'records;
         }
-        graph = changed.graph;
         at = to;
         least = order + 1;
         n += 1;

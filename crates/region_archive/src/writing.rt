@@ -13,8 +13,9 @@ use crate::VERSION;
 use crate::Written;
 use crate::entries::Entry;
 use crate::entries::Section;
+use crate::entries::bundle_entry;
+use crate::entries::connection_entry;
 use crate::entries::count;
-use crate::entries::entry_at;
 use crate::entries::fields;
 use crate::entries::first_width;
 use crate::numbers::put_number;
@@ -73,11 +74,22 @@ fn section_size(graph: Graph, section: Section) -> usize
     requires { ⌜ Valid graph ⌝ }
     ensures { λ r. ⌜ (r ≡ length (section-bytes section (meaning graph))) × (r ≤ 20929) ⌝ }
 {
+    let bundles = graph.bundle_places();
+    let connections = graph.connection_places();
     let total = count(graph, section);
     let mut size: usize = 1;
     let mut i: usize = 0;
     while i < total {
-        let entry = entry_at(graph, section, i);
+        let entry = match section {
+            Section::Bundles => {
+                let b = bundles[i];
+                bundle_entry(b)
+            }
+            Section::Connections => {
+                let c = connections[i];
+                connection_entry(c)
+            }
+        };
         i += 1;
         size += 2 + fields_size(section, entry);
     }
@@ -177,11 +189,22 @@ fn put_section(buffer: &mut [u8], at: usize, graph: Graph, section: Section) -> 
     requires { ⌜ at + length (section-bytes section (meaning graph)) ≤ length (now buffer) ⌝ }
     ensures { λ r. ⌜ Wrote (now (buffer .entry)) (now (buffer .exit)) at (section-bytes section (meaning graph)) r ⌝ }
 {
+    let bundles = graph.bundle_places();
+    let connections = graph.connection_places();
     let total = count(graph, section);
     let mut to = put_number(buffer, at, 1, total);
     let mut i: usize = 0;
     while i < total {
-        let entry = entry_at(graph, section, i);
+        let entry = match section {
+            Section::Bundles => {
+                let b = bundles[i];
+                bundle_entry(b)
+            }
+            Section::Connections => {
+                let c = connections[i];
+                connection_entry(c)
+            }
+        };
         to = put_entry(buffer, to, section, entry);
         i += 1;
     }

@@ -31,6 +31,10 @@ module _ {A : Type 0} where
     pub number : v ≡ value answer
     pub says : P answer
 
+  -- what follows of an answer follows of that one
+  pub told : {value : A → ℕ} {v : ℕ} {P Q : A → Type 0} → Of value v P → ((a : A) → P a → Q a) → Of value v Q
+  told o f = record { answer = o .answer; number = o .number; says = f (o .answer) (o .says) }
+
   -- an outcome is an answer, what is returned for it, and a buffer
   abbrev outcome : (A → Returned) → A → List ℕ → Outcome A
   outcome gives a exit = record { answer = a; returned = gives a; exit = exit }

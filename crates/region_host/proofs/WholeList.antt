@@ -25,7 +25,7 @@ use Rattle.region_archive.specs.File.{FileMeaning, sets}
 use Rattle.region_archive.proofs.WholeList.{read-means}
 use Rattle.region_host.specs.Answers.{routed-value, kept-value}
 use Rattle.region_host.proofs.Learnt as learnt
-use Rattle.region_host.proofs.Outcomes.{Of, back, route-whole, find-whole, event-whole}
+use Rattle.region_host.proofs.Outcomes.{Of, told, back, route-whole, find-whole, event-whole}
 
 -- What a caller learns of a changing call on a lent record: the record at entry, the number returned, and the record at exit.
 pub data Called : Graph → ℕ → Graph → Call → Type 0 where
@@ -85,28 +85,28 @@ pub data Events : Graph → ℕ → Kind → List ℕ → List ℕ → ℕ → L
 routed-by : {g : Graph} {l kind number v : ℕ} {entry exit : List ℕ} → Routes g l kind number entry v exit
     → Of routed-value v (λ a. by-value.Routes g l kind number entry a exit)
 routed-by (by-route κs g was out l kind number v e) =
-    let o = back routed-as routed-value (route-whole (meaning (g .now)) l kind number (was .now)) e in
-    record { answer = o .answer; number = o .number; says = by-value.by-route (κs .1) was out (o .answer) (o .says) }
+    told (back routed-as routed-value (route-whole (meaning (g .now)) l kind number (was .now)) e)
+    (by-value.by-route (κs .1) was out)
 
 found-by : {g : Graph} {l v : ℕ} {k : Kind} {xs entry exit : List ℕ} → Finds g l k xs entry v exit → Of kept-value v (λ a. by-value.Finds g l k xs entry a exit)
 found-by (by-bundle-find κs g was xs out l v e) =
-    let o = back kept-as kept-value (find-whole (meaning (g .now)) Kind.Bundle l (xs .now) (was .now)) e in
-    record { answer = o .answer; number = o .number; says = by-value.by-bundle-find (κs .1) xs was out (o .answer) (o .says) }
+    told (back kept-as kept-value (find-whole (meaning (g .now)) Kind.Bundle l (xs .now) (was .now)) e)
+    (by-value.by-bundle-find (κs .1) xs was out)
 found-by (by-resolve κs g was xs out l v e) =
-    let o = back kept-as kept-value (find-whole (meaning (g .now)) Kind.Package l (xs .now) (was .now)) e in
-    record { answer = o .answer; number = o .number; says = by-value.by-resolve (κs .1) xs was out (o .answer) (o .says) }
+    told (back kept-as kept-value (find-whole (meaning (g .now)) Kind.Package l (xs .now) (was .now)) e)
+    (by-value.by-resolve (κs .1) xs was out)
 found-by (by-service-find κs g was xs out l v e) =
-    let o = back kept-as kept-value (find-whole (meaning (g .now)) Kind.Service l (xs .now) (was .now)) e in
-    record { answer = o .answer; number = o .number; says = by-value.by-service-find (κs .1) xs was out (o .answer) (o .says) }
+    told (back kept-as kept-value (find-whole (meaning (g .now)) Kind.Service l (xs .now) (was .now)) e)
+    (by-value.by-service-find (κs .1) xs was out)
 
 heard-by : {g : Graph} {number v : ℕ} {k : Kind} {xs entry exit : List ℕ} → Events g number k xs entry v exit
     → Of kept-value v (λ a. by-value.Events g number k xs entry a exit)
 heard-by (by-bundle-event κs g was xs out number v e) =
-    let o = back kept-as kept-value (event-whole (meaning (g .now)) Kind.Bundle (xs .now) number (was .now)) e in
-    record { answer = o .answer; number = o .number; says = by-value.by-bundle-event (κs .1) xs was out (o .answer) (o .says) }
+    told (back kept-as kept-value (event-whole (meaning (g .now)) Kind.Bundle (xs .now) number (was .now)) e)
+    (by-value.by-bundle-event (κs .1) xs was out)
 heard-by (by-service-event κs g was xs out number v e) =
-    let o = back kept-as kept-value (event-whole (meaning (g .now)) Kind.Service (xs .now) number (was .now)) e in
-    record { answer = o .answer; number = o .number; says = by-value.by-service-event (κs .1) xs was out (o .answer) (o .says) }
+    told (back kept-as kept-value (event-whole (meaning (g .now)) Kind.Service (xs .now) number (was .now)) e)
+    (by-value.by-service-event (κs .1) xs was out)
 
 -- The queries on the lent record g answer as the routes of the model m say: the number returned is that of an answer of which this holds.
 pub record Answers (g : Graph) (m : Model) : Type 0 where
@@ -122,14 +122,11 @@ answers t =
     let known = by-value.answers t in
     record {
       routes = λ l r kind number v entry exit p k b q.
-          let o = routed-by q in
-          record { answer = o .answer; number = o .number; says = known .routes l r kind number entry exit (o .answer) p k b (o .says) };
+          told (routed-by q) (λ a. known .routes l r kind number entry exit a p k b);
       finds = λ k l r v xs entry exit p b q.
-          let o = found-by q in
-          record { answer = o .answer; number = o .number; says = known .finds k l r xs entry exit (o .answer) p b (o .says) };
+          told (found-by q) (λ a. known .finds k l r xs entry exit a p b);
       events = λ k number v xs entry exit p b q.
-          let o = heard-by q in
-          record { answer = o .answer; number = o .number; says = known .events k number xs entry exit (o .answer) p b (o .says) };
+          told (heard-by q) (λ a. known .events k number xs entry exit a p b);
     }
 
 -- From the empty record or an accepted read, for every list of changing calls on the lent record, refused ones included: each number is

@@ -1,8 +1,11 @@
 // The script of a program that runs cases, and the line that it writes for each. A line of the script has words with a space between two,
 // and a word may have numbers with a comma between two. A word is told by how many words are before it.
+mod hex;
+
 ghost use Prim.Native.Nat.{_≤_};
 ghost use lib.ListN.{length};
 ghost use Rattle.io.specs.Counts.{Counts};
+pub use hex::append_hex;
 
 // How many marks a byte is: one or none.
 fn marks(byte: u8, mark: u8) -> usize

@@ -1,13 +1,17 @@
-use mathlib.Core.Path.{_≡_, subst}
+use mathlib.Core.Path.{_≡_, sym, _∙_, subst}
 use mathlib.Core.Logic.{⊎-elim}
 use Prim.Native.Nat.{ℕ, _-_, _≤_}
 use native.Mathlib.Omega.{arith}
 use borrow.Author.Needs.{needs}
+use lib.Dec.{eqb}
 use Rattle.region_graph.specs.Record.{meaning}
+use Rattle.region_graph.specs.declared.Graph.{Graph}
 use Rattle.region_archive.specs.Bytes.{big}
 use Rattle.region_archive.specs.Rows.{Answer}
 use Rattle.region_archive.specs.Entries.{field-count, fields-in, most}
+use Rattle.region_archive.specs.Sections.{SectionRead}
 use Rattle.region_archive.proofs.Answers.{count-stands, number-stands, number-fails}
+use Rattle.region_archive.proofs.TookLaws.{took-kept}
 use Rattle.region_archive.proofs.RecordReads.{Sectioned, FieldsRead, fields-start, fields-more, fields-stuck, fields-whole, section-start, section-missing, section-end, taking, no-length, no-field, misfit, low, no-taking, most-small, key-small}
 use Rattle.region_archive.proofs.sections.section_at.Statement.{statement}
 use Rattle.region_archive.proofs.sections.section_at.Tie as tie
@@ -137,10 +141,17 @@ records-again c =
           small = l .inv .1 .1 .small;
           records =
               taking k (meaning (s .args .start)) (l .inv .1 .1 .small) b (l .at) (r .result .number) (r .result .next) p q (c .before .before .before .before .before .before .if4 .left) (l .inv .1 .1 .records)
-              (c .before .before .before .before .before .order .ensures) (c .before .before .before .before .if5 .left) (c .before .before .before .take .ensures) (c .before .if6 .left);
+              (c .before .before .before .before .before .order .ensures) (c .before .before .before .before .if5 .left) (c .before .before .before .take .ensures) (c .if6 .left);
         },
       ),
     )
+
+-- a refused record leaves the graph that the records before it gave
+kept : (c : tie.Left-records Inv-fields μ-fields Inv-records μ-records) → c .records-test .graph ≡ c .before .records .graph
+kept c =
+    ⊎-elim (λ w. w .1)
+    (⊎-elim (λ w. w .4) (⊎-elim (λ w. w .9) (⊎-elim (λ w. w .9) (⊎-elim (λ w. w .11) (λ w. w .15 ∙ took-kept (w .11 .ensures) (w .14 .taken))))))
+    (c .records-test .came)
 
 returns-2 : tie.Need-returns-2 Inv-fields μ-fields Inv-records μ-records
 returns-2 c =
@@ -152,7 +163,8 @@ returns-2 c =
     let b = s .args .bytes .now in
     let at = l .at in
     let count = c .before .before .before .fields2 .ensures in
-    section-end k (s .args .start) b (s .pre .0) (s .args .from) (c .before .before .before .before .before .before .before .count-at .result) (counted (c .before .before .before .before .before .before .before)) (c .before .before .before .before .before .if1 .left) (l .inv .1 .1) (l .inv .0)
+    subst (λ (g : Graph). SectionRead k (s .args .start) b (s .args .from) (record { ok = eqb (l .n) (c .before .before .before .before .before .before .before .count-at .result .number); next = at; graph = g })) (sym (kept c))
+    (section-end k (s .args .start) b (s .pre .0) (s .args .from) (c .before .before .before .before .before .before .before .count-at .result) (counted (c .before .before .before .before .before .before .before)) (c .before .before .before .before .before .if1 .left) (l .inv .1 .1) (l .inv .0)
     (λ h.
     ⊎-elim (λ w. absurd (omega arith))
     (⊎-elim (λ w. no-length k m z b at (number-fails 2 b at (w .1 .result) (w .3 .taken) (w .1 .ensures)) (l .least))
@@ -171,8 +183,8 @@ returns-2 c =
     (λ w.
     let e : w .4 .field ≡ field-count k = omega (arith, w .4 .inv .0, w .5 .left, count) in
     no-taking k m z b at (w .1 .result .number) (w .1 .result .next) (number-stands 2 b at (w .1 .result) (w .3 .left) (w .1 .ensures)) (fields-whole k b (w .1 .result .next) e (w .4 .inv .1)) (l .inv .1 .1 .records)
-    (omega (arith, l .inv .1 .0)) (w .11 .ensures) (w .13 .taken))))))
-    (c .records-test .came))
+    (omega (arith, l .inv .1 .0)) (w .11 .ensures) (w .14 .taken))))))
+    (c .records-test .came)))
 
 pub section-at-spec : {M : Type 1} → statement M
 section-at-spec =

@@ -2,14 +2,14 @@ use Prim.Native.Nat.{_-_, _*_, _≤_}
 use mathlib.Core.Path.{_≡_}
 use lib.ListN.{length}
 use borrow.Author.Needs.{needs}
-use Rattle.archive_cases.proofs.hex.append.Statement.{statement}
-use Rattle.archive_cases.proofs.hex.append.Tie as tie
+use Rattle.script_lines.proofs.hex.append_hex.Statement.{statement}
+use Rattle.script_lines.proofs.hex.append_hex.Tie as tie
 
 abbrev Inv-loop : tie.InvT-loop
-Inv-loop bytes₀ at line count₀ i₀ bytes count i = (length bytes ≡ length bytes₀) × (at * 2 ≤ count) × (count ≤ length bytes₀ * 2)
+Inv-loop bytes₀ at text count₀ i₀ bytes count i = (length bytes ≡ length bytes₀) × (at * 2 ≤ count) × (count ≤ length bytes₀ * 2)
 
 abbrev μ-loop : tie.MeasureT-loop
-μ-loop bytes₀ at line count₀ i₀ bytes count i = length line - i
+μ-loop bytes₀ at text count₀ i₀ bytes count i = length text - i
 
 mul-count : tie.Need-mul-count Inv-loop μ-loop
 mul-count c = search needs
@@ -38,8 +38,8 @@ same-length c = search needs
 returns : tie.Need-returns Inv-loop μ-loop
 returns c = search needs
 
-pub append-spec : {M : Type 1} → statement M
-append-spec =
+pub append-hex-spec : {M : Type 1} → statement M
+append-hex-spec =
     tie.close
     (tie.spec
     Inv-loop

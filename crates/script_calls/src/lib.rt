@@ -1,4 +1,4 @@
-// The changing calls, as lines of the script.
+// The changing calls, as lines of a script.
 ghost use Rattle.region_graph.specs.Record.{Valid};
 use region_graph::Changed;
 use region_graph::Graph;

@@ -1,4 +1,4 @@
-// The bytes that a line has in hex.
+// The bytes that a text has in hex.
 ghost use Prim.Native.Nat.{_≤_, _*_};
 ghost use lib.ListN.{length};
 
@@ -9,6 +9,7 @@ fn digit(byte: u8) -> u8
     match byte {
         b'0'..=b'9' => byte - b'0',
         b'A'..=b'F' => byte - b'A' + 10,
+        b'a'..=b'f' => byte - b'a' + 10,
         _ => 16,
     }
 }
@@ -30,15 +31,15 @@ fn put(bytes: &mut [u8], count: usize, byte: u8) -> usize
     count + 1
 }
 
-// Puts the bytes of a line at a place, and hands back the place after them.
-pub fn append(bytes: &mut [u8], at: usize, line: &[u8]) -> usize
+// Puts the bytes of a text at a place, and hands back the place after them.
+pub fn append_hex(bytes: &mut [u8], at: usize, text: &[u8]) -> usize
     requires { ⌜ at ≤ length (now bytes) ⌝ }
     ensures { λ r. ⌜ (at ≤ r) × (r ≤ length (now (bytes .entry))) ⌝ }
 {
     let mut count = at * 2;
     let mut i: usize = 0;
-    while i < line.len() {
-        count = put(bytes, count, line[i]);
+    while i < text.len() {
+        count = put(bytes, count, text[i]);
         i += 1;
     }
     count / 2

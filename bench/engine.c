@@ -1,0 +1,216 @@
+/* Measures the engine's calls over the C interface. Prints a line for each: name, nanoseconds of one call, and what the call
+   answered. bench/README.md says what is measured; the programs of the other implementations measure the same. With a second
+   argument it prints for each call its name and the bytes that memcpy copied in it. */
+#define _POSIX_C_SOURCE 200809L
+#include <stdio.h>
+#include <stdlib.h>
+#include <time.h>
+#include "wimboru.h"
+
+/* Short rounds, so that some of them pass without a break by the system; and the calls between two looks at the clock, where that
+   many go into a round. */
+enum { ROUNDS = 100, BATCH = 64 };
+static const double ROUND = 2e6;
+
+/* Graphs on which a changing call is made one after another before the opposite call is. */
+enum { COPIES = 8 };
+
+enum { LIST = 1000, HELD = 512, LISTED = 8, PROVIDED = 8 };
+
+static const uint32_t ASKER = 2000;
+/* Held in region 15, five connections away from the asker. */
+static const uint32_t SEEN_ITEM = 511;
+/* Held in region 15, and passed by every connection but those to region 15. */
+static const uint32_t HIDDEN_ITEM = 504;
+static const uint32_t UNHELD_ITEM = 1000;
+static const uint32_t listed[LISTED] = {504, 505, 506, 507, 508, 509, 510, 511};
+static const uint32_t listed_to_15[LISTED] = {505, 506, 507, 508, 509, 510, 511, 1000};
+
+/* A file in memory. */
+typedef struct {
+    uint8_t bytes[REGION_LONGEST_IMAGE];
+    size_t length;
+} file;
+
+/* What the measured calls work on. */
+static region_graph graph;
+static region_graph copies[COPIES];
+static uint32_t candidates[LIST];
+static uint32_t listeners[LIST];
+static uint32_t kept[LIST];
+static uint32_t provided[PROVIDED];
+static uint32_t hidden;
+static uint8_t bytes[REGION_LONGEST_IMAGE];
+static file g;
+static file longest;
+
+/* Whether copies are counted in place of time; and the bytes that memcpy has copied, which copies.c counts. */
+static bool counting;
+size_t copied;
+
+static void must(bool holds, const char *what) {
+    if (!holds) {
+        fprintf(stderr, "%s\n", what);
+        exit(1);
+    }
+}
+
+static double now(void) {
+    struct timespec t;
+    clock_gettime(CLOCK_MONOTONIC, &t);
+    return (double)t.tv_sec * 1e9 + (double)t.tv_nsec;
+}
+
+static double least(double a, double b) {
+    return a < b ? a : b;
+}
+
+/* Prints what a call copied. */
+static void print_copied(const char *name, const char *filters, size_t before) {
+    printf("%s%s %zu\n", name, filters, copied - before);
+}
+
+/* Prints the best average of the rounds. */
+static void best(const char *name, const char *filters, int64_t (*call)(void)) {
+    size_t before = copied;
+    int64_t answer = call();
+    if (counting) {
+        print_copied(name, filters, before);
+        return;
+    }
+    double first = now();
+    must(call() == answer, "another answer");
+    size_t batch = (now() - first) * BATCH > ROUND ? 1 : BATCH;
+    double shortest = 1e18;
+    for (int round = 0; round < ROUNDS; round++) {
+        size_t calls = 0;
+        double start = now();
+        while (now() - start < ROUND) {
+            for (size_t i = 0; i < batch; i++) must(call() == answer, "another answer");
+            calls += batch;
+        }
+        shortest = least(shortest, (now() - start) / (double)calls);
+    }
+    printf("%s%s %.1f %lld\n", name, filters, shortest, (long long)answer);
+}
+
+/* Time for a changing call on each copy of the graph. */
+static double on_copies(uint32_t (*call)(region_graph *)) {
+    double start = now();
+    for (size_t i = 0; i < COPIES; i++) must(call(&copies[i]) == 0, "a refusal");
+    return now() - start;
+}
+
+/* Prints what a changing call copied. */
+static void count_on(const char *name, uint32_t (*call)(region_graph *)) {
+    size_t before = copied;
+    must(call(&graph) == 0, "a refusal");
+    print_copied(name, "", before);
+}
+
+/* Prints the best averages of a call that removes and of the one that puts back. */
+static void best_pair(const char *removes, uint32_t (*down)(region_graph *),
+                      const char *puts_back, uint32_t (*up)(region_graph *)) {
+    double shortest_down = 1e18, shortest_up = 1e18;
+    if (counting) {
+        count_on(removes, down);
+        count_on(puts_back, up);
+        return;
+    }
+    for (size_t i = 0; i < COPIES; i++) copies[i] = graph;
+    for (int round = 0; round < ROUNDS; round++) {
+        size_t calls = 0;
+        double spent_down = 0, spent_up = 0;
+        while (spent_down + spent_up < ROUND) {
+            spent_down += on_copies(down);
+            spent_up += on_copies(up);
+            calls += COPIES;
+        }
+        shortest_down = least(shortest_down, spent_down / (double)calls);
+        shortest_up = least(shortest_up, spent_up / (double)calls);
+    }
+    printf("%s %.1f 0\n%s %.1f 0\n", removes, shortest_down, puts_back, shortest_up);
+}
+
+static int64_t route_seen(void) { return region_route(&graph, bytes, sizeof bytes, ASKER, REGION_KIND_PACKAGE, SEEN_ITEM); }
+static int64_t route_hidden(void) { return region_route(&graph, bytes, sizeof bytes, ASKER, REGION_KIND_PACKAGE, hidden); }
+static int64_t find_1_seen(void) { return region_resolve(&graph, kept, LIST, ASKER, &SEEN_ITEM, 1); }
+static int64_t find_1_hidden(void) { return region_resolve(&graph, kept, LIST, ASKER, &hidden, 1); }
+static int64_t find_1000(void) { return region_resolve(&graph, kept, LIST, ASKER, candidates, LIST); }
+static int64_t event_1000(void) { return region_service_event(&graph, kept, LIST, listeners, LIST, SEEN_ITEM); }
+static uint32_t uninstall(region_graph *to) { return region_uninstall(to, ASKER + 32); }
+static uint32_t install(region_graph *to) { return region_install(to, 0, ASKER + 32, provided, PROVIDED, provided, PROVIDED); }
+static uint32_t disconnect(region_graph *to) { return region_disconnect(to, 7, 9); }
+static uint32_t connect_listed(region_graph *to) {
+    return region_connect(to, 7, 9, listed, LISTED, false, listed, LISTED, false, listed, LISTED);
+}
+static int64_t read_longest(void) { return region_read(&graph, longest.bytes, longest.length); }
+static int64_t write_longest(void) { return region_write(&graph, bytes, sizeof bytes); }
+static int64_t query_g(void) { return archive_query(g.bytes, g.length, 10, REGION_KIND_PACKAGE, 1); }
+static int64_t query_longest(void) { return archive_query(longest.bytes, longest.length, 1000, REGION_KIND_PACKAGE, 600); }
+
+/* The packages, and the services, of bundle i. */
+static void provide(uint32_t i) {
+    for (uint32_t k = 0; k < PROVIDED; k++) provided[k] = PROVIDED * i + k;
+}
+
+static void connect_full(uint32_t source, uint32_t target, bool all) {
+    const uint32_t *numbers = target == 15 ? listed_to_15 : listed;
+    size_t count = all ? 0 : LISTED;
+    must(region_connect(&graph, source, target, numbers, count, all, numbers, count, all, numbers, count) == 0, "connect");
+}
+
+/* 16 regions, 64 bundles, 48 connections that pass all packages and services, or list 8 numbers in each part. */
+static void full_graph(bool all) {
+    region_empty(&graph);
+    for (uint32_t r = 0; r < REGION_REGIONS; r++) must(region_add(&graph, r) == 0, "add");
+    for (uint32_t i = 0; i < REGION_MOST_BUNDLES; i++) {
+        provide(i);
+        must(region_install(&graph, i % REGION_REGIONS, ASKER + i, provided, PROVIDED, provided, PROVIDED) == 0, "install");
+    }
+    for (uint32_t r = 0; r < REGION_REGIONS; r++)
+        for (uint32_t step = 1; step <= 3; step++)
+            connect_full(r, (r + step) % REGION_REGIONS, all);
+}
+
+static void queries(const char *filters, uint32_t hidden_item) {
+    hidden = hidden_item;
+    best("route_seen", filters, route_seen);
+    best("route_hidden", filters, route_hidden);
+    best("find_1_seen", filters, find_1_seen);
+    best("find_1_hidden", filters, find_1_hidden);
+    best("find_1000", filters, find_1000);
+    best("event_1000", filters, event_1000);
+}
+
+static void take(file *f, const char *folder, const char *name) {
+    char path[4096];
+    must(snprintf(path, sizeof path, "%s/%s", folder, name) < (int)sizeof path, "the path is too long");
+    FILE *stream = fopen(path, "rb");
+    must(stream != NULL, path);
+    f->length = fread(f->bytes, 1, sizeof f->bytes, stream);
+    fclose(stream);
+}
+
+int main(int count, char **arguments) {
+    must(count == 2 || count == 3, "usage: engine EXAMPLES [copies]");
+    counting = count == 3;
+    take(&g, arguments[1], "g.archive");
+    take(&longest, arguments[1], "longest.archive");
+    for (uint32_t i = 0; i < LIST; i++) {
+        candidates[i] = i % HELD;
+        listeners[i] = ASKER + i % REGION_MOST_BUNDLES;
+    }
+    full_graph(true);
+    queries("_all", UNHELD_ITEM);
+    full_graph(false);
+    queries("_listed", HIDDEN_ITEM);
+    provide(32);
+    best_pair("uninstall", uninstall, "install", install);
+    best_pair("disconnect", disconnect, "connect", connect_listed);
+    best("read_longest", "", read_longest);
+    best("write_longest", "", write_longest);
+    best("query_g", "", query_g);
+    best("query_longest", "", query_longest);
+    return 0;
+}

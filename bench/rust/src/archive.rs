@@ -1,0 +1,204 @@
+//! The archive: reading, writing and the archive query.
+
+use crate::graph::{
+    ascends, Bundle, Connection, Filter, Graph, Kind, Part, Refusal, RegionSet, MOST_BUNDLES, MOST_CONNECTIONS,
+    MOST_LISTED, MOST_PROVIDED, REGIONS,
+};
+
+const VERSION: u8 = 1;
+const HEAD: usize = 5;
+const EVERYTHING: u8 = 255;
+const SEEN: u32 = 100;
+const HIDDEN: u32 = 101;
+
+impl Graph {
+    pub fn read(bytes: &[u8]) -> Result<Graph, Refusal> {
+        if bytes.len() < HEAD || bytes[0] != VERSION {
+            return Err(Refusal::NotAnArchive);
+        }
+        let (head, body) = bytes.split_at(HEAD);
+        if u32::from_be_bytes([head[1], head[2], head[3], head[4]]) as usize != body.len() {
+            return Err(Refusal::WrongLength);
+        }
+        Fields(body).graph().ok_or(Refusal::BrokenLayout)
+    }
+
+    /// Writes the image and gives its length.
+    pub fn write(&self, out: &mut [u8]) -> Result<usize, Refusal> {
+        let image = self.image();
+        out.get_mut(..image.len()).ok_or(Refusal::NoPlace)?.copy_from_slice(&image);
+        Ok(image.len())
+    }
+
+    pub fn image(&self) -> Vec<u8> {
+        let mut image = vec![VERSION, 0, 0, 0, 0];
+        image.push(self.regions.len() as u8);
+        image.extend(self.regions.iter());
+        image.push(self.bundles.len() as u8);
+        for bundle in &self.bundles {
+            put_record(&mut image, |record| put_bundle(record, bundle));
+        }
+        image.push(self.connections.len() as u8);
+        for connection in &self.connections {
+            put_record(&mut image, |record| put_connection(record, connection));
+        }
+        let length = (image.len() - HEAD) as u32;
+        image[1..HEAD].copy_from_slice(&length.to_be_bytes());
+        image
+    }
+}
+
+/// 100 where the bundle sees the item in the graph of an archive, 101 where it does not, or a refusal's number.
+pub fn archive_query(bytes: &[u8], location: u32, kind: u32, item: u32) -> u32 {
+    let answer = || -> Result<bool, Refusal> {
+        let graph = Graph::read(bytes)?;
+        let region = graph.region_of(location)?;
+        Ok(graph.seers(Kind::try_from(kind)?, item).contains(region))
+    };
+    match answer() {
+        Ok(true) => SEEN,
+        Ok(false) => HIDDEN,
+        Err(refusal) => refusal as u32,
+    }
+}
+
+fn put_record(image: &mut Vec<u8>, put: impl FnOnce(&mut Vec<u8>)) {
+    let start = image.len();
+    image.extend([0, 0]);
+    put(image);
+    let length = (image.len() - start - 2) as u16;
+    image[start..start + 2].copy_from_slice(&length.to_be_bytes());
+}
+
+fn put_bundle(image: &mut Vec<u8>, bundle: &Bundle) {
+    image.extend(bundle.location.to_be_bytes());
+    image.push(bundle.region);
+    put_list(image, &bundle.packages);
+    put_list(image, &bundle.services);
+}
+
+fn put_connection(image: &mut Vec<u8>, connection: &Connection) {
+    image.extend([connection.source, connection.target]);
+    put_list(image, &connection.filter.bundles);
+    put_part(image, &connection.filter.packages);
+    put_part(image, &connection.filter.services);
+}
+
+fn put_list(image: &mut Vec<u8>, numbers: &[u32]) {
+    image.push(numbers.len() as u8);
+    for number in numbers {
+        image.extend(number.to_be_bytes());
+    }
+}
+
+fn put_part(image: &mut Vec<u8>, part: &Part) {
+    match part {
+        Part::All => image.push(EVERYTHING),
+        Part::Listed(numbers) => put_list(image, numbers),
+    }
+}
+
+/// The bytes that are still to be read. A reader gives `None` where they break the layout.
+struct Fields<'a>(&'a [u8]);
+
+impl<'a> Fields<'a> {
+    fn graph(mut self) -> Option<Graph> {
+        let regions = self.regions()?;
+        let bundles = self.records(MOST_BUNDLES, |fields| fields.bundle(regions))?;
+        let connections = self.records(MOST_CONNECTIONS, |fields| fields.connection(regions))?;
+        let ordered = ascends_by(&bundles, |b| b.location) && ascends_by(&connections, Connection::ends);
+        (ordered && self.0.is_empty()).then_some(Graph { regions, bundles, connections })
+    }
+
+    fn regions(&mut self) -> Option<RegionSet> {
+        let count = usize::from(self.byte()?);
+        let numbers = self.bytes(count)?;
+        if !ascends(numbers) || numbers.iter().any(|&r| u32::from(r) >= REGIONS) {
+            return None;
+        }
+        let mut set = RegionSet::default();
+        numbers.iter().for_each(|&r| set.insert(r));
+        Some(set)
+    }
+
+    /// A count within the limit, and so many records, each read to its end.
+    fn records<T>(&mut self, most: usize, read: impl Fn(&mut Fields<'a>) -> Option<T>) -> Option<Vec<T>> {
+        let count = usize::from(self.byte()?);
+        if count > most {
+            return None;
+        }
+        let mut records = Vec::with_capacity(count);
+        for _ in 0..count {
+            let length = u16::from_be_bytes(self.array()?);
+            let mut fields = Fields(self.bytes(usize::from(length))?);
+            records.push(read(&mut fields)?);
+            if !fields.0.is_empty() {
+                return None;
+            }
+        }
+        Some(records)
+    }
+
+    fn bundle(&mut self, regions: RegionSet) -> Option<Bundle> {
+        let location = u32::from_be_bytes(self.array()?);
+        let region = self.region(regions)?;
+        let packages = self.list(MOST_PROVIDED)?;
+        let services = self.list(MOST_PROVIDED)?;
+        Some(Bundle { location, region, packages, services })
+    }
+
+    fn connection(&mut self, regions: RegionSet) -> Option<Connection> {
+        let source = self.region(regions)?;
+        let target = self.region(regions)?;
+        if source == target {
+            return None;
+        }
+        let bundles = self.list(MOST_LISTED)?;
+        let packages = self.part()?;
+        let services = self.part()?;
+        Some(Connection { source, target, filter: Filter { bundles, packages, services } })
+    }
+
+    fn part(&mut self) -> Option<Part> {
+        if self.0.first() == Some(&EVERYTHING) {
+            self.byte()?;
+            return Some(Part::All);
+        }
+        self.list(MOST_LISTED).map(Part::Listed)
+    }
+
+    fn list(&mut self, most: usize) -> Option<Vec<u32>> {
+        let count = usize::from(self.byte()?);
+        if count > most {
+            return None;
+        }
+        let numbers: Vec<u32> =
+            self.bytes(4 * count)?.chunks_exact(4).map(|b| u32::from_be_bytes([b[0], b[1], b[2], b[3]])).collect();
+        ascends(&numbers).then_some(numbers)
+    }
+
+    fn region(&mut self, regions: RegionSet) -> Option<u8> {
+        let region = self.byte()?;
+        (u32::from(region) < REGIONS && regions.contains(region)).then_some(region)
+    }
+
+    fn byte(&mut self) -> Option<u8> {
+        self.array().map(|[byte]: [u8; 1]| byte)
+    }
+
+    fn array<const N: usize>(&mut self) -> Option<[u8; N]> {
+        let (array, rest) = self.0.split_first_chunk()?;
+        self.0 = rest;
+        Some(*array)
+    }
+
+    fn bytes(&mut self, count: usize) -> Option<&'a [u8]> {
+        let (bytes, rest) = self.0.split_at_checked(count)?;
+        self.0 = rest;
+        Some(bytes)
+    }
+}
+
+fn ascends_by<T, K: Ord>(items: &[T], key: impl Fn(&T) -> K) -> bool {
+    items.windows(2).all(|pair| key(&pair[0]) < key(&pair[1]))
+}

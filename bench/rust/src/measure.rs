@@ -1,0 +1,174 @@
+//! Measures the calls. Prints a line for each: name, nanoseconds of one call, and what the call answered.
+//! bench/README.md says what is measured; the programs of the other implementations measure the same.
+
+use std::hint::black_box;
+use std::io;
+use std::path::Path;
+use std::time::{Duration, Instant};
+
+use crate::archive::archive_query;
+use crate::graph::{Filter, Graph, Part, Refusal};
+
+/// Short rounds, so that some of them pass without a break by the system.
+const ROUNDS: usize = 100;
+const ROUND: Duration = Duration::from_millis(2);
+/// Calls between two looks at the clock, where that many go into a round.
+const BATCH: usize = 64;
+/// Graphs on which a changing call is made one after another before the opposite call is.
+const COPIES: usize = 8;
+
+const HIDDEN: i64 = -101;
+const ASKER: u32 = 2000;
+/// Held in region 15, five connections away from the asker.
+const SEEN_ITEM: u32 = 511;
+/// Held in region 15, and passed by every connection but those to region 15.
+const HIDDEN_ITEM: u32 = 504;
+const UNHELD_ITEM: u32 = 1000;
+const LISTED: [u32; 8] = [HIDDEN_ITEM, 505, 506, 507, 508, 509, 510, SEEN_ITEM];
+const LISTED_TO_15: [u32; 8] = [505, 506, 507, 508, 509, 510, SEEN_ITEM, UNHELD_ITEM];
+const HELD: u32 = 512;
+const LIST: u32 = 1000;
+
+pub fn run(examples: &Path) -> io::Result<()> {
+    queries("all", &full_graph(|_| ALL), UNHELD_ITEM);
+    let listed = full_graph(|target| filter(if target == 15 { &LISTED_TO_15 } else { &LISTED }));
+    queries("listed", &listed, HIDDEN_ITEM);
+    changes(&listed);
+    archives(&std::fs::read(examples.join("g.archive"))?, &std::fs::read(examples.join("longest.archive"))?);
+    Ok(())
+}
+
+const ALL: Filter = Filter { bundles: vec![], packages: Part::All, services: Part::All };
+
+fn filter(numbers: &[u32]) -> Filter {
+    let part = || Part::Listed(numbers.to_vec());
+    Filter { bundles: numbers.to_vec(), packages: part(), services: part() }
+}
+
+/// The packages, and the services, of bundle i.
+fn provided(i: u32) -> Vec<u32> {
+    (8 * i..8 * i + 8).collect()
+}
+
+/// 16 regions, 64 bundles, 48 connections; the filter of a connection by its target.
+fn full_graph(filter: impl Fn(u32) -> Filter) -> Graph {
+    let mut graph = Graph::default();
+    (0..16).for_each(|r| accepted(graph.add_region(r)));
+    (0..64).for_each(|i| accepted(graph.install(i % 16, ASKER + i, &provided(i), &provided(i))));
+    for r in 0..16 {
+        for target in (1..=3).map(|step| (r + step) % 16) {
+            accepted(graph.connect(r, target, &filter(target)));
+        }
+    }
+    graph
+}
+
+fn accepted(done: Result<(), Refusal>) {
+    done.expect("the call is accepted");
+}
+
+fn queries(filters: &str, graph: &Graph, hidden: u32) {
+    let mut bytes = [0; 16];
+    for (name, item) in [("seen", SEEN_ITEM), ("hidden", hidden)] {
+        best(&format!("route_{name}_{filters}"), || {
+            let count = graph.route(black_box(ASKER), 1, black_box(item), &mut bytes);
+            answer(count.map(|c| c.map_or(HIDDEN, |c| c as i64)))
+        });
+    }
+    let mut out = [0; LIST as usize];
+    for (name, item) in [("seen", SEEN_ITEM), ("hidden", hidden)] {
+        best(&format!("find_1_{name}_{filters}"), || {
+            answer(graph.resolve(black_box(ASKER), black_box(&[item]), &mut out).map(|c| c as i64))
+        });
+    }
+    let candidates: Vec<u32> = (0..LIST).map(|i| i % HELD).collect();
+    best(&format!("find_1000_{filters}"), || {
+        answer(graph.resolve(ASKER, black_box(&candidates), &mut out).map(|c| c as i64))
+    });
+    let listeners: Vec<u32> = (0..LIST).map(|i| ASKER + i % 64).collect();
+    best(&format!("event_1000_{filters}"), || {
+        answer(graph.service_event(black_box(&listeners), SEEN_ITEM, &mut out).map(|c| c as i64))
+    });
+}
+
+fn changes(graph: &Graph) {
+    let filter = filter(&LISTED);
+    let numbers = provided(32);
+    best_pair(
+        graph,
+        ("uninstall", |g| g.uninstall(black_box(ASKER + 32))),
+        ("install", |g| g.install(0, black_box(ASKER + 32), &numbers, &numbers)),
+    );
+    best_pair(
+        graph,
+        ("disconnect", |g| g.disconnect(black_box(7), 9)),
+        ("connect", |g| g.connect(black_box(7), 9, &filter)),
+    );
+}
+
+fn archives(g: &[u8], longest: &[u8]) {
+    let mut graph = Graph::default();
+    best("read_longest", || {
+        graph = Graph::read(black_box(longest)).expect("an archive");
+        0
+    });
+    let mut out = vec![0; longest.len()];
+    best("write_longest", || answer(graph.write(black_box(&mut out)).map(|length| length as i64)));
+    best("query_g", || archive_query(black_box(g), 10, 1, 1).into());
+    best("query_longest", || archive_query(black_box(longest), 1000, 1, 600).into());
+}
+
+fn answer(given: Result<i64, Refusal>) -> i64 {
+    given.unwrap_or_else(|refusal| -(refusal as i64))
+}
+
+/// Prints the best average of the rounds.
+fn best(name: &str, mut call: impl FnMut() -> i64) {
+    let answer = call();
+    let start = Instant::now();
+    call();
+    let batch = if start.elapsed() * BATCH as u32 > ROUND { 1 } else { BATCH };
+    let mut least = f64::INFINITY;
+    for _ in 0..ROUNDS {
+        let mut calls = 0;
+        let start = Instant::now();
+        while start.elapsed() < ROUND {
+            (0..batch).for_each(|_| assert_eq!(black_box(call()), answer));
+            calls += batch;
+        }
+        least = least.min(nanoseconds(start.elapsed(), calls));
+    }
+    println!("{name} {least:.1} {answer}");
+}
+
+/// Prints the best averages of a call that removes and of the one that puts back.
+fn best_pair<D, U>(graph: &Graph, down: (&str, D), up: (&str, U))
+where
+    D: Fn(&mut Graph) -> Result<(), Refusal>,
+    U: Fn(&mut Graph) -> Result<(), Refusal>,
+{
+    let mut copies = vec![graph.clone(); COPIES];
+    let mut least = [f64::INFINITY; 2];
+    for _ in 0..ROUNDS {
+        let mut spent = [Duration::ZERO; 2];
+        let mut calls = 0;
+        while spent[0] + spent[1] < ROUND {
+            spent[0] += time(&mut copies, &down.1);
+            spent[1] += time(&mut copies, &up.1);
+            calls += COPIES;
+        }
+        least = [0, 1].map(|i| least[i].min(nanoseconds(spent[i], calls)));
+    }
+    println!("{} {:.1} 0", down.0, least[0]);
+    println!("{} {:.1} 0", up.0, least[1]);
+}
+
+fn time(copies: &mut [Graph], call: impl Fn(&mut Graph) -> Result<(), Refusal>) -> Duration {
+    let start = Instant::now();
+    copies.iter_mut().for_each(|graph| accepted(call(graph)));
+    start.elapsed()
+}
+
+fn nanoseconds(spent: Duration, calls: usize) -> f64 {
+    spent.as_nanos() as f64 / calls as f64
+}

@@ -1,0 +1,96 @@
+// The answers, as text. The answer of a call with a buffer has three words: the number, the count, and what the buffer holds; `-` is
+// written where there is no count and where the buffer has no place.
+use crate::buffers::PLACES;
+use crate::buffers::ROOM;
+use region_archive::Written;
+use region_routes::Kept;
+use region_routes::Routed;
+
+fn show_count(count: usize) {
+    io::write_all(1, b"0 ");
+    io::print_decimal(1, count as u64);
+    io::write_all(1, b" ");
+}
+
+fn show_refusal(number: u32) {
+    io::print_decimal(1, number as u64);
+    io::write_all(1, b" - ");
+}
+
+// The number and the count of a route call.
+pub fn show_routed(answer: Routed) {
+    match answer {
+        Routed::Hidden => {
+            io::write_all(1, b"0 hidden ");
+        }
+        Routed::Count(count) => show_count(count),
+        Routed::Refused(number) => show_refusal(number),
+    }
+}
+
+// The number and the count of a hook.
+pub fn show_kept(answer: Kept) {
+    match answer {
+        Kept::Wrote(count) => show_count(count),
+        Kept::Refused(number) => show_refusal(number),
+    }
+}
+
+// The number and the length of a write.
+pub fn show_written(answer: Written) {
+    match answer {
+        Written::Bytes(length) => show_count(length),
+        Written::Refused(number) => show_refusal(number),
+    }
+}
+
+// The whole answer of a call that gives a number alone.
+pub fn show_number(number: u32) {
+    io::print_decimal(1, number as u64);
+    io::write_all(1, b"\n");
+}
+
+fn show_byte(byte: u8) {
+    io::print_hex(1, byte as u64, 2);
+}
+
+// The first bytes in hex: so many, or all; and the end of the line.
+pub fn show_bytes(room: &[u8; ROOM], count: usize) {
+    let mut i: usize = 0;
+    while i < ROOM {
+        if i == count {
+            break;
+        }
+        show_byte(room[i]);
+        i += 1;
+    }
+    show_end(i);
+}
+
+fn show_place(i: usize, number: u32) {
+    if 0 < i {
+        io::write_all(1, b",");
+    }
+    io::print_decimal(1, number as u64);
+}
+
+// The first places, with a comma between two: so many, or all; and the end of the line.
+pub fn show_places(places: &[u32; PLACES], count: usize) {
+    let mut i: usize = 0;
+    while i < PLACES {
+        if i == count {
+            break;
+        }
+        show_place(i, places[i]);
+        i += 1;
+    }
+    show_end(i);
+}
+
+// Ends the line after so many bytes or places.
+fn show_end(count: usize) {
+    if count == 0 {
+        io::write_all(1, b"-");
+    }
+    io::write_all(1, b"\n");
+}

@@ -1,0 +1,359 @@
+/* Runs call scripts on the engine through its C interface: a line in, the answer out, both in the language that
+   oracle/oracle.py describes, with the two lines that language.py adds. It compares nothing.
+
+   The record, the lists and the buffers stand between pages that cannot be touched, so that a read or a write outside
+   them ends the program. Blocks end at such a page on even lines and begin at one on odd lines. */
+#define _POSIX_C_SOURCE 200809L
+#include <errno.h>
+#include <inttypes.h>
+#include <stdio.h>
+#include <stdlib.h>
+#include <string.h>
+
+#include "guarded.h"
+#include "wimboru.h"
+
+enum { FILLED_BYTE = 0xA5, MOST_ARGUMENTS = 5 };
+static const uint32_t FILLED_PLACE = 0xDEAD0000u;
+
+/* One block of memory for each use in a call. */
+enum { RECORD, FIRST, SECOND, THIRD, OUTPUT, ROOMS };
+
+struct list {
+    const uint32_t *items;
+    size_t count;
+    bool all;
+};
+
+struct file {
+    const uint8_t *bytes;
+    size_t length;
+};
+
+static struct guarded rooms[ROOMS];
+static region_graph *graph;
+static unsigned long line_number;
+
+static void stop(const char *why, const char *text)
+{
+    fflush(stdout);
+    fprintf(stderr, "driver: line %lu: %s: %.60s\n", line_number, why, text);
+    exit(2);
+}
+
+static void *block(int room, size_t size)
+{
+    return line_number % 2 == 0 ? guarded_high(rooms[room], size) : guarded_low(rooms[room], size);
+}
+
+/* ---- what a line has ---- */
+
+static uint32_t number(const char *text, char **end)
+{
+    unsigned long value;
+
+    errno = 0;
+    value = strtoul(text, end, 10);
+    if (text[0] < '0' || text[0] > '9' || errno != 0 || value > UINT32_MAX)
+        stop("not a number", text);
+    return (uint32_t)value;
+}
+
+static uint32_t whole_number(const char *text)
+{
+    char *end;
+    uint32_t value = number(text, &end);
+
+    if (*end != '\0')
+        stop("not a number", text);
+    return value;
+}
+
+static struct list list(const char *text, int room)
+{
+    struct list result = {block(room, 0), 0, strcmp(text, "*") == 0};
+    uint32_t *items;
+    char *rest;
+    size_t i;
+
+    if (result.all || strcmp(text, "-") == 0)
+        return result;
+    result.count = 1;
+    for (i = 0; text[i] != '\0'; i++)
+        result.count += text[i] == ',';
+    items = block(room, result.count * sizeof *items);
+    for (i = 0; i < result.count; i++) {
+        items[i] = number(text, &rest);
+        if (*rest != (i + 1 < result.count ? ',' : '\0'))
+            stop("not a list", text);
+        text = rest + 1;
+    }
+    result.items = items;
+    return result;
+}
+
+static unsigned digit(const char *text)
+{
+    static const char digits[] = "0123456789abcdef";
+    const char *at = *text == '\0' ? NULL : strchr(digits, *text);
+
+    if (at == NULL)
+        stop("not a digit of base 16", text);
+    return (unsigned)(at - digits);
+}
+
+static struct file file(const char *text)
+{
+    size_t length = strcmp(text, "-") == 0 ? 0 : strlen(text) / 2;
+    uint8_t *bytes = block(FIRST, length);
+    struct file result = {bytes, length};
+
+    if (length > 0 && strlen(text) % 2 != 0)
+        stop("half a byte", text);
+    for (size_t i = 0; i < length; i++)
+        bytes[i] = (uint8_t)(digit(text + 2 * i) << 4 | digit(text + 2 * i + 1));
+    return result;
+}
+
+/* ---- buffers, filled as the oracle's language says ---- */
+
+static uint8_t *byte_buffer(size_t length)
+{
+    uint8_t *out = block(OUTPUT, length);
+
+    memset(out, FILLED_BYTE, length);
+    return out;
+}
+
+static uint32_t *place_buffer(uint32_t count)
+{
+    uint32_t *out = block(OUTPUT, count * sizeof *out);
+
+    for (uint32_t i = 0; i < count; i++)
+        out[i] = FILLED_PLACE + i;
+    return out;
+}
+
+/* ---- answers ---- */
+
+static void print_number(uint32_t answer)
+{
+    printf("%" PRIu32 "\n", answer);
+}
+
+static void print_result(int64_t result)
+{
+    if (result >= 0)
+        printf("0 %" PRId64 " ", result);
+    else if (result == -REGION_HIDDEN)
+        printf("0 hidden ");
+    else
+        printf("%" PRId64 " - ", -result);
+}
+
+static void print_bytes(const uint8_t *bytes, size_t length)
+{
+    for (size_t i = 0; i < length; i++)
+        printf("%02x", bytes[i]);
+    puts(length == 0 ? "-" : "");
+}
+
+static void print_places(const uint32_t *places, size_t count)
+{
+    for (size_t i = 0; i < count; i++)
+        printf(i == 0 ? "%" PRIu32 : ",%" PRIu32, places[i]);
+    puts(count == 0 ? "-" : "");
+}
+
+/* ---- the lines ---- */
+
+static void read_over(char **a)
+{
+    struct file f = file(a[0]);
+
+    print_number(region_read(graph, f.bytes, f.length));
+}
+
+static void start(char **a)
+{
+    region_empty(graph);
+    if (strcmp(a[0], "empty") == 0)
+        print_number(0);
+    else
+        read_over(a);
+}
+
+static void add(char **a)
+{
+    print_number(region_add(graph, whole_number(a[0])));
+}
+
+static void remove_region(char **a)
+{
+    print_number(region_remove(graph, whole_number(a[0])));
+}
+
+static void install(char **a)
+{
+    struct list packages = list(a[2], FIRST), services = list(a[3], SECOND);
+
+    print_number(region_install(graph, whole_number(a[0]), whole_number(a[1]), packages.items, packages.count,
+                                services.items, services.count));
+}
+
+static void uninstall(char **a)
+{
+    print_number(region_uninstall(graph, whole_number(a[0])));
+}
+
+static void connect(char **a)
+{
+    struct list bundles = list(a[2], FIRST), packages = list(a[3], SECOND), services = list(a[4], THIRD);
+
+    print_number(region_connect(graph, whole_number(a[0]), whole_number(a[1]), bundles.items, bundles.count,
+                                packages.all, packages.items, packages.count,
+                                services.all, services.items, services.count));
+}
+
+static void disconnect(char **a)
+{
+    print_number(region_disconnect(graph, whole_number(a[0]), whole_number(a[1])));
+}
+
+typedef int64_t find_call(const region_graph *, uint32_t *, size_t, uint32_t, const uint32_t *, size_t);
+typedef int64_t event_call(const region_graph *, uint32_t *, size_t, const uint32_t *, size_t, uint32_t);
+
+static void find(find_call *call, char **a)
+{
+    uint32_t count = whole_number(a[1]);
+    uint32_t *out = place_buffer(count);
+    struct list candidates = list(a[2], FIRST);
+
+    print_result(call(graph, out, count, whole_number(a[0]), candidates.items, candidates.count));
+    print_places(out, count);
+}
+
+static void event(event_call *call, char **a)
+{
+    uint32_t count = whole_number(a[0]);
+    uint32_t *out = place_buffer(count);
+    struct list listeners = list(a[2], FIRST);
+
+    print_result(call(graph, out, count, listeners.items, listeners.count, whole_number(a[1])));
+    print_places(out, count);
+}
+
+static void bundle_find(char **a)
+{
+    find(region_bundle_find, a);
+}
+
+static void resolve(char **a)
+{
+    find(region_resolve, a);
+}
+
+static void service_find(char **a)
+{
+    find(region_service_find, a);
+}
+
+static void bundle_event(char **a)
+{
+    event(region_bundle_event, a);
+}
+
+static void service_event(char **a)
+{
+    event(region_service_event, a);
+}
+
+static void route(char **a)
+{
+    uint32_t length = whole_number(a[3]);
+    uint8_t *out = byte_buffer(length);
+
+    print_result(region_route(graph, out, length, whole_number(a[0]), whole_number(a[1]), whole_number(a[2])));
+    print_bytes(out, length);
+}
+
+static void write_image(char **a)
+{
+    uint32_t length = whole_number(a[0]);
+    uint8_t *out = byte_buffer(length);
+
+    print_result(region_write(graph, out, length));
+    print_bytes(out, length);
+}
+
+static void image(char **a)
+{
+    uint8_t *out = byte_buffer(REGION_LONGEST_IMAGE);
+    int64_t length = region_write(graph, out, REGION_LONGEST_IMAGE);
+
+    (void)a;
+    if (length < 0)
+        printf("refused %" PRId64 "\n", -length);
+    else
+        print_bytes(out, (size_t)length);
+}
+
+static void query(char **a)
+{
+    struct file f = file(a[3]);
+
+    print_number(archive_query(f.bytes, f.length, whole_number(a[0]), whole_number(a[1]), whole_number(a[2])));
+}
+
+static const struct command {
+    const char *word;
+    int arguments;
+    void (*run)(char **arguments);
+} commands[] = {
+    {"start", 1, start},        {"read", 1, read_over},      {"query", 4, query},
+    {"add", 1, add},            {"remove", 1, remove_region}, {"install", 4, install},
+    {"uninstall", 1, uninstall}, {"connect", 5, connect},     {"disconnect", 2, disconnect},
+    {"bfind", 3, bundle_find},  {"resolve", 3, resolve},     {"sfind", 3, service_find},
+    {"bevent", 3, bundle_event}, {"sevent", 3, service_event}, {"route", 4, route},
+    {"write", 1, write_image},  {"image", 0, image},
+};
+
+static void run_line(char *line)
+{
+    char *arguments[MOST_ARGUMENTS + 1];
+    char *word = strtok(line, " ");
+    int count = 0;
+
+    while (count <= MOST_ARGUMENTS && (arguments[count] = strtok(NULL, " ")) != NULL)
+        count++;
+    for (size_t i = 0; word != NULL && i < sizeof commands / sizeof commands[0]; i++) {
+        if (strcmp(commands[i].word, word) == 0 && commands[i].arguments == count) {
+            commands[i].run(arguments);
+            fflush(stdout);
+            return;
+        }
+    }
+    stop("not a call", word == NULL ? "" : word);
+}
+
+int main(void)
+{
+    char *line = NULL;
+    size_t room = 0;
+    ssize_t length;
+
+    for (int i = 0; i < ROOMS; i++)
+        rooms[i] = guarded_make();
+    graph = guarded_high(rooms[RECORD], sizeof *graph);
+    memset(graph, FILLED_BYTE, sizeof *graph);
+    region_empty(graph);
+    while ((length = getline(&line, &room, stdin)) > 0) {
+        line_number++;
+        if (line[length - 1] == '\n')
+            line[length - 1] = '\0';
+        if (line[0] != '\0' && line[0] != '#')
+            run_line(line);
+    }
+    free(line);
+    return 0;
+}

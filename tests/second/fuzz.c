@@ -1,0 +1,203 @@
+/* Fuzzes the archive reader and the archive query (libFuzzer). Each input is a file. It ends the program where
+
+   - a refused read changes a byte of the record, or an accepted one does not write back the very bytes of the file;
+   - the query's number is not the one that the read and the route call give together;
+   - anything outside a lent block is touched, or a sanitizer finds a fault on this side.
+
+   The library has no counters of its own, so the fuzzer is guided by what is seen from outside: the number of the read, the
+   last byte that the reader touched before it refused (its place and its size), and the bytes of an accepted file (the same).
+   The last byte touched is found by reading the file again with its end in memory that cannot be touched: the reader leaves
+   at the first byte that breaks the layout, so an input that gets further, or breaks otherwise, than all before it is kept
+   and changed further. Most changed inputs get the version and the length that go with them, since the reader refuses the
+   others at once. */
+#define _DEFAULT_SOURCE
+#include <setjmp.h>
+#include <signal.h>
+#include <stdint.h>
+#include <stdio.h>
+#include <stdlib.h>
+#include <string.h>
+
+#include "guarded.h"
+#include "wimboru.h"
+
+enum { PLACES = 4096, SIZES = 6 };
+
+/* What libFuzzer takes as new, by the number of the read. */
+__attribute__((section("__libfuzzer_extra_counters")))
+static uint8_t counters[REGION_BROKEN_LAYOUT + 1][PLACES][SIZES];
+
+static struct guarded archive, written, record_room;
+static region_graph *record;
+static region_graph before;
+
+static sigjmp_buf probe;
+static volatile sig_atomic_t probing;
+static struct sigaction other_faults;
+
+static void fault(int signal_number, siginfo_t *info, void *context)
+{
+    const unsigned char *at = info->si_addr;
+
+    if (probing && at >= archive.past && at < archive.past + GUARDED_ROOM)
+        siglongjmp(probe, 1);
+    other_faults.sa_sigaction(signal_number, info, context);
+}
+
+static void require(bool held, const char *what)
+{
+    if (!held) {
+        fprintf(stderr, "fuzz: %s\n", what);
+        abort();
+    }
+}
+
+/* A graph that a refused read must leave as it is. */
+static void make_record(void)
+{
+    static const uint32_t numbers[] = {1, 2, 3};
+
+    record = guarded_high(record_room, sizeof *record);
+    region_empty(record);
+    require(region_add(record, 0) == 0 && region_add(record, 7) == 0, "add");
+    require(region_install(record, 7, 10, numbers, 3, numbers, 2) == 0, "install");
+    require(region_connect(record, 0, 7, numbers, 3, false, numbers, 1, true, NULL, 0) == 0, "connect");
+    memcpy(&before, record, sizeof before);
+}
+
+static void make_all(void)
+{
+    struct sigaction action;
+
+    archive = guarded_make();
+    written = guarded_make();
+    record_room = guarded_make();
+    make_record();
+    memset(&action, 0, sizeof action);
+    action.sa_sigaction = fault;
+    action.sa_flags = SA_SIGINFO | SA_NODEFER;
+    require(sigaction(SIGSEGV, &action, &other_faults) == 0, "sigaction");
+}
+
+/* Does the reader touch the byte at a place, or one after it? */
+static bool touches(const uint8_t *data, size_t size, size_t place)
+{
+    static region_graph scratch;
+    uint8_t *start = archive.past - place;
+
+    memcpy(start, data, place);
+    scratch = before;
+    probing = 1;
+    if (sigsetjmp(probe, 1) != 0) {
+        probing = 0;
+        return true;
+    }
+    region_read(&scratch, start, size);
+    probing = 0;
+    return false;
+}
+
+/* How many bytes the reader touches. */
+static size_t depth(const uint8_t *data, size_t size)
+{
+    size_t low = 0, high = size;
+
+    while (low < high) {
+        size_t middle = low + (high - low) / 2;
+
+        if (touches(data, size, middle))
+            low = middle + 1;
+        else
+            high = middle;
+    }
+    return low;
+}
+
+/* Bytes by the limits of document 01. */
+static int size_of(uint8_t byte)
+{
+    return byte == 0 ? 0 : byte <= 8 ? 1 : byte <= 16 ? 2 : byte <= 64 ? 3 : byte < 255 ? 4 : 5;
+}
+
+static void count(const uint8_t *data, size_t size, uint32_t number)
+{
+    size_t past = number == 0 ? size : depth(data, size);
+    size_t from = number == 0 || past == 0 ? 0 : past - 1;
+
+    for (size_t i = from; i < past && i < PLACES; i++)
+        counters[number][i][size_of(data[i])] = 1;
+}
+
+static void check_read(const uint8_t *file, size_t size, uint32_t number)
+{
+    uint8_t *image = guarded_high(written, REGION_LONGEST_IMAGE);
+
+    require(number <= REGION_BROKEN_LAYOUT, "a number of no question");
+    if (number != 0) {
+        require(memcmp(record, &before, sizeof before) == 0, "a refused read changed the record");
+    } else {
+        require(region_write(record, image, REGION_LONGEST_IMAGE) == (int64_t)size, "the length of the image");
+        require(memcmp(image, file, size) == 0, "the image is not the file");
+    }
+}
+
+static uint32_t word(const uint8_t *file, size_t size, size_t at)
+{
+    uint32_t value = 0;
+
+    for (size_t i = at; i < at + 4; i++)
+        value = value << 8 | (i < size ? file[i] : 0u);
+    return value;
+}
+
+/* The query against read and route, for the numbers that stand at two places of the file. */
+static void check_query(const uint8_t *file, size_t size, uint32_t number, size_t at)
+{
+    uint8_t regions[REGION_ROUTE_BYTES];
+    uint32_t location = word(file, size, at), item = word(file, size, at + 6), kind = (uint32_t)(at % 4);
+    uint32_t answer = archive_query(file, size, location, kind, item);
+    int64_t routed;
+
+    if (number != 0) {
+        require(answer == number, "the query's refusal is not the read's");
+        return;
+    }
+    routed = region_route(record, regions, sizeof regions, location, kind, item);
+    require(routed >= 0 ? answer == REGION_SEEN : answer == (uint32_t)-routed, "the query's answer is not the route's");
+}
+
+size_t LLVMFuzzerMutate(uint8_t *data, size_t size, size_t most);
+size_t LLVMFuzzerCustomMutator(uint8_t *data, size_t size, size_t most, unsigned seed);
+int LLVMFuzzerTestOneInput(const uint8_t *data, size_t size);
+
+size_t LLVMFuzzerCustomMutator(uint8_t *data, size_t size, size_t most, unsigned seed)
+{
+    size_t changed = LLVMFuzzerMutate(data, size, most);
+
+    if (changed >= 5 && seed % 8 != 0) {
+        data[0] = 1;
+        for (int i = 0; i < 4; i++)
+            data[1 + i] = (uint8_t)((changed - 5) >> (24 - 8 * i));
+    }
+    return changed;
+}
+
+int LLVMFuzzerTestOneInput(const uint8_t *data, size_t size)
+{
+    static bool made;
+    uint8_t *file;
+    uint32_t number;
+
+    if (!made)
+        make_all();
+    made = true;
+    memcpy(record, &before, sizeof before);
+    file = guarded_high(archive, size);
+    memcpy(file, data, size);
+    number = region_read(record, file, size);
+    check_read(file, size, number);
+    for (size_t at = size % 7; at < size; at += size / 12 + 1)
+        check_query(file, size, number, at);
+    count(data, size, number);
+    return 0;
+}

@@ -7,17 +7,22 @@ use lib.ListN.{length, getD}
 use Rattle.region_graph.specs.Size.{most-bundles, most-connections}
 use Rattle.region_graph.specs.Model.{Model}
 use Rattle.region_graph.specs.Record.{Valid, meaning, bundles-of, connections-of, store-bundle, store-connection, bundle-in, connection-in, no-bundle, no-connection}
-use Rattle.region_graph.specs.Promise.{bundle-places, connection-places}
+use Rattle.region_graph.specs.Promise.{bundle-at, connection-at, bundle-places, connection-places}
 use Rattle.region_graph.specs.declared.Graph.{Graph}
 use Rattle.region_graph.specs.declared.bundles.StoredBundle.{StoredBundle}
 use Rattle.region_graph.specs.declared.connections.StoredConnection.{StoredConnection}
 use Rattle.region_graph.proofs.Arrays.{Filled, filled-at, filled-means}
 use Rattle.region_graph.proofs.Storing.{bundle-back, connection-back, bundles-back, connections-back, filled-bundles, filled-connections}
-use Rattle.region_archive.specs.Entries.{BundleFits, ConnectionFits, EntryIs, elements, element-at}
+use Rattle.region_archive.specs.Entries.{Elem, BundleFits, ConnectionFits, EntryIs, elements}
 use Rattle.region_archive.specs.declared.entries.Entry.{Entry}
 use Rattle.region_archive.specs.declared.entries.Section.{Section}
 use Rattle.region_archive.specs.declared.entries.Section.the-variants as Section
 use Rattle.region_archive.proofs.Fits.{bundle-fits, connection-fits, bundle-short, connection-short}
+
+-- the i-th element of a section
+abbrev pub element-at : (s : Section) → Model → ℕ → Elem s
+element-at Section.Bundles m i = bundle-at m i
+element-at Section.Connections m i = connection-at m i
 
 -- what the first n places hold, as a model
 abbrev pub placed-model : List StoredBundle → List StoredConnection → ℕ → Model

@@ -13,10 +13,11 @@ use Rattle.region_graph.specs.declared.Graph.{Graph}
 use Rattle.region_graph.specs.declared.numbers.Numbers.{Numbers}
 use Rattle.region_graph.specs.declared.connections.StoredPart.{StoredPart}
 use Rattle.region_archive.specs.Bytes.{big, each, counted}
-use Rattle.region_archive.specs.Entries.{NumbersFit, first-width, field-count, record-bytes, elements, element-at}
+use Rattle.region_archive.specs.Entries.{NumbersFit, first-width, field-count, record-bytes, elements}
 use Rattle.region_archive.specs.declared.entries.Section.{Section}
 use Rattle.region_archive.specs.declared.entries.Section.the-variants as Section
 use Rattle.region_archive.proofs.Pieces.{big-length, each-length, each-next, each-within}
+use Rattle.region_archive.proofs.Placed.{element-at}
 
 -- the count of a list that fits is its length
 pub numbers-length : (n : Numbers) → NumbersFit n → n .count ≡ length (numbers-of n)

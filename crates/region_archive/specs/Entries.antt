@@ -8,7 +8,6 @@ use Rattle.region_graph.specs.Lists.{All}
 use Rattle.region_graph.specs.Model.{Model, Bundle, Part, Connection, Word, LegalBundle, LegalConnection}
 use Rattle.region_graph.specs.Calls.{Call}
 use Rattle.region_graph.specs.Record.{part-in}
-use Rattle.region_graph.specs.Promise.{bundle-at, connection-at}
 use Rattle.region_graph.specs.declared.numbers.Numbers.{Numbers}
 use Rattle.region_graph.specs.declared.bundles.StoredBundle.{StoredBundle}
 use Rattle.region_graph.specs.declared.connections.StoredPart.{StoredPart}
@@ -112,10 +111,6 @@ filled Section.Connections m cs = record { regions = m .regions; bundles = m .bu
 abbrev pub elements : (s : Section) → Model → List (Elem s)
 elements Section.Bundles m = m .bundles
 elements Section.Connections m = m .connections
-
-abbrev pub element-at : (s : Section) → Model → ℕ → Elem s
-element-at Section.Bundles m i = bundle-at m i
-element-at Section.Connections m i = connection-at m i
 
 abbrev pub section-bytes : (s : Section) → Model → List ℕ
 section-bytes s m = counted (record-bytes s) (elements s m)

@@ -2,7 +2,7 @@
 use mathlib.Core.Path.{_≡_, refl, sym, ap, _∙_}
 use native.Mathlib.Omega.{arith}
 use Prim.Native.Nat.{ℕ, zero, suc, _-_, _<_, _≤_}
-use lib.Dec.{eqb}
+use lib.Dec.{eqb, ltb}
 use borrow.Author.Tests.{lt-ltb, le-ltb, ne-eqb}
 use Rattle.region_graph.specs.Lists.{pick}
 use Rattle.region_graph.proofs.Lists.{pick-no}
@@ -13,7 +13,23 @@ use Rattle.region_routes.specs.declared.Kept.the-variants as Kept
 use Rattle.region_archive.specs.Promise.{hidden}
 use Rattle.region_archive.specs.declared.Written.{Written}
 use Rattle.region_archive.specs.declared.Written.the-variants as Written
-use Rattle.region_host.specs.Answers.{minus, routed-value, kept-value, written-value, read-back, routed-of, kept-of, written-of}
+use Rattle.region_host.specs.Answers.{minus, routed-value, kept-value, written-value}
+
+-- what C reads in such a number: a count where it is not below zero, else a number of the papers
+abbrev read-back : {A : Type 0} → (ℕ → A) → (ℕ → A) → ℕ → A
+read-back count numbered v = pick (ltb v 9223372036854775808) (count v) (numbered (18446744073709551616 - v))
+
+abbrev unseen : ℕ → Routed
+unseen n = pick (eqb n hidden) Routed.Hidden (Routed.Refused n)
+
+abbrev routed-of : ℕ → Routed
+routed-of = read-back Routed.Count unseen
+
+abbrev kept-of : ℕ → Kept
+kept-of = read-back Kept.Wrote Kept.Refused
+
+abbrev written-of : ℕ → Written
+written-of = read-back Written.Bytes Written.Refused
 
 -- a list in memory has fewer than 2^63 places; the questions have numbers below that of "hidden"
 abbrev pub Counted : ℕ → Type 0
@@ -47,10 +63,6 @@ module _ {A : Type 0} (count numbered : ℕ → A) where
   number-back : (n : ℕ) → 0 < n → n ≤ 101 → read-back count numbered (minus n) ≡ numbered n
   number-back n h k =
       rw (le-ltb (minus n) 9223372036854775808 (omega (arith, minus-is n h, k))) (ap numbered (omega (arith, minus-is n h, k)))
-
--- a number that a route call gives below zero
-abbrev unseen : ℕ → Routed
-unseen n = pick (eqb n hidden) Routed.Hidden (Routed.Refused n)
 
 pub routed-back : (a : Routed) → RoutedGiven a → routed-of (routed-value a) ≡ a
 routed-back Routed.Hidden g = refl

@@ -1,8 +1,6 @@
 -- What a query answers, as one number for C. C reads the 64 digits as a signed number: a count as it is, and a number of the papers below zero.
 use mathlib.Core.List.{List}
 use Prim.Native.Nat.{ℕ, zero, suc, _-_}
-use lib.Dec.{eqb, ltb}
-use Rattle.region_graph.specs.Lists.{pick}
 use Rattle.region_routes.specs.Hooks.{Outcome}
 use Rattle.region_routes.specs.declared.Routed.{Routed}
 use Rattle.region_routes.specs.declared.Routed.the-variants as Routed
@@ -29,19 +27,6 @@ kept-value (Kept.Refused n) = minus n
 abbrev pub written-value : Written → ℕ
 written-value (Written.Bytes n) = n
 written-value (Written.Refused n) = minus n
-
--- what C reads in such a number: a count where it is not below zero, else a number of the papers
-abbrev pub read-back : {A : Type 0} → (ℕ → A) → (ℕ → A) → ℕ → A
-read-back count numbered v = pick (ltb v 9223372036854775808) (count v) (numbered (18446744073709551616 - v))
-
-abbrev pub routed-of : ℕ → Routed
-routed-of = read-back Routed.Count (λ n. pick (eqb n hidden) Routed.Hidden (Routed.Refused n))
-
-abbrev pub kept-of : ℕ → Kept
-kept-of = read-back Kept.Wrote Kept.Refused
-
-abbrev pub written-of : ℕ → Written
-written-of = read-back Written.Bytes Written.Refused
 
 -- the number that C gets, and the lent buffer as the call leaves it
 pub record Answered : Type 0 where

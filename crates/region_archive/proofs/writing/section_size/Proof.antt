@@ -8,10 +8,10 @@ use lib.Seq.{take-all}
 use Rattle.region_graph.specs.Model.{Model}
 use Rattle.region_graph.specs.Record.{meaning}
 use Rattle.region_archive.specs.Bytes.{each}
-use Rattle.region_archive.specs.Entries.{record-bytes, elements, element-at, fields-in, fields-of, EntryIs}
+use Rattle.region_archive.specs.Entries.{record-bytes, elements, fields-in, fields-of, EntryIs}
 use Rattle.region_archive.proofs.RecordLaws.{same-bytes}
 use Rattle.region_archive.proofs.Sizes.{few-elements, section-next}
-use Rattle.region_archive.proofs.Placed.{placed-model, Placed, placed-elements, placed-count, bundle-inside, bundle-fit, bundle-element, connection-inside, connection-fit, connection-element}
+use Rattle.region_archive.proofs.Placed.{element-at, placed-model, Placed, placed-elements, placed-count, bundle-inside, bundle-fit, bundle-element, connection-inside, connection-fit, connection-element}
 use Rattle.region_archive.proofs.writing.section_size.Statement.{statement}
 use Rattle.region_archive.proofs.writing.section_size.Tie as tie
 

@@ -82,6 +82,7 @@ enum {
     REGION_MOST_CONNECTIONS = 48,
     REGION_MOST_PROVIDED = 8,      /* packages, and services, of one bundle */
     REGION_MOST_LISTED = 16,       /* numbers in one part of a filter */
+    REGION_EVERYTHING = 255,       /* the count of a part that is everything, in the record and in an archive */
     REGION_ROUTE_BYTES = 16,       /* the buffer that a route needs, however short the route is */
     REGION_LONGEST_IMAGE = 14248,  /* bytes; a buffer of this length takes the image of any graph */
     REGION_STACK_BYTES = 524288    /* the stack that is enough for any call */
@@ -93,24 +94,24 @@ struct region_numbers {
     uint32_t items[REGION_MOST_LISTED];
 };
 
-struct region_part {
-    bool all;
-    struct region_numbers numbers;
+struct region_provided {
+    size_t count;
+    uint32_t items[REGION_MOST_PROVIDED];
 };
 
 struct region_bundle {
     uint32_t location;
     uint32_t region;
-    struct region_numbers packages;
-    struct region_numbers services;
+    struct region_provided packages;
+    struct region_provided services;
 };
 
 struct region_connection {
     uint32_t source;
     uint32_t target;
     struct region_numbers bundles;
-    struct region_part packages;
-    struct region_part services;
+    struct region_numbers packages;
+    struct region_numbers services;
 };
 
 struct region_graph {
@@ -125,7 +126,7 @@ typedef struct region_graph region_graph;
 
 static_assert(sizeof(size_t) == 8, "the calls take lengths of 8 bytes");
 static_assert(sizeof(bool) == 1, "the calls take flags of one byte");
-static_assert(sizeof(region_graph) == 21272, "the size of the record");
+static_assert(sizeof(region_graph) == 16408, "the size of the record");
 static_assert(alignof(region_graph) == 8, "the alignment of the record");
 
 /*

@@ -39,7 +39,7 @@ static void size(void)
 {
     static struct block a;
     static struct block b;
-    CHECK(sizeof(region_graph) == 21272);
+    CHECK(sizeof(region_graph) == 16408);
     empty_over(&a, 0x5A);
     empty_over(&b, 0xA5);
     CHECK(image_of(&a.graph).length == 8);

@@ -1,34 +1,63 @@
 -- What a valid graph hands out fits the places of an entry.
-use mathlib.Core.Path.{refl}
+use mathlib.Core.Path.{_≡_, refl, sym, ap, _∙_, subst}
 use mathlib.Core.List.{List, []}
 use Prim.Native.Nat.{ℕ}
 use native.Mathlib.Omega.{arith}
 use lib.ListN.{length}
-use Rattle.region_graph.specs.Size.{most-listed}
+use lib.Seq.{length-take-le}
+use Rattle.region_graph.specs.Size.{most-listed, most-provided, all-sign}
 use Rattle.region_graph.specs.Model.{Bundle, Part, Connection}
-use Rattle.region_graph.specs.Record.{Valid, meaning, store-numbers, store-part, store-bundle, store-connection, no-bundle, no-connection}
+use Rattle.region_graph.specs.Record.{Valid, meaning, number-places, store-numbers, store-provided, provided-of, store-part, part-in, store-bundle, store-connection, no-bundle, no-connection}
 use Rattle.region_graph.specs.Places.{Short, ShortPart, ShortBundle, ShortConnection}
 use Rattle.region_graph.specs.Promise.{bundle-at, connection-at}
 use Rattle.region_graph.specs.declared.Graph.{Graph}
+use Rattle.region_graph.specs.declared.numbers.Numbers.{Numbers}
+use Rattle.region_graph.specs.declared.numbers.Provided.{Provided}
 use Rattle.region_graph.proofs.Arrays.{Filled, filled-length}
-use Rattle.region_graph.proofs.Storing.{bundles-stored, connections-stored}
-use Rattle.region_archive.specs.Entries.{NumbersFit, PartFits, BundleFits, ConnectionFits}
+use Rattle.region_graph.proofs.Storing.{part-back, bundles-stored, connections-stored}
+use Rattle.region_archive.specs.Entries.{ListFits, NumbersFit, ProvidedFits, PartFits, BundleFits, ConnectionFits}
 use Rattle.region_archive.proofs.Pieces.{all-or}
 
 -- a short list that is stored fits
-pub numbers-fit : (xs : List ℕ) → Short xs → NumbersFit (store-numbers xs)
-unfolding store-numbers
-numbers-fit xs h =
-    let f : Filled (λ x. x) 0 most-listed (store-numbers xs .items) (length xs) xs = record { shape = refl; counted = refl; room = h } in
+places-fit : (most : ℕ) (xs : List ℕ) → Short most xs → ListFits most (length xs) (number-places most xs)
+places-fit most xs h =
+    let f : Filled (λ x. x) 0 most (number-places most xs) (length xs) xs = record { shape = refl; counted = refl; room = h } in
     record { count = h; size = filled-length f }
+
+pub numbers-fit : (xs : List ℕ) → Short most-listed xs → NumbersFit (store-numbers xs)
+unfolding store-numbers
+numbers-fit xs h = places-fit most-listed xs h
+
+pub provided-fit : (xs : List ℕ) → Short most-provided xs → ProvidedFits (store-provided xs)
+unfolding store-provided
+provided-fit xs h = places-fit most-provided xs h
+
+-- what a bundle brings is short enough for a part
+pub provided-short : (n : Provided) → ProvidedFits n → Short most-listed (provided-of n)
+unfolding provided-of
+provided-short n h = omega (arith, h .count, length-take-le (n .count) (n .items) (omega (arith, h .count, h .size)))
+
+module _ {r : Numbers} (n : Provided) (h : ProvidedFits n) (e : r ≡ store-numbers (provided-of n)) where
+  pub widened-fits : NumbersFit r
+  widened-fits = subst NumbersFit (sym e) (numbers-fit (provided-of n) (provided-short n h))
+
+  pub widened-in : part-in r ≡ Part.listed (provided-of n)
+  widened-in = ap part-in e ∙ part-back (Part.listed (provided-of n)) (provided-short n h)
+
+-- a list is a part, and a part without the sign is a list
+pub list-part : (n : Numbers) → NumbersFit n → PartFits n
+list-part n h = record { count = λ e. h .count; size = h .size }
+
+pub part-list : (n : Numbers) → PartFits n → (n .count ≡ all-sign → ⊥) → NumbersFit n
+part-list n h e = record { count = h .count e; size = h .size }
 
 -- and so do a part, a bundle and a connection of short lists
 pub part-fits : (p : Part) → ShortPart p → PartFits (store-part p)
-part-fits (Part.listed xs) h = numbers-fit xs h
-part-fits Part.everything h = numbers-fit [] (omega arith)
+part-fits (Part.listed xs) h = list-part (store-numbers xs) (numbers-fit xs h)
+part-fits Part.everything h = record { count = λ e. absurd (e refl); size = refl }
 
 pub bundle-fits : (b : Bundle) → ShortBundle b → BundleFits (store-bundle b)
-bundle-fits b h = record { packages = numbers-fit (b .packages) (h .packages); services = numbers-fit (b .services) (h .services) }
+bundle-fits b h = record { packages = provided-fit (b .packages) (h .packages); services = provided-fit (b .services) (h .services) }
 
 pub connection-fits : (c : Connection) → ShortConnection c → ConnectionFits (store-connection c)
 connection-fits c h = record {

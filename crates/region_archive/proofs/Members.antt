@@ -32,8 +32,10 @@ module _ (g : Graph) (v : Valid g) {x : ℕ} (e : x ≡ set-of (λ r. member r (
   set-members = ap members (e ∙ sym (regions-stored g v))
 
   pub met-all : (i : ℕ) → regions ≤ i → met x i ≡ meaning g .regions
+  unfolding members
   met-all i h = below-all (has x) regions i h ∙ set-members
 
   -- a region is within the bytes of all
   pub met-byte : (i : ℕ) → i < regions → has x i ≡ true → length (each (big 1) (met x i)) + 1 ≤ length (each (big 1) (meaning g .regions))
+  unfolding members
   met-byte i h t = subst (λ (rs : List ℕ). length (each (big 1) (met x i)) + 1 ≤ length (each (big 1) rs)) set-members (below-byte (has x) regions i h t)

@@ -12,7 +12,7 @@ use Rattle.region_graph.specs.declared.Graph.{Graph}
 use Rattle.region_graph.specs.declared.bundles.StoredBundle.{StoredBundle}
 use Rattle.region_graph.specs.declared.connections.StoredConnection.{StoredConnection}
 use Rattle.region_graph.proofs.Arrays.{Filled, filled-at, filled-means}
-use Rattle.region_graph.proofs.Storing.{bundle-back, connection-back, bundles-back, connections-back, filled-bundles, filled-connections}
+use Rattle.region_graph.proofs.Storing.{bundles-each, connections-each, short-connections, bundles-back, connections-back, filled-bundles, filled-connections}
 use Rattle.region_archive.specs.Entries.{Elem, BundleFits, ConnectionFits, EntryIs, elements}
 use Rattle.region_archive.specs.declared.entries.Entry.{Entry}
 use Rattle.region_archive.specs.declared.entries.Section.{Section}
@@ -50,7 +50,7 @@ module _ {g : Graph} {bs : List StoredBundle} {cs : List StoredConnection} {n : 
   -- the places of the section hold its elements
   pub placed-elements : (s : Section) → Placed g s bs cs n → elements s (placed-model bs cs n) ≡ elements s (meaning g)
   placed-elements Section.Bundles p = ap bundles-of (filled-bundles (bundles-placed p)) ∙ bundles-back (meaning g .bundles)
-  placed-elements Section.Connections p = ap connections-of (filled-connections (connections-placed p)) ∙ connections-back (meaning g .connections)
+  placed-elements Section.Connections p = ap connections-of (filled-connections (connections-placed p)) ∙ connections-back (meaning g .connections) (short-connections (p .valid .good))
 
   pub placed-count : (s : Section) → Placed g s bs cs n → n ≡ length (elements s (placed-model bs cs n))
   placed-count s p = p .counted ∙ ap length (sym (placed-elements s p))
@@ -71,7 +71,7 @@ module _ {g : Graph} {s : Section} {bs : List StoredBundle} {cs : List StoredCon
     bundle-element e {r} {t} h d =
         subst (λ (u : Section). EntryIs u t (element-at u (placed-model bs cs n) i)) (sym k)
         (subst (EntryIs Section.Bundles t)
-        (filled-means (bundles-placed in-bundles) bundle-in bundle-back i e no-bundle l ∙ ap (λ b. getD b i no-bundle) (sym (placed-elements Section.Bundles in-bundles)))
+        (filled-means (bundles-placed in-bundles) bundle-in (bundles-each (meaning g .bundles)) i e no-bundle l ∙ ap (λ b. getD b i no-bundle) (sym (placed-elements Section.Bundles in-bundles)))
         (subst (λ (u : Entry). EntryIs Section.Bundles u (bundle-in (getD bs i e))) (sym d) h))
 
   module _ (k : s ≡ Section.Connections) where
@@ -89,5 +89,5 @@ module _ {g : Graph} {s : Section} {bs : List StoredBundle} {cs : List StoredCon
     connection-element e {r} {t} h d =
         subst (λ (u : Section). EntryIs u t (element-at u (placed-model bs cs n) i)) (sym k)
         (subst (EntryIs Section.Connections t)
-        (filled-means (connections-placed in-connections) connection-in connection-back i e no-connection l ∙ ap (λ c. getD c i no-connection) (sym (placed-elements Section.Connections in-connections)))
+        (filled-means (connections-placed in-connections) connection-in (connections-each (meaning g .connections) (short-connections (q .valid .good))) i e no-connection l ∙ ap (λ c. getD c i no-connection) (sym (placed-elements Section.Connections in-connections)))
         (subst (λ (u : Entry). EntryIs Section.Connections u (connection-in (getD cs i e))) (sym d) h))

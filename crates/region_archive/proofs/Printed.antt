@@ -5,7 +5,7 @@ use Prim.Native.Nat.{ℕ}
 use Rattle.region_graph.specs.Model.{nothing}
 use Rattle.region_graph.specs.Refusals.{broken-layout}
 use Rattle.region_graph.specs.Calls.{run}
-use Rattle.region_routes.specs.Chosen.{chosen}
+use Rattle.region_routes.specs.Chosen.{chosen-by, chosen}
 use Rattle.region_routes.specs.Table.{graph-g}
 use Rattle.region_archive.specs.Decimal.{decimal}
 use Rattle.region_archive.specs.Listing.{held, seen-from, header, listing-text, refused-word, refusal-text}
@@ -19,7 +19,7 @@ lines-of-g =
     ∷ []
 
 pub printed-g : listing-text (run nothing graph-g) ≡ header ++ lines-of-g
-unfolding listing-text header seen-from held decimal chosen
+unfolding listing-text header seen-from held decimal chosen chosen-by
 printed-g = refl
 
 pub printed-nothing : listing-text nothing ≡ header

@@ -6,7 +6,7 @@ use native.Mathlib.Omega.{arith}
 use lib.ListN.{length, getD}
 use Rattle.region_graph.specs.Model.{Model, Bundle, Connection, Part}
 use Rattle.region_graph.specs.Record.{part-in}
-use Rattle.region_graph.specs.declared.connections.StoredPart.{StoredPart}
+use Rattle.region_graph.specs.declared.numbers.Numbers.{Numbers}
 use Rattle.region_graph.proofs.Arrays.{getD-map-in}
 use Rattle.region_archive.specs.Bytes.{big, counted, sized}
 use Rattle.region_archive.specs.Image.{version, part-bytes, bundle-fields, connection-fields, body}
@@ -49,7 +49,7 @@ pub second-field : (s : Section) (f : Fields) {k : ℕ} → k ≡ 1 → field-by
 second-field s f e = rw e
 
 -- the bytes of a field that is a part
-pub part-field : (s : Section) (e : Entry) (k : ℕ) (d : StoredPart) → 2 ≤ k → k - 2 < length (e .parts)
+pub part-field : (s : Section) (e : Entry) (k : ℕ) (d : Numbers) → 2 ≤ k → k - 2 < length (e .parts)
     → field-bytes s k (fields-in e) ≡ part-bytes (big 4) (part-in (getD (e .parts) (k - 2) d))
 part-field s e zero d h l = absurd (omega arith)
 part-field s e (suc zero) d h l = absurd (omega arith)

@@ -1,17 +1,16 @@
 -- How many bytes the pieces of an archive take, and which piece comes next.
 use mathlib.Core.Path.{_≡_, sym}
-use mathlib.Core.Bool.{true, false}
 use mathlib.Core.List.{_++_}
 use Prim.Native.Nat.{ℕ, _+_, _*_, _≤_, _<_}
 use native.Mathlib.Omega.{arith}
+use borrow.Author.Tests.{eq-eqb, ne-eqb}
 use lib.ListN.{length, take}
 use lib.Seq.{length-take-le, take-length}
-use Rattle.region_graph.specs.Size.{most-bundles}
+use Rattle.region_graph.specs.Size.{most-bundles, all-sign}
 use Rattle.region_graph.specs.Model.{Model, Part}
 use Rattle.region_graph.specs.Record.{Valid, meaning, numbers-of, part-in, no-bundle, no-connection}
 use Rattle.region_graph.specs.declared.Graph.{Graph}
 use Rattle.region_graph.specs.declared.numbers.Numbers.{Numbers}
-use Rattle.region_graph.specs.declared.connections.StoredPart.{StoredPart}
 use Rattle.region_archive.specs.Bytes.{big, each, counted}
 use Rattle.region_archive.specs.Entries.{NumbersFit, first-width, field-count, record-bytes, elements}
 use Rattle.region_archive.specs.declared.entries.Section.{Section}
@@ -28,12 +27,16 @@ numbers-length n h = sym (length-take-le (n .count) (n .items) (omega (arith, h 
 pub list-size : (n : Numbers) → NumbersFit n → length (counted (big 4) (numbers-of n)) ≡ 1 + n .count * 4
 list-size n h = omega (arith, each-length (big 4) 4 (big-length 4) (numbers-of n), numbers-length n h)
 
--- a part by its flag
-pub part-all : (p : StoredPart) → p .all ≡ true → part-in p ≡ Part.everything
-part-all p e = rw e
+-- a part by its count
+pub part-all : (p : Numbers) → p .count ≡ all-sign → part-in p ≡ Part.everything
+part-all p e = rw (eq-eqb (p .count) all-sign e)
 
-pub part-listed : (p : StoredPart) → p .all ≡ false → part-in p ≡ Part.listed (numbers-of (p .numbers))
-part-listed p e = rw e
+pub part-listed : (p : Numbers) → (p .count ≡ all-sign → ⊥) → part-in p ≡ Part.listed (numbers-of p)
+part-listed p e = rw (ne-eqb (p .count) all-sign e)
+
+-- a list that fits has not the sign
+pub list-in : (n : Numbers) → NumbersFit n → part-in n ≡ Part.listed (numbers-of n)
+list-in n h = part-listed n (λ e. omega (arith, h .count))
 
 -- a section's records have few fields, and a narrow first one
 pub few-fields : (s : Section) → field-count s ≤ 5

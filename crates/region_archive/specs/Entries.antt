@@ -3,14 +3,14 @@ use mathlib.Core.Path.{_≡_}
 use mathlib.Core.List.{List, [], _∷_, _++_, map}
 use Prim.Native.Nat.{ℕ, zero, suc, _+_, _*_, _≤_, _<_, _^_}
 use lib.ListN.{length, getD}
-use Rattle.region_graph.specs.Size.{most-listed, most-bundles, most-connections}
+use Rattle.region_graph.specs.Size.{most-listed, most-provided, most-bundles, most-connections, all-sign}
 use Rattle.region_graph.specs.Lists.{All}
 use Rattle.region_graph.specs.Model.{Model, Bundle, Part, Connection, Word, LegalBundle, LegalConnection}
 use Rattle.region_graph.specs.Calls.{Call}
 use Rattle.region_graph.specs.Record.{part-in}
 use Rattle.region_graph.specs.declared.numbers.Numbers.{Numbers}
+use Rattle.region_graph.specs.declared.numbers.Provided.{Provided}
 use Rattle.region_graph.specs.declared.bundles.StoredBundle.{StoredBundle}
-use Rattle.region_graph.specs.declared.connections.StoredPart.{StoredPart}
 use Rattle.region_graph.specs.declared.connections.StoredConnection.{StoredConnection}
 use Rattle.region_archive.specs.Bytes.{big, counted, sized}
 use Rattle.region_archive.specs.Image.{part-bytes}
@@ -120,16 +120,23 @@ call Section.Bundles b = Call.install b
 call Section.Connections c = Call.connect c
 
 -- the engine's value of a record
-pub record NumbersFit (n : Numbers) : Type 0 where
-  pub count : n .count ≤ most-listed
+pub record ListFits (most n : ℕ) (items : List ℕ) : Type 0 where
+  pub count : n ≤ most
+  pub size : length items ≡ most
+
+abbrev pub NumbersFit : Numbers → Type 0
+NumbersFit n = ListFits most-listed (n .count) (n .items)
+
+abbrev pub ProvidedFits : Provided → Type 0
+ProvidedFits n = ListFits most-provided (n .count) (n .items)
+
+pub record PartFits (n : Numbers) : Type 0 where
+  pub count : (n .count ≡ all-sign → ⊥) → n .count ≤ most-listed
   pub size : length (n .items) ≡ most-listed
 
-abbrev pub PartFits : StoredPart → Type 0
-PartFits p = NumbersFit (p .numbers)
-
 pub record BundleFits (b : StoredBundle) : Type 0 where
-  pub packages : NumbersFit (b .packages)
-  pub services : NumbersFit (b .services)
+  pub packages : ProvidedFits (b .packages)
+  pub services : ProvidedFits (b .services)
 
 pub record ConnectionFits (c : StoredConnection) : Type 0 where
   pub bundles : NumbersFit (c .bundles)

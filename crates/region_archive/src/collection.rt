@@ -4,16 +4,15 @@ ghost use Prim.Native.Nat.{_+_, _≤_};
 ghost use lib.ListN.{length};
 ghost use Rattle.region_graph.specs.Lists.{member};
 ghost use Rattle.region_graph.specs.Items.{provided};
-ghost use Rattle.region_graph.specs.Record.{Valid, meaning, «numbers-of», «bundle-in»};
+ghost use Rattle.region_graph.specs.Record.{Valid, meaning, «provided-of», «bundle-in»};
 ghost use Rattle.region_routes.specs.Hooks.{«kind-number»};
-ghost use Rattle.region_archive.specs.Entries.{NumbersFit, BundleFits};
+ghost use Rattle.region_archive.specs.Entries.{ProvidedFits, BundleFits};
 ghost use Rattle.region_archive.specs.Listing.{«joined-all», held};
 ghost use Rattle.region_archive.specs.Counts.{Collected, «numbers-in», «most-different»};
 use region_graph::Graph;
-use region_graph::Numbers;
+use region_graph::Provided;
 use region_graph::StoredBundle;
 use region_graph::size::MOST_BUNDLES;
-use region_graph::size::MOST_LISTED;
 use region_graph::size::MOST_PROVIDED;
 use region_routes::Kind;
 
@@ -39,11 +38,11 @@ fn is_in(list: &[u32], number: u32) -> bool
 }
 
 // A list's numbers join a collection, each unless it is there.
-fn join(collection: Collection, list: Numbers) -> Collection
+fn join(collection: Collection, list: Provided) -> Collection
     requires { ⌜ Collected collection (numbers-in collection) ⌝ }
-    requires { ⌜ NumbersFit list ⌝ }
-    requires { ⌜ length (numbers-in collection) + length (numbers-of list) ≤ most-different ⌝ }
-    ensures { λ r. ⌜ Collected r (joined-all (numbers-in collection) (numbers-of list)) ⌝ }
+    requires { ⌜ ProvidedFits list ⌝ }
+    requires { ⌜ length (numbers-in collection) + length (provided-of list) ≤ most-different ⌝ }
+    ensures { λ r. ⌜ Collected r (joined-all (numbers-in collection) (provided-of list)) ⌝ }
 {
     let mut items = collection.items;
     let mut n = collection.count;
@@ -61,16 +60,16 @@ fn join(collection: Collection, list: Numbers) -> Collection
 }
 
 // What a bundle brings to its region, of a kind.
-fn provided_by(b: StoredBundle, kind: Kind) -> Numbers
+fn provided_by(b: StoredBundle, kind: Kind) -> Provided
     requires { ⌜ BundleFits b ⌝ }
-    ensures { λ r. ⌜ NumbersFit r × (numbers-of r ≡ provided (kind-number kind) (bundle-in b)) ⌝ }
+    ensures { λ r. ⌜ ProvidedFits r × (provided-of r ≡ provided (kind-number kind) (bundle-in b)) ⌝ }
 {
     match kind {
         Kind::Bundle => {
             let location = b.location;
-            let mut items = [0u32; MOST_LISTED];
+            let mut items = [0u32; MOST_PROVIDED];
             items[0] = location;
-            Numbers { count: 1, items }
+            Provided { count: 1, items }
         }
         Kind::Package => b.packages,
         Kind::Service => b.services,

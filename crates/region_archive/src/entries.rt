@@ -1,13 +1,18 @@
 // A record of an archive as a value: two numbers and up to three parts.
 ghost use mathlib.Core.Path.{_≡_};
-ghost use lib.ListN.{length};
-ghost use Rattle.region_graph.specs.Record.{Valid, meaning, «bundle-in», «connection-in»};
-ghost use Rattle.region_archive.specs.Entries.{PartFits, BundleFits, ConnectionFits, EntryFits, EntryIs, «field-key», «field-count», «first-width», most, elements};
+ghost use Prim.Native.Nat.{_≤_};
+ghost use lib.Dec.{eqb};
+ghost use lib.ListN.{length, take};
+ghost use Rattle.region_graph.specs.Size.{«most-listed», «all-sign»};
+ghost use Rattle.region_graph.specs.Record.{Valid, meaning, «store-numbers», «provided-of», «part-in», «bundle-in», «connection-in»};
+ghost use Rattle.region_graph.specs.Promise.{part};
+ghost use Rattle.region_archive.specs.Entries.{NumbersFit, ProvidedFits, PartFits, BundleFits, ConnectionFits, EntryFits, EntryIs, «field-key», «field-count», «first-width», most, elements};
 use region_graph::Graph;
 use region_graph::Numbers;
+use region_graph::Provided;
 use region_graph::StoredBundle;
 use region_graph::StoredConnection;
-use region_graph::StoredPart;
+use region_graph::size::EVERYTHING;
 use region_graph::size::MOST_BUNDLES;
 use region_graph::size::MOST_CONNECTIONS;
 use region_graph::size::MOST_LISTED;
@@ -22,19 +27,42 @@ pub enum Section {
 pub struct Entry {
     pub first: u32,
     pub second: u32,
-    pub parts: [StoredPart; 3],
+    pub parts: [Numbers; 3],
 }
 
-pub fn no_part() -> StoredPart
-    ensures { λ r. ⌜ PartFits r ⌝ }
+pub fn no_part() -> Numbers
+    ensures { λ r. ⌜ NumbersFit r ⌝ }
 {
-    StoredPart {
-        all: false,
-        numbers: Numbers {
-            count: 0,
-            items: [0u32; MOST_LISTED],
-        },
+    Numbers {
+        count: 0,
+        items: [0u32; MOST_LISTED],
     }
+}
+
+// How many numbers a part lists.
+pub fn listed(list: Numbers) -> usize
+    requires { ⌜ PartFits list ⌝ }
+    ensures { λ r. ⌜ (r ≤ most-listed) × (part-in list ≡ part (eqb (list .count) all-sign) (take r (list .items))) ⌝ }
+{
+    if list.count == EVERYTHING {
+        return 0;
+    }
+    list.count
+}
+
+// What a bundle brings, in as many places as a part has.
+fn widened(list: Provided) -> Numbers
+    requires { ⌜ ProvidedFits list ⌝ }
+    ensures { λ r. ⌜ r ≡ store-numbers (provided-of list) ⌝ }
+{
+    let mut items = [0u32; MOST_LISTED];
+    let count = list.count;
+    let mut i: usize = 0;
+    while i < count {
+        items[i] = list.items[i];
+        i += 1;
+    }
+    Numbers { count: i, items }
 }
 
 pub fn no_entry() -> Entry
@@ -94,16 +122,10 @@ pub fn bundle_entry(b: StoredBundle) -> Entry
 {
     let packages = b.packages;
     let services = b.services;
-    let none = no_part();
-    let mut parts = [none; 3];
-    parts[0] = StoredPart {
-        all: false,
-        numbers: packages,
-    };
-    parts[1] = StoredPart {
-        all: false,
-        numbers: services,
-    };
+    let provided = widened(packages);
+    let published = widened(services);
+    let mut parts = [provided; 3];
+    parts[1] = published;
     Entry {
         first: b.location,
         second: b.region,
@@ -119,10 +141,7 @@ pub fn connection_entry(c: StoredConnection) -> Entry
     let packages = c.packages;
     let services = c.services;
     let mut parts = [packages; 3];
-    parts[0] = StoredPart {
-        all: false,
-        numbers: bundles,
-    };
+    parts[0] = bundles;
     parts[2] = services;
     Entry {
         first: c.source,

@@ -18,9 +18,7 @@ use region_graph::Graph;
 use region_graph::refusals::NOT_REFUSED;
 use region_routes::Kept;
 use region_routes::Kind;
-use region_routes::bundle_find;
-use region_routes::resolve;
-use region_routes::service_find;
+use region_routes::find;
 
 // A header of 39 bytes, and a line of 25 for each of 64 bundles.
 pub const LONGEST: usize = 1639;
@@ -73,20 +71,8 @@ fn seen(graph: Graph, kind: Kind, location: u32, all: Collection) -> usize
     let items = all.items;
     let n = all.count;
     let mut out = [0u32; MOST_DIFFERENT];
-    match kind {
-        Kind::Bundle => {
-            let answer = bundle_find(graph, location, &items[..n], &mut out);
-            wrote_count(answer)
-        }
-        Kind::Package => {
-            let answer = resolve(graph, location, &items[..n], &mut out);
-            wrote_count(answer)
-        }
-        Kind::Service => {
-            let answer = service_find(graph, location, &items[..n], &mut out);
-            wrote_count(answer)
-        }
-    }
+    let answer = find(graph, kind, location, &items[..n], &mut out);
+    wrote_count(answer)
 }
 
 // Writes the line of five numbers.

@@ -15,6 +15,7 @@ use crate::entries::Section;
 use crate::entries::fields;
 use crate::entries::first_width;
 use crate::entries::limit;
+use crate::entries::listed;
 use crate::entries::no_entry;
 use crate::entries::no_part;
 use crate::entries::order;
@@ -23,9 +24,9 @@ use crate::numbers::number_at;
 use region_graph::Changed;
 use region_graph::Graph;
 use region_graph::Numbers;
-use region_graph::StoredPart;
 use region_graph::refusals::BROKEN_LAYOUT;
 use region_graph::refusals::NOT_REFUSED;
+use region_graph::size::EVERYTHING;
 use region_graph::size::MOST_LISTED;
 use region_graph::size::REGIONS;
 
@@ -38,7 +39,7 @@ pub struct ListAt {
 pub struct PartAt {
     pub ok: bool,
     pub next: usize,
-    pub part: StoredPart,
+    pub part: Numbers,
 }
 
 pub struct FieldAt {
@@ -58,8 +59,7 @@ fn list_at(bytes: &[u8], at: usize) -> ListAt
     requires { ⌜ at ≤ length (now bytes) ⌝ }
     ensures { λ r. ⌜ NumbersFit (r .numbers) × Answer Listed (counted (big 4)) (now (bytes .entry)) at (r .ok) (numbers-of (r .numbers)) (r .next) ⌝ }
 {
-    let part = no_part();
-    let none = part.numbers;
+    let none = no_part();
     let count = count_at(bytes, at, MOST_LISTED);
     if !count.ok {
         return ListAt {
@@ -99,22 +99,20 @@ fn part_at(bytes: &[u8], at: usize) -> PartAt
 {
     if at < bytes.len() {
         if bytes[at] == 255 {
-            let none = no_part();
-            let numbers = none.numbers;
-            let part = StoredPart { all: true, numbers };
+            let part = Numbers {
+                count: EVERYTHING,
+                items: [0u32; MOST_LISTED],
+            };
+            let next = at + 1;
             return PartAt {
                 ok: true,
-                next: at + 1,
+                next,
                 part,
             };
         }
     }
     let list = list_at(bytes, at);
-    let numbers = list.numbers;
-    let part = StoredPart {
-        all: false,
-        numbers,
-    };
+    let part = list.numbers;
     PartAt {
         ok: list.ok,
         next: list.next,
@@ -180,24 +178,22 @@ fn install(graph: Graph, entry: Entry) -> Changed
 {
     let packages = entry.parts[0];
     let services = entry.parts[1];
-    if packages.all {
+    if packages.count == EVERYTHING {
         return Changed {
             graph,
             number: BROKEN_LAYOUT,
         };
     }
-    if services.all {
+    if services.count == EVERYTHING {
         return Changed {
             graph,
             number: BROKEN_LAYOUT,
         };
     }
-    let provided = packages.numbers;
-    let published = services.numbers;
-    let a = provided.items;
-    let b = published.items;
-    let m = provided.count;
-    let n = published.count;
+    let a = packages.items;
+    let b = services.items;
+    let m = packages.count;
+    let n = services.count;
     graph.install(entry.second, entry.first, &a[..m], &b[..n])
 }
 
@@ -210,28 +206,25 @@ fn connect(graph: Graph, entry: Entry) -> Changed
     let bundles = entry.parts[0];
     let packages = entry.parts[1];
     let services = entry.parts[2];
-    if bundles.all {
+    if bundles.count == EVERYTHING {
         return Changed {
             graph,
             number: BROKEN_LAYOUT,
         };
     }
-    let named = bundles.numbers;
-    let passed = packages.numbers;
-    let offered = services.numbers;
-    let a = named.items;
-    let b = passed.items;
-    let c = offered.items;
-    let l = named.count;
-    let m = passed.count;
-    let n = offered.count;
+    let m = listed(packages);
+    let n = listed(services);
+    let a = bundles.items;
+    let b = packages.items;
+    let c = services.items;
+    let l = bundles.count;
     graph.connect(
         entry.first,
         entry.second,
         &a[..l],
-        packages.all,
+        packages.count == EVERYTHING,
         &b[..m],
-        services.all,
+        services.count == EVERYTHING,
         &c[..n],
     )
 }

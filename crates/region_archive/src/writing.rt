@@ -2,6 +2,7 @@
 ghost use mathlib.Core.Path.{_≡_};
 ghost use Prim.Native.Nat.{_+_, _≤_};
 ghost use lib.ListN.{length};
+ghost use Rattle.region_graph.specs.Size.{regions};
 ghost use Rattle.region_graph.specs.Record.{Valid, meaning, «numbers-of», «part-in»};
 ghost use Rattle.region_archive.specs.Bytes.{big, counted, sized};
 ghost use Rattle.region_archive.specs.Image.{«part-bytes»};
@@ -21,21 +22,20 @@ use crate::entries::first_width;
 use crate::numbers::put_number;
 use region_graph::Graph;
 use region_graph::Numbers;
-use region_graph::StoredPart;
 use region_graph::refusals::NO_PLACE;
 use region_graph::region_set::has;
+use region_graph::size::EVERYTHING;
 use region_graph::size::REGIONS;
 
 // How many bytes a part takes.
-fn part_size(part: StoredPart) -> usize
+fn part_size(part: Numbers) -> usize
     requires { ⌜ PartFits part ⌝ }
     ensures { λ r. ⌜ (r ≡ length (part-bytes (big 4) (part-in part))) × (r ≤ 65) ⌝ }
 {
-    if part.all {
+    if part.count == EVERYTHING {
         return 1;
     }
-    let numbers = part.numbers;
-    1 + numbers.count * 4
+    1 + part.count * 4
 }
 
 // How many bytes a field of a record takes.
@@ -99,7 +99,7 @@ fn section_size(graph: Graph, section: Section) -> usize
 // How many regions a graph has.
 fn region_count(graph: Graph) -> usize
     requires { ⌜ Valid graph ⌝ }
-    ensures { λ r. ⌜ (r ≡ length (meaning graph .regions)) × (r ≤ 16) ⌝ }
+    ensures { λ r. ⌜ (r ≡ length (meaning graph .regions)) × (r ≤ regions) ⌝ }
 {
     let set = graph.region_set();
     let mut n: usize = 0;
@@ -131,16 +131,15 @@ fn put_list(buffer: &mut [u8], at: usize, list: Numbers) -> usize
 }
 
 // A part: a list, or the sign for everything.
-fn put_part(buffer: &mut [u8], at: usize, part: StoredPart) -> usize
+fn put_part(buffer: &mut [u8], at: usize, part: Numbers) -> usize
     requires { ⌜ PartFits part ⌝ }
     requires { ⌜ at + length (part-bytes (big 4) (part-in part)) ≤ length (now buffer) ⌝ }
     ensures { λ r. ⌜ Wrote (now (buffer .entry)) (now (buffer .exit)) at (part-bytes (big 4) (part-in part)) r ⌝ }
 {
-    if part.all {
-        return put_number(buffer, at, 1, 255);
+    if part.count == EVERYTHING {
+        return put_number(buffer, at, 1, EVERYTHING);
     }
-    let numbers = part.numbers;
-    put_list(buffer, at, numbers)
+    put_list(buffer, at, part)
 }
 
 // A field of a record.

@@ -6,11 +6,13 @@ use Prim.Native.Nat.{ℕ, zero, suc, _+_, _-_, _≤_, _<_}
 use native.Mathlib.Numerals.{add-one}
 use native.Mathlib.Nat.{sub-zero}
 use native.Mathlib.Omega.{arith}
+use borrow.Author.Tests.{eq-eqb, ne-eqb}
+use lib.Dec.{eqb}
 use lib.ListN.{length, getD, take, drop, set, replicate, length-append, length-replicate, length-map, length-set, length-drop, List·getD-append, List·getD-map}
 use lib.Seq.{take-suc, drop-cons, set-at, append-snoc, take-at, drop-at, take-length, drop-length, take-take, take-set-le, set-split, getD-take, length-take-le, drop-append-add}
-use Rattle.region_graph.specs.Lists.{keep, any, position}
+use Rattle.region_graph.specs.Lists.{All, keep, any, member, position}
 use Rattle.region_graph.specs.Record.{places}
-use Rattle.region_graph.proofs.Lists.{keep-took, keep-left, map-append, any-found, any-missed}
+use Rattle.region_graph.proofs.Lists.{all-at, any-here, any-later, any-end, keep-took, keep-left, map-append, any-found, any-missed}
 
 module _ {A B : Type 0} (f : A → B) where
   pub map-take : (n : ℕ) (xs : List A) → map f (take n xs) ≡ take n (map f xs)
@@ -50,9 +52,9 @@ module _ {A B : Type 0} {store : A → B} {none : B} {size : ℕ} where
     pub filled-inside : (i : ℕ) → i < count → i < length xs
     filled-inside i k = omega (arith, h .counted)
 
-    -- what the value at a place means
-    pub filled-means : (out : B → A) → ((x : A) → out (store x) ≡ x) → (i : ℕ) (e : B) (d : A) → i < count → out (getD items i e) ≡ getD xs i d
-    filled-means out back i e d k = ap out (filled-at i e d k) ∙ back (getD xs i d)
+    -- what the value at a place means, where each element comes back
+    pub filled-means : (out : B → A) → All (λ x. out (store x) ≡ x) xs → (i : ℕ) (e : B) (d : A) → i < count → out (getD items i e) ≡ getD xs i d
+    filled-means out back i e d k = ap out (filled-at i e d k) ∙ all-at (λ x. out (store x) ≡ x) xs i d (filled-inside i k) back
 
     -- a search by place that ended within the count, and one that did not
     pub filled-found : (p : A → Bool) {k : ℕ} → k ≡ position p xs → k < count → any p xs ≡ true
@@ -88,6 +90,18 @@ module _ {A B : Type 0} {store : A → B} {none : B} {size : ℕ} where
   pub filled-next : {items : List B} (xs : List A) (i : ℕ) (d : A) → i < length xs → Filled store none size items i (take i xs) → i < size
       → Filled store none size (set items i (store (getD xs i d))) (i + 1) (take (i + 1) xs)
   filled-next xs i d l h r = rw (add-one i, take-suc xs i d l, ← add-one i) (filled-more h (getD xs i d) r)
+
+-- a search for a number in the places of a list, however many they are
+module _ {size : ℕ} {items : List ℕ} {count : ℕ} {xs : List ℕ} (h : Filled (λ x. x) 0 size items count xs) (n i : ℕ)
+    (e : member n xs ≡ any (eqb n) (drop i xs)) where
+  pub number-here : (d : ℕ) → i < count → getD items i d ≡ n → true ≡ member n xs
+  number-here d l q = any-here (eqb n) xs i 0 (filled-inside h i l) e (eq-eqb n (getD xs i 0) (sym (sym (filled-at h i d 0 l) ∙ q)))
+
+  pub number-later : (d : ℕ) → i < count → (getD items i d ≡ n → ⊥) → member n xs ≡ any (eqb n) (drop (i + 1) xs)
+  number-later d l q = any-later (eqb n) xs i 0 (filled-inside h i l) e (ne-eqb n (getD xs i 0) (λ f. q (filled-at h i d 0 l ∙ sym f)))
+
+  pub number-end : count ≤ i → false ≡ member n xs
+  number-end l = any-end (eqb n) xs i e (omega (arith, h .counted))
 
 -- the places from i on have moved up by one, and what stands at i does not count
 pub record Opened {A B : Type 0} (store : A → B) (none : B) (size : ℕ) (items : List B) (i : ℕ) (xs : List A) : Type 0 where

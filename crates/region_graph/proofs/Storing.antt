@@ -6,22 +6,22 @@ use Prim.Native.Nat.{ℕ, zero, suc, _+_, _-_, _≤_, _<_, _^_}
 use native.Mathlib.Omega.{arith}
 use lib.Bits.{bitAnd, bitOr}
 use lib.Dec.{eqb, ltb}
-use borrow.Author.Tests.{lt-ltb}
+use borrow.Author.Tests.{lt-ltb, ne-eqb}
 use lib.ListN.{length, getD, take, replicate, length-map, List·getD-map}
 use lib.Seq.{take-at, getD-take}
-use Rattle.region_graph.specs.Size.{regions, most-bundles, most-connections, most-listed, most-provided}
+use Rattle.region_graph.specs.Size.{regions, most-bundles, most-connections, most-listed, most-provided, all-sign}
 use Rattle.region_graph.specs.Refusals.{not-refused}
 use Rattle.region_graph.specs.Lists.{All, member, keep, insert, count-from}
 use Rattle.region_graph.specs.Sets.{has, one, members, set-of}
 use Rattle.region_graph.specs.Model.{Model, Bundle, Filter, Part, Connection, Legal, LegalBundle, LegalConnection, NumberedPart, nothing}
 use Rattle.region_graph.specs.Calls.{Call, number, after, accepted, Words}
 use Rattle.region_graph.specs.Record
-use Rattle.region_graph.specs.Record.{places, Stored, Valid, store, meaning, store-numbers, numbers-of, store-part, part-in, store-bundle, bundle-in, store-bundles, bundles-of, store-connection, connection-in, store-connections, connections-of, no-bundle, no-connection}
-use Rattle.region_graph.specs.Places.{Short, ShortPart, ShortBundle, ShortConnection, Row, NumbersStored, PartStored, BundleStored, BundlesStored, ConnectionStored, ConnectionsStored}
+use Rattle.region_graph.specs.Record.{places, number-places, Stored, Valid, store, meaning, store-numbers, numbers-of, store-provided, provided-of, store-part, part-in, store-bundle, bundle-in, store-bundles, bundles-of, store-connection, connection-in, store-connections, connections-of, no-bundle, no-connection}
+use Rattle.region_graph.specs.Places.{Short, ShortPart, ShortBundle, ShortConnection, Row, NumbersStored, ProvidedStored, PartStored, BundleStored, BundlesStored, ConnectionStored, ConnectionsStored}
 use Rattle.region_graph.specs.declared.numbers.Numbers.{Numbers}
+use Rattle.region_graph.specs.declared.numbers.Provided.{Provided}
 use Rattle.region_graph.specs.declared.bundles.StoredBundle.{StoredBundle}
 use Rattle.region_graph.specs.declared.bundles.Bundles.{Bundles}
-use Rattle.region_graph.specs.declared.connections.StoredPart.{StoredPart}
 use Rattle.region_graph.specs.declared.connections.StoredConnection.{StoredConnection}
 use Rattle.region_graph.specs.declared.connections.Connections.{Connections}
 use Rattle.region_graph.specs.declared.Graph.{Graph}
@@ -41,59 +41,84 @@ map-id : {A : Type 0} (xs : List A) → map (λ x. x) xs ≡ xs
 map-id [] = refl
 map-id {A} (x ∷ xs) = ap (λ (l : List A). x ∷ l) (map-id xs)
 
-pub map-back : {A B : Type 0} (f : A → B) (g : B → A) → ((x : A) → g (f x) ≡ x) → (xs : List A) → map g (map f xs) ≡ xs
-map-back f g h [] = refl
-map-back f g h (x ∷ xs) = λ i. h x i ∷ map-back f g h xs i
+pub map-back : {A B : Type 0} (f : A → B) (g : B → A) (xs : List A) → All (λ x. g (f x) ≡ x) xs → map g (map f xs) ≡ xs
+map-back f g [] h = refl
+map-back f g (x ∷ xs) h = λ i. h .0 i ∷ map-back f g xs (h .1) i
+
+-- a list in places, however many
+pub places-back : (size : ℕ) (xs : List ℕ) → take (length xs) (number-places size xs) ≡ xs
+places-back size xs = took (λ x. x) 0 (size - length xs) xs ∙ map-id xs
 
 pub numbers-back : (xs : List ℕ) → numbers-of (store-numbers xs) ≡ xs
 unfolding numbers-of store-numbers
-numbers-back xs = took (λ x. x) 0 (most-listed - length xs) xs ∙ map-id xs
+numbers-back xs = places-back most-listed xs
 
-pub part-back : (p : Part) → part-in (store-part p) ≡ p
-part-back (Part.listed xs) = ap Part.listed (numbers-back xs)
-part-back Part.everything = refl
+pub provided-back : (xs : List ℕ) → provided-of (store-provided xs) ≡ xs
+unfolding provided-of store-provided
+provided-back xs = places-back most-provided xs
+
+-- no list that its places take has the sign for its count
+pub no-sign : {n : ℕ} → n ≤ most-listed → eqb n all-sign ≡ false
+no-sign {n} h = ne-eqb n all-sign (λ e. omega arith)
+
+pub part-back : (p : Part) → ShortPart p → part-in (store-part p) ≡ p
+unfolding store-numbers
+part-back (Part.listed xs) h = rw (no-sign h) (ap Part.listed (numbers-back xs))
+part-back Part.everything h = refl
 
 pub bundle-back : (b : Bundle) → bundle-in (store-bundle b) ≡ b
 bundle-back b = λ i. record {
   location = b .location;
   region = b .region;
-  packages = numbers-back (b .packages) i;
-  services = numbers-back (b .services) i;
+  packages = provided-back (b .packages) i;
+  services = provided-back (b .services) i;
 }
 
-pub connection-back : (c : Connection) → connection-in (store-connection c) ≡ c
-connection-back c = λ i. record {
+pub connection-back : (c : Connection) → ShortConnection c → connection-in (store-connection c) ≡ c
+connection-back c h = λ i. record {
   source = c .source;
   target = c .target;
   filter = record {
     bundles = numbers-back (c .filter .bundles) i;
-    packages = part-back (c .filter .packages) i;
-    services = part-back (c .filter .services) i;
+    packages = part-back (c .filter .packages) (h .packages) i;
+    services = part-back (c .filter .services) (h .services) i;
   };
 }
+
+-- each of a list comes back
+pub bundles-each : (bs : List Bundle) → All (λ b. bundle-in (store-bundle b) ≡ b) bs
+bundles-each [] = tt
+bundles-each (b ∷ bs) = (bundle-back b, bundles-each bs)
+
+pub connections-each : (cs : List Connection) → All ShortConnection cs → All (λ c. connection-in (store-connection c) ≡ c) cs
+connections-each cs h = all-map ShortConnection (λ c. connection-in (store-connection c) ≡ c) connection-back cs h
 
 pub bundles-back : (bs : List Bundle) → bundles-of (store-bundles bs) ≡ bs
 unfolding bundles-of store-bundles
 bundles-back bs =
-    ap (map bundle-in) (took store-bundle (store-bundle no-bundle) (most-bundles - length bs) bs) ∙ map-back store-bundle bundle-in bundle-back bs
+    ap (map bundle-in) (took store-bundle (store-bundle no-bundle) (most-bundles - length bs) bs) ∙ map-back store-bundle bundle-in bs (bundles-each bs)
 
-pub connections-back : (cs : List Connection) → connections-of (store-connections cs) ≡ cs
+pub connections-back : (cs : List Connection) → All ShortConnection cs → connections-of (store-connections cs) ≡ cs
 unfolding connections-of store-connections
-connections-back cs =
+connections-back cs h =
     ap (map connection-in) (took store-connection (store-connection no-connection) (most-connections - length cs) cs)
-    ∙ map-back store-connection connection-in connection-back cs
+    ∙ map-back store-connection connection-in cs (connections-each cs h)
 
 -- what is stored from a short value is stored in the one way
-module _ {A B : Type 0} (put : A → B) (out : B → A) (back : (x : A) → out (put x) ≡ x) (Good : A → Type 0) where
+module _ {A B : Type 0} (put : A → B) (out : B → A) (Good : A → Type 0) (back : (x : A) → Good x → out (put x) ≡ x) where
   pub stored-as : {b : B} (x : A) → b ≡ put x → Good x → Stored put out Good b
   stored-as {b} x e h =
-      let f : out b ≡ x = ap out e ∙ back x in
+      let f : out b ≡ x = ap out e ∙ back x h in
       record { stored = e ∙ ap put (sym f); good = subst Good (sym f) h }
 
 -- the arrays of a stored record hold the lists that they mean
 pub numbers-filled : (n : Numbers) → NumbersStored n → Filled (λ x. x) 0 most-listed (n .items) (n .count) (numbers-of n)
 unfolding store-numbers
 numbers-filled n s = record { shape = ap (λ (m : Numbers). m .items) (s .stored); counted = ap (λ (m : Numbers). m .count) (s .stored); room = s .good }
+
+pub provided-filled : (n : Provided) → ProvidedStored n → Filled (λ x. x) 0 most-provided (n .items) (n .count) (provided-of n)
+unfolding store-provided
+provided-filled n s = record { shape = ap (λ (m : Provided). m .items) (s .stored); counted = ap (λ (m : Provided). m .count) (s .stored); room = s .good }
 
 pub bundles-filled : (bs : Bundles) → BundlesStored bs
     → Filled store-bundle (store-bundle no-bundle) most-bundles (bs .items) (bs .count) (bundles-of bs)
@@ -111,20 +136,20 @@ connections-filled cs s =
 pub bundle-stored : (bs : Bundles) → BundlesStored bs → (i : ℕ) (e : StoredBundle) → i < bs .count → BundleStored (getD (bs .items) i e)
 bundle-stored bs s i e l =
     let h = bundles-filled bs s in
-    stored-as store-bundle bundle-in bundle-back ShortBundle (getD (bundles-of bs) i no-bundle) (filled-at h i e no-bundle l)
+    stored-as store-bundle bundle-in ShortBundle (λ b h. bundle-back b) (getD (bundles-of bs) i no-bundle) (filled-at h i e no-bundle l)
     (all-at ShortBundle (bundles-of bs) i no-bundle (filled-inside h i l) (s .good .each))
 
 pub connection-stored : (cs : Connections) → ConnectionsStored cs → (i : ℕ) (e : StoredConnection) → i < cs .count
     → ConnectionStored (getD (cs .items) i e)
 connection-stored cs s i e l =
     let h = connections-filled cs s in
-    stored-as store-connection connection-in connection-back ShortConnection (getD (connections-of cs) i no-connection) (filled-at h i e no-connection l)
+    stored-as store-connection connection-in ShortConnection connection-back (getD (connections-of cs) i no-connection) (filled-at h i e no-connection l)
     (all-at ShortConnection (connections-of cs) i no-connection (filled-inside h i l) (s .good .each))
 
-pub packages-stored : (b : StoredBundle) → BundleStored b → NumbersStored (b .packages)
+pub packages-stored : (b : StoredBundle) → BundleStored b → ProvidedStored (b .packages)
 packages-stored b s = record { stored = ap (λ (x : StoredBundle). x .packages) (s .stored); good = s .good .packages }
 
-pub services-stored : (b : StoredBundle) → BundleStored b → NumbersStored (b .services)
+pub services-stored : (b : StoredBundle) → BundleStored b → ProvidedStored (b .services)
 services-stored b s = record { stored = ap (λ (x : StoredBundle). x .services) (s .stored); good = s .good .services }
 
 pub named-stored : (c : StoredConnection) → ConnectionStored c → NumbersStored (c .bundles)
@@ -136,13 +161,20 @@ package-part-stored c s = record { stored = ap (λ (x : StoredConnection). x .pa
 pub service-part-stored : (c : StoredConnection) → ConnectionStored c → PartStored (c .services)
 service-part-stored c s = record { stored = ap (λ (x : StoredConnection). x .services) (s .stored); good = s .good .services }
 
-pub listed-stored : (p : StoredPart) → PartStored p → p .all ≡ false → NumbersStored (p .numbers)
-listed-stored p s e = record { stored = ap (λ (x : StoredPart). x .numbers) (rw e at (s .stored)); good = rw e at (s .good) }
+-- a part without the sign is a list
+pub listed-stored : (p : Numbers) → PartStored p → (p .count ≡ all-sign → ⊥) → NumbersStored p
+listed-stored p s e =
+    let f : eqb (p .count) all-sign ≡ false = ne-eqb (p .count) all-sign e in
+    record { stored = rw f at (s .stored); good = rw f at (s .good) }
 
 -- an empty array of places
 pub no-numbers : {n : Numbers} → n ≡ store-numbers [] → Filled (λ x. x) 0 most-listed (n .items) 0 []
 unfolding store-numbers
 no-numbers e = rw e filled-none
+
+pub none-provided : {n : Provided} → n ≡ store-provided [] → Filled (λ x. x) 0 most-provided (n .items) 0 []
+unfolding store-provided
+none-provided e = rw e filled-none
 
 pub no-bundles : {bs : Bundles} → bs ≡ store-bundles [] → Filled store-bundle (store-bundle no-bundle) most-bundles (bs .items) 0 []
 unfolding store-bundles
@@ -158,6 +190,11 @@ pub filled-numbers : {items : List ℕ} {count : ℕ} {xs : List ℕ} → Filled
     → _≡_ {A = Numbers} (record { count = count; items = items }) (store-numbers xs)
 unfolding store-numbers
 filled-numbers h = λ i. record { count = h .counted i; items = h .shape i }
+
+pub filled-provided : {items : List ℕ} {count : ℕ} {xs : List ℕ} → Filled (λ x. x) 0 most-provided items count xs
+    → _≡_ {A = Provided} (record { count = count; items = items }) (store-provided xs)
+unfolding store-provided
+filled-provided h = λ i. record { count = h .counted i; items = h .shape i }
 
 pub filled-bundles : {items : List StoredBundle} {count : ℕ} {bs : List Bundle}
     → Filled store-bundle (store-bundle no-bundle) most-bundles items count bs
@@ -177,19 +214,12 @@ all-counted P a (suc k) f = (f a (omega arith), all-counted P (suc a) k (λ n h.
 
 -- the regions that a set of a legal model's regions has
 regions-back : (m : Model) → Legal m → members (set-of (λ r. member r (m .regions))) ≡ m .regions
+unfolding members
 regions-back m h =
     keep-same (has (set-of (λ r. member r (m .regions)))) (λ r. member r (m .regions)) (count-from 0 regions)
     (all-counted (λ r. has (set-of (λ s. member s (m .regions))) r ≡ member r (m .regions)) 0 regions
     (λ r l. has-set (λ s. member s (m .regions)) r ∙ rw (lt-ltb r regions (omega arith))))
     ∙ members-back regions (m .regions) (h .region-numbers) (h .regions-ascend)
-
-pub meaning-back : (m : Model) → Legal m → meaning (store m) ≡ m
-unfolding meaning store
-meaning-back m h = λ i. record { regions = regions-back m h i; bundles = bundles-back (m .bundles) i; connections = connections-back (m .connections) i }
-
--- two valid records with one meaning are equal
-pub meaning-injective : (g h : Graph) → Valid g → Valid h → meaning g ≡ meaning h → g ≡ h
-meaning-injective g h v w e = v .stored ∙ ap store e ∙ sym (w .stored)
 
 -- legal lists are short enough for their places
 short-part : (p : Part) → NumberedPart p → ShortPart p
@@ -197,7 +227,7 @@ short-part (Part.listed xs) h = h .few
 short-part Part.everything h = tt
 
 pub short-bundle : {rs : List ℕ} {b : Bundle} → LegalBundle rs b → ShortBundle b
-short-bundle h = record { packages = omega (arith, h .packages .few); services = omega (arith, h .services .few) }
+short-bundle h = record { packages = h .packages .few; services = h .services .few }
 
 pub short-connection : {rs : List ℕ} {c : Connection} → LegalConnection rs c → ShortConnection c
 short-connection {c = c} h = record {
@@ -205,6 +235,17 @@ short-connection {c = c} h = record {
   packages = short-part (c .filter .packages) (h .filter .packages);
   services = short-part (c .filter .services) (h .filter .services);
 }
+
+pub short-connections : {m : Model} → Legal m → All ShortConnection (m .connections)
+short-connections {m} h = all-map (LegalConnection (m .regions)) ShortConnection (λ c l. short-connection l) (m .connections) (h .connections-legal)
+
+pub meaning-back : (m : Model) → Legal m → meaning (store m) ≡ m
+unfolding meaning store
+meaning-back m h = λ i. record { regions = regions-back m h i; bundles = bundles-back (m .bundles) i; connections = connections-back (m .connections) (short-connections h) i }
+
+-- two valid records with one meaning are equal
+pub meaning-injective : (g h : Graph) → Valid g → Valid h → meaning g ≡ meaning h → g ≡ h
+meaning-injective g h v w e = v .stored ∙ ap store e ∙ sym (w .stored)
 
 -- the parts of a valid record
 module _ (g : Graph) (v : Valid g) where
@@ -236,7 +277,7 @@ module _ (g : Graph) (v : Valid g) where
     stored = ap (λ (k : Graph). k .connections) (v .stored);
     good = record {
       few = v .good .connections-few;
-      each = all-map (LegalConnection (meaning g .regions)) ShortConnection (λ c h. short-connection h) (meaning g .connections) (v .good .connections-legal);
+      each = short-connections (v .good);
     };
   }
 

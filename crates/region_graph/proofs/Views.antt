@@ -1,4 +1,4 @@
--- What the layers above read of a record: the place of a location, and the sets of holders and successors as bundles and connections join.
+-- What the layers above read of a record: the place of a location, and the sets of holders and predecessors as bundles and connections join.
 use mathlib.Core.Path.{_≡_, refl, sym, ap, ap₂, _∙_}
 use mathlib.Core.Bool.{Bool, true, false, _&&_, _||_, and-true, and-false, or-false}
 use mathlib.Core.List.{List, [], _∷_, map}
@@ -148,54 +148,55 @@ module _ {A : Type 0} (region : A → ℕ) (provides : A → Bool) where
         set-left brings xs i d h
         (λ n. ap (λ (t : Bool). eqb (region (getD xs i d)) n && t) e ∙ and-false (eqb (region (getD xs i d)) n))
 
--- successors: elements that lead from a region to a region each, and a test
+-- predecessors: elements that lead from a region to a region each, and a test
 
 module _ {A : Type 0} (source target : A → ℕ) (passes : A → Bool) where
-  -- the element leads from region r to region s
+  -- the element leads to region s from region r
   abbrev leads : ℕ → A → ℕ → Bool
-  leads r x s = (eqb (source x) r && eqb (target x) s) && passes x
+  leads s x r = (eqb (source x) r && eqb (target x) s) && passes x
 
-  -- the regions to which some element of the list leads from region r
-  abbrev reached : List A → ℕ → ℕ
-  reached xs r = set-of (λ s. any (λ x. leads r x s) xs)
+  -- the regions from which some element of the list leads to region s
+  abbrev before : List A → ℕ → ℕ
+  before xs s = set-of (λ r. any (λ x. leads s x r) xs)
 
-  -- for each region the regions to which some element of the list leads
+  -- for each region the regions from which some element of the list leads to it
   unfoldable pub led : List A → List ℕ
-  led xs = map (reached xs) (count-from 0 regions)
+  led xs = map (before xs) (count-from 0 regions)
 
   -- no element leads anywhere
-  pub led-none : map (λ r. 0) (count-from 0 regions) ≡ led []
+  pub led-none : map (λ s. 0) (count-from 0 regions) ≡ led []
   unfolding led
-  led-none = counted-same (λ r. 0) (reached []) 0 regions (λ r l. sym set-none)
+  led-none = counted-same (λ s. 0) (before []) 0 regions (λ s l. sym set-none)
 
   module _ (xs : List A) (i : ℕ) (d : A) (h : i < length xs) where
-    -- an element that passes adds its target to what its source reaches
-    pub led-took : {sets : List ℕ} {s x : ℕ} → sets ≡ led (take i xs) → s ≡ source (getD xs i d) → x ≡ one (target (getD xs i d)) → s < regions
+    -- an element that passes adds its source to those that lead to its target
+    pub led-took : {sets : List ℕ} {s x : ℕ} → sets ≡ led (take i xs) → s ≡ target (getD xs i d) → x ≡ one (source (getD xs i d)) → s < regions
         → passes (getD xs i d) ≡ true → set sets s (bitOr (getD sets s 0) x) ≡ led (take (i + 1) xs)
     unfolding led
     led-took {sets} {s} {x} p f t l e =
         let c = getD xs i d in
         ap (λ (ls : List ℕ). set ls s (bitOr (getD sets s 0) x)) p
-        ∙ counted-set (reached (take i xs)) (reached (take (i + 1) xs)) 0 regions s s (bitOr (getD sets s 0) x) l (omega arith)
-        (ap₂ bitOr (ap (λ (ls : List ℕ). getD ls s 0) p ∙ counted-at (reached (take i xs)) 0 regions s s 0 l (omega arith)) t
-        ∙ set-took (leads s) xs i d h (target c) (λ n. rw (e, eq-eqb (source c) s (sym f)) (and-true (eqb (target c) n))))
-        (λ r k. set-left (leads r) xs i d h (λ n. rw (ne-eqb (source c) r (λ q. k (sym q ∙ sym f)))))
+        ∙ counted-set (before (take i xs)) (before (take (i + 1) xs)) 0 regions s s (bitOr (getD sets s 0) x) l (omega arith)
+        (ap₂ bitOr (ap (λ (ls : List ℕ). getD ls s 0) p ∙ counted-at (before (take i xs)) 0 regions s s 0 l (omega arith)) t
+        ∙ set-took (leads s) xs i d h (source c)
+        (λ n. rw (e, eq-eqb (target c) s (sym f)) (and-true (eqb (source c) n && true) ∙ and-true (eqb (source c) n))))
+        (λ s′ k. set-left (leads s′) xs i d h (λ n. rw (ne-eqb (target c) s′ (λ q. k (sym q ∙ sym f)), and-false (eqb (source c) n))))
 
     -- an element that does not adds nothing
     pub led-left : passes (getD xs i d) ≡ false → led (take i xs) ≡ led (take (i + 1) xs)
     unfolding led
     led-left e =
         let c = getD xs i d in
-        counted-same (reached (take i xs)) (reached (take (i + 1) xs)) 0 regions
-        (λ r l. set-left (leads r) xs i d h (λ n. rw e (and-false (eqb (source c) r && eqb (target c) n))))
+        counted-same (before (take i xs)) (before (take (i + 1) xs)) 0 regions
+        (λ s l. set-left (leads s) xs i d h (λ n. rw e (and-false (eqb (source c) n && eqb (target c) s))))
 
--- the source of a valid record's connection is a region
-pub source-region : (g : Graph) → Valid g → (i : ℕ) (e : StoredConnection) → i < g .connections .count
-    → getD (g .connections .items) i e .source < regions
+-- the target of a valid record's connection is a region
+pub target-region : (g : Graph) → Valid g → (i : ℕ) (e : StoredConnection) → i < g .connections .count
+    → getD (g .connections .items) i e .target < regions
 unfolding meaning
-source-region g v i e l =
+target-region g v i e l =
     let h = connections-filled (g .connections) (connections-stored g v) in
     let cs = connections-of (g .connections) in
     rw (filled-at h i e no-connection l)
-    (member-all (λ r. r < regions) (getD cs i no-connection .source) (meaning g .regions) (v .good .region-numbers)
-    (all-at (LegalConnection (meaning g .regions)) cs i no-connection (filled-inside h i l) (v .good .connections-legal) .source))
+    (member-all (λ r. r < regions) (getD cs i no-connection .target) (meaning g .regions) (v .good .region-numbers)
+    (all-at (LegalConnection (meaning g .regions)) cs i no-connection (filled-inside h i l) (v .good .connections-legal) .target))

@@ -4,36 +4,36 @@ use mathlib.Core.List.{List}
 use Prim.Native.Nat.{ℕ, _≤_}
 use lib.Dec.{eqb, ltb}
 use lib.ListN.{length}
-use Rattle.region_graph.specs.Size.{most-bundles, most-connections, most-listed}
+use Rattle.region_graph.specs.Size.{most-bundles, most-connections, most-listed, most-provided}
 use Rattle.region_graph.specs.Lists.{All}
 use Rattle.region_graph.specs.Model.{Bundle, Part, Connection}
 use Rattle.region_graph.specs.Calls.{at-location, in-region, joins, touches, names}
-use Rattle.region_graph.specs.Record.{Stored, store-numbers, numbers-of, store-part, part-in, store-bundle, bundle-in, store-bundles, bundles-of, store-connection, connection-in, store-connections, connections-of}
+use Rattle.region_graph.specs.Record.{Stored, store-numbers, numbers-of, store-provided, provided-of, store-part, part-in, store-bundle, bundle-in, store-bundles, bundles-of, store-connection, connection-in, store-connections, connections-of}
 use Rattle.region_graph.specs.declared.numbers.Numbers.{Numbers}
+use Rattle.region_graph.specs.declared.numbers.Provided.{Provided}
 use Rattle.region_graph.specs.declared.bundles.StoredBundle.{StoredBundle}
 use Rattle.region_graph.specs.declared.bundles.Bundles.{Bundles}
 use Rattle.region_graph.specs.declared.bundles.BundleTest.{BundleTest}
 use Rattle.region_graph.specs.declared.bundles.BundleTest.the-variants as BundleTest
-use Rattle.region_graph.specs.declared.connections.StoredPart.{StoredPart}
 use Rattle.region_graph.specs.declared.connections.StoredConnection.{StoredConnection}
 use Rattle.region_graph.specs.declared.connections.Connections.{Connections}
 use Rattle.region_graph.specs.declared.connections.ConnectionTest.{ConnectionTest}
 use Rattle.region_graph.specs.declared.connections.ConnectionTest.the-variants as ConnectionTest
 
--- a list that the places of `Numbers` take
-abbrev pub Short : List ℕ → Type 0
-Short xs = length xs ≤ most-listed
+-- a list that so many places take
+abbrev pub Short : ℕ → List ℕ → Type 0
+Short most xs = length xs ≤ most
 
 abbrev pub ShortPart : Part → Type 0
-ShortPart (Part.listed xs) = Short xs
+ShortPart (Part.listed xs) = Short most-listed xs
 ShortPart Part.everything = Unit {0}
 
 pub record ShortBundle (b : Bundle) : Type 0 where
-  pub packages : Short (b .packages)
-  pub services : Short (b .services)
+  pub packages : Short most-provided (b .packages)
+  pub services : Short most-provided (b .services)
 
 pub record ShortConnection (c : Connection) : Type 0 where
-  pub bundles : Short (c .filter .bundles)
+  pub bundles : Short most-listed (c .filter .bundles)
   pub packages : ShortPart (c .filter .packages)
   pub services : ShortPart (c .filter .services)
 
@@ -43,9 +43,12 @@ pub record Row {A : Type 0} (most : ℕ) (Good : A → Type 0) (xs : List A) : T
   pub each : All Good xs
 
 abbrev pub NumbersStored : Numbers → Type 0
-NumbersStored n = Stored store-numbers numbers-of Short n
+NumbersStored n = Stored store-numbers numbers-of (Short most-listed) n
 
-abbrev pub PartStored : StoredPart → Type 0
+abbrev pub ProvidedStored : Provided → Type 0
+ProvidedStored n = Stored store-provided provided-of (Short most-provided) n
+
+abbrev pub PartStored : Numbers → Type 0
 PartStored p = Stored store-part part-in ShortPart p
 
 abbrev pub BundleStored : StoredBundle → Type 0

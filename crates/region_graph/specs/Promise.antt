@@ -54,12 +54,12 @@ abbrev pub place-of : List Bundle → ℕ → Place
 place-of [] l = Nowhere
 place-of (b ∷ bs) l = pick (at-location l b) (Within (b .region)) (place-of bs l)
 
--- the set of the regions that hold the item, and for each region the set of those that a connection which passes the item leads to
+-- the set of the regions that hold the item, and for each region the set of those from which a connection that passes the item leads to it
 abbrev pub holder-set : Model → Item → ℕ
 holder-set m i = set-of (holds m i)
 
-unfoldable pub successor-sets : Model → Item → List ℕ
-successor-sets m i = map (λ r. set-of (crosses m i r)) (count-from 0 regions)
+unfoldable pub predecessor-sets : Model → Item → List ℕ
+predecessor-sets m i = map (λ s. set-of (λ r. crosses m i r s)) (count-from 0 regions)
 
 -- the places of the bundles and of the connections
 abbrev pub bundle-places : Model → List StoredBundle

@@ -1,18 +1,18 @@
 -- The engine's record: the one record that stores a model, and the model that a record means.
 use mathlib.Core.Path.{_≡_}
-use mathlib.Core.Bool.{Bool, true, false}
 use mathlib.Core.List.{List, [], _∷_, _++_, map}
 use Prim.Native.Nat.{ℕ, _-_}
+use lib.Dec.{eqb}
 use lib.ListN.{length, take, replicate}
-use Rattle.region_graph.specs.Size.{most-bundles, most-connections, most-listed}
+use Rattle.region_graph.specs.Size.{most-bundles, most-connections, most-listed, most-provided, all-sign}
 use Rattle.region_graph.specs.Lists.{pick, member}
 use Rattle.region_graph.specs.Sets.{set-of, members}
 use Rattle.region_graph.specs.Model.{Model, Bundle, Filter, Part, Connection, Legal, nothing}
 use Rattle.region_graph.specs.declared.Graph.{Graph}
 use Rattle.region_graph.specs.declared.numbers.Numbers.{Numbers}
+use Rattle.region_graph.specs.declared.numbers.Provided.{Provided}
 use Rattle.region_graph.specs.declared.bundles.StoredBundle.{StoredBundle}
 use Rattle.region_graph.specs.declared.bundles.Bundles.{Bundles}
-use Rattle.region_graph.specs.declared.connections.StoredPart.{StoredPart}
 use Rattle.region_graph.specs.declared.connections.StoredConnection.{StoredConnection}
 use Rattle.region_graph.specs.declared.connections.Connections.{Connections}
 
@@ -20,16 +20,24 @@ use Rattle.region_graph.specs.declared.connections.Connections.{Connecti
 abbrev pub places : {A B : Type 0} → (A → B) → B → ℕ → List A → List B
 places store none size xs = map store xs ++ replicate (size - length xs) none
 
-unfoldable pub store-numbers : List ℕ → Numbers
-store-numbers xs = record { count = length xs; items = places (λ x. x) 0 most-listed xs }
+-- a list of numbers, in as many places as the array has
+abbrev pub number-places : ℕ → List ℕ → List ℕ
+number-places size xs = places (λ x. x) 0 size xs
 
-abbrev pub store-part : Part → StoredPart
-store-part (Part.listed xs) = record { all = false; numbers = store-numbers xs }
-store-part Part.everything = record { all = true; numbers = store-numbers [] }
+unfoldable pub store-numbers : List ℕ → Numbers
+store-numbers xs = record { count = length xs; items = number-places most-listed xs }
+
+unfoldable pub store-provided : List ℕ → Provided
+store-provided xs = record { count = length xs; items = number-places most-provided xs }
+
+-- a part that is everything has the sign for its count, and no numbers
+abbrev pub store-part : Part → Numbers
+store-part (Part.listed xs) = store-numbers xs
+store-part Part.everything = record { count = all-sign; items = number-places most-listed [] }
 
 abbrev pub store-bundle : Bundle → StoredBundle
 store-bundle b =
-    record { location = b .location; region = b .region; packages = store-numbers (b .packages); services = store-numbers (b .services) }
+    record { location = b .location; region = b .region; packages = store-provided (b .packages); services = store-provided (b .services) }
 
 abbrev pub store-connection : Connection → StoredConnection
 store-connection c =
@@ -67,12 +75,15 @@ store m =
 unfoldable pub numbers-of : Numbers → List ℕ
 numbers-of n = take (n .count) (n .items)
 
-abbrev pub part-in : StoredPart → Part
-part-in p = pick (p .all) Part.everything (Part.listed (numbers-of (p .numbers)))
+unfoldable pub provided-of : Provided → List ℕ
+provided-of n = take (n .count) (n .items)
+
+abbrev pub part-in : Numbers → Part
+part-in n = pick (eqb (n .count) all-sign) Part.everything (Part.listed (numbers-of n))
 
 abbrev pub bundle-in : StoredBundle → Bundle
 bundle-in b =
-    record { location = b .location; region = b .region; packages = numbers-of (b .packages); services = numbers-of (b .services) }
+    record { location = b .location; region = b .region; packages = provided-of (b .packages); services = provided-of (b .services) }
 
 abbrev pub connection-in : StoredConnection → Connection
 connection-in c =

@@ -29,5 +29,5 @@ abbrev pub set-of : (ℕ → Bool) → ℕ
 set-of p = set-below regions p
 
 -- the members in ascending order
-abbrev pub members : ℕ → List ℕ
+unfoldable pub members : ℕ → List ℕ
 members x = keep (has x) (count-from 0 regions)

@@ -18,3 +18,7 @@ most-provided = 8
 -- numbers in one part of a filter
 abbrev pub most-listed : ℕ
 most-listed = 16
+
+-- the count of a part that is everything: the archive's sign
+abbrev pub all-sign : ℕ
+all-sign = 255

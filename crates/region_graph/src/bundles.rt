@@ -10,9 +10,9 @@ ghost use Rattle.region_graph.specs.Lists.{ascends, keep, position};
 ghost use Rattle.region_graph.specs.Calls.{within};
 ghost use Rattle.region_graph.specs.Record.{«store-bundle», «bundle-in», «no-bundle», «store-bundles», «bundles-of»};
 ghost use Rattle.region_graph.specs.Places.{BundleStored, BundlesStored, «bundle-meets»};
-use crate::numbers::Numbers;
+use crate::numbers::Provided;
 use crate::numbers::ascending;
-use crate::numbers::no_numbers;
+use crate::numbers::none_provided;
 use crate::size::MOST_BUNDLES;
 use crate::size::MOST_PROVIDED;
 
@@ -20,8 +20,8 @@ use crate::size::MOST_PROVIDED;
 pub struct StoredBundle {
     pub location: u32,
     pub region: u32,
-    pub packages: Numbers,
-    pub services: Numbers,
+    pub packages: Provided,
+    pub services: Provided,
 }
 
 #[repr(C)]
@@ -41,7 +41,7 @@ pub enum BundleTest {
 pub fn no_bundle() -> StoredBundle
     ensures { λ r. ⌜ r ≡ store-bundle no-bundle ⌝ }
 {
-    let none = no_numbers();
+    let none = none_provided();
     StoredBundle {
         location: 0,
         region: 0,

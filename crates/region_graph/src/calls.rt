@@ -15,6 +15,7 @@ use crate::connections::filter_ascending;
 use crate::connections::filter_within;
 use crate::connections::part_copied;
 use crate::numbers::copied;
+use crate::numbers::provided_copied;
 use crate::refusals::CONNECTED;
 use crate::refusals::ENDS_EQUAL;
 use crate::refusals::FILTERED;
@@ -138,8 +139,8 @@ impl Graph {
                 number,
             };
         }
-        let provided = copied(packages);
-        let published = copied(services);
+        let provided = provided_copied(packages);
+        let published = provided_copied(services);
         let b = StoredBundle {
             location,
             region,

@@ -15,23 +15,18 @@ use crate::numbers::ascending;
 use crate::numbers::copied;
 use crate::numbers::lists;
 use crate::numbers::no_numbers;
+use crate::size::EVERYTHING;
 use crate::size::MOST_CONNECTIONS;
 use crate::size::MOST_LISTED;
 
-// A package or a service part of a filter: everything, or the numbers listed.
-#[repr(C)]
-pub struct StoredPart {
-    pub all: bool,
-    pub numbers: Numbers,
-}
-
+// A package or a service part has the numbers listed, or the count EVERYTHING and no numbers.
 #[repr(C)]
 pub struct StoredConnection {
     pub source: u32,
     pub target: u32,
     pub bundles: Numbers,
-    pub packages: StoredPart,
-    pub services: StoredPart,
+    pub packages: Numbers,
+    pub services: Numbers,
 }
 
 #[repr(C)]
@@ -103,22 +98,17 @@ pub fn filter_ascending(
     false
 }
 
-pub fn part_copied(all: bool, list: &[u32]) -> StoredPart
+pub fn part_copied(all: bool, list: &[u32]) -> Numbers
     requires { ⌜ part-within (part all (now list)) ≡ true ⌝ }
     ensures { λ r. ⌜ r ≡ store-part (part all (now (list .entry))) ⌝ }
 {
     if all {
-        let none = no_numbers();
-        return StoredPart {
-            all: true,
-            numbers: none,
+        return Numbers {
+            count: EVERYTHING,
+            items: [0u32; MOST_LISTED],
         };
     }
-    let numbers = copied(list);
-    StoredPart {
-        all: false,
-        numbers,
-    }
+    copied(list)
 }
 
 // What stands in a place that is not used.
@@ -126,16 +116,12 @@ pub fn no_connection() -> StoredConnection
     ensures { λ r. ⌜ r ≡ store-connection no-connection ⌝ }
 {
     let none = no_numbers();
-    let nothing = StoredPart {
-        all: false,
-        numbers: none,
-    };
     StoredConnection {
         source: 0,
         target: 0,
         bundles: none,
-        packages: nothing,
-        services: nothing,
+        packages: none,
+        services: none,
     }
 }
 

@@ -13,8 +13,8 @@ use bundles::Bundles;
 pub use bundles::StoredBundle;
 use connections::Connections;
 pub use connections::StoredConnection;
-pub use connections::StoredPart;
 pub use numbers::Numbers;
+pub use numbers::Provided;
 
 // R as a set, B and F in ascending order in the first places of their arrays.
 #[repr(C)]

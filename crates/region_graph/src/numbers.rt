@@ -4,16 +4,24 @@ ghost use mathlib.Core.List.{[]};
 ghost use Prim.Native.Nat.{_≤_};
 ghost use lib.Dec.{ltb};
 ghost use lib.ListN.{length};
-ghost use Rattle.region_graph.specs.Size.{«most-listed»};
+ghost use Rattle.region_graph.specs.Size.{«most-listed», «most-provided»};
 ghost use Rattle.region_graph.specs.Lists.{ascends, member};
-ghost use Rattle.region_graph.specs.Record.{«store-numbers», «numbers-of»};
-ghost use Rattle.region_graph.specs.Places.{NumbersStored};
+ghost use Rattle.region_graph.specs.Record.{«store-numbers», «numbers-of», «store-provided», «provided-of»};
+ghost use Rattle.region_graph.specs.Places.{NumbersStored, ProvidedStored};
 use crate::size::MOST_LISTED;
+use crate::size::MOST_PROVIDED;
 
 #[repr(C)]
 pub struct Numbers {
     pub count: usize,
     pub items: [u32; MOST_LISTED],
+}
+
+// What a bundle brings: as Numbers, with fewer places.
+#[repr(C)]
+pub struct Provided {
+    pub count: usize,
+    pub items: [u32; MOST_PROVIDED],
 }
 
 pub fn no_numbers() -> Numbers
@@ -22,6 +30,15 @@ pub fn no_numbers() -> Numbers
     Numbers {
         count: 0,
         items: [0u32; MOST_LISTED],
+    }
+}
+
+pub fn none_provided() -> Provided
+    ensures { λ r. ⌜ r ≡ store-provided [] ⌝ }
+{
+    Provided {
+        count: 0,
+        items: [0u32; MOST_PROVIDED],
     }
 }
 
@@ -54,10 +71,39 @@ pub fn copied(list: &[u32]) -> Numbers
     Numbers { count: i, items }
 }
 
+pub fn provided_copied(list: &[u32]) -> Provided
+    requires { ⌜ length (now list) ≤ most-provided ⌝ }
+    ensures { λ r. ⌜ r ≡ store-provided (now (list .entry)) ⌝ }
+{
+    let none = none_provided();
+    let mut items = none.items;
+    let mut i: usize = 0;
+    while i < list.len() {
+        items[i] = list[i];
+        i += 1;
+    }
+    Provided { count: i, items }
+}
+
 // Whether a list has a number.
 pub fn lists(list: Numbers, number: u32) -> bool
     requires { ⌜ NumbersStored list ⌝ }
     ensures { λ r. ⌜ r ≡ member number (numbers-of list) ⌝ }
+{
+    let count = list.count;
+    let mut i: usize = 0;
+    while i < count {
+        if list.items[i] == number {
+            return true;
+        }
+        i += 1;
+    }
+    false
+}
+
+pub fn provided_lists(list: Provided, number: u32) -> bool
+    requires { ⌜ ProvidedStored list ⌝ }
+    ensures { λ r. ⌜ r ≡ member number (provided-of list) ⌝ }
 {
     let count = list.count;
     let mut i: usize = 0;

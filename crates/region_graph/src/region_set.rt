@@ -28,9 +28,6 @@ const ONE: [u64; REGIONS] = [
     32768,
 ];
 
-// The set of all regions.
-pub const EVERY: u64 = 65535;
-
 // Whether a number is a region's.
 pub fn is_region(number: u32) -> bool
     ensures { λ r. ⌜ r ≡ ltb number regions ⌝ }

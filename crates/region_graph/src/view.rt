@@ -6,7 +6,7 @@ ghost use Rattle.region_graph.specs.Sets.{«set-of»};
 ghost use Rattle.region_graph.specs.Items.{provides, passes, «part-passes»};
 ghost use Rattle.region_graph.specs.Record.{Valid, meaning, «store-bundle», «store-connection», «bundle-in», «connection-in», «part-in»};
 ghost use Rattle.region_graph.specs.Places.{BundleStored, ConnectionStored, PartStored};
-ghost use Rattle.region_graph.specs.Promise.{«place-of», «holder-set», «successor-sets», «bundle-places», «connection-places», «bundle-at», «connection-at»};
+ghost use Rattle.region_graph.specs.Promise.{«place-of», «holder-set», «predecessor-sets», «bundle-places», «connection-places», «bundle-at», «connection-at»};
 use crate::Graph;
 use crate::Item;
 use crate::Place;
@@ -14,10 +14,12 @@ use crate::bundles::BundleTest;
 use crate::bundles::StoredBundle;
 use crate::bundles::no_bundle;
 use crate::connections::StoredConnection;
-use crate::connections::StoredPart;
 use crate::connections::no_connection;
+use crate::numbers::Numbers;
 use crate::numbers::lists;
+use crate::numbers::provided_lists;
 use crate::region_set::one;
+use crate::size::EVERYTHING;
 use crate::size::MOST_BUNDLES;
 use crate::size::MOST_CONNECTIONS;
 use crate::size::REGIONS;
@@ -32,25 +34,24 @@ fn bundle_provides(b: StoredBundle, item: Item) -> bool
         0 => b.location == item.number,
         1 => {
             let packages = b.packages;
-            lists(packages, item.number)
+            provided_lists(packages, item.number)
         }
         2 => {
             let services = b.services;
-            lists(services, item.number)
+            provided_lists(services, item.number)
         }
         _ => false,
     }
 }
 
-fn part_passes(part: StoredPart, number: u32) -> bool
+fn part_passes(part: Numbers, number: u32) -> bool
     requires { ⌜ PartStored part ⌝ }
     ensures { λ r. ⌜ r ≡ part-passes number (part-in part) ⌝ }
 {
-    if part.all {
+    if part.count == EVERYTHING {
         return true;
     }
-    let numbers = part.numbers;
-    lists(numbers, number)
+    lists(part, number)
 }
 
 // Whether a connection's filter passes an item.
@@ -118,10 +119,10 @@ impl Graph {
         set
     }
 
-    // For each region the regions that a connection which passes an item leads to.
-    pub fn successors(self, item: Item) -> [u64; REGIONS]
+    // For each region the regions from which a connection that passes an item leads to it.
+    pub fn predecessors(self, item: Item) -> [u64; REGIONS]
         requires { ⌜ Valid self ⌝ }
-        ensures { λ r. ⌜ r ≡ successor-sets (meaning self) item ⌝ }
+        ensures { λ r. ⌜ r ≡ predecessor-sets (meaning self) item ⌝ }
     {
         let connections = self.connections;
         let count = connections.count;
@@ -131,8 +132,8 @@ impl Graph {
             let c = connections.items[i];
             i += 1;
             if connection_passes(c, item) {
-                let source = c.source as usize;
-                sets[source] = sets[source] | one(c.target);
+                let target = c.target as usize;
+                sets[target] = sets[target] | one(c.source);
             }
         }
         sets

@@ -19,7 +19,7 @@ use Rattle.region_graph.specs.declared.Item.{Item}
 use Rattle.region_graph.specs.declared.Place.{Place}
 use Rattle.region_graph.specs.declared.Place.the-variants.{Within, Nowhere}
 use Rattle.region_graph.proofs.Lists.{keep-length}
-use Rattle.region_routes.specs.Chosen.{first-of, put-before, when, or-else, exactly, from, chosen}
+use Rattle.region_routes.specs.Chosen.{first-of, put-before, when, or-else, exactly, from, chosen-by, chosen}
 use Rattle.region_routes.specs.Hooks.{Outcome, kind-number, item, written, judged, shown, shown-from, sees-from, route-questions, find-questions, event-questions, route-outcome, kept-outcome, find-outcome, event-outcome}
 use Rattle.region_routes.specs.declared.Kind.{Kind}
 use Rattle.region_routes.specs.declared.Routed.the-variants as Routed
@@ -94,7 +94,7 @@ module _ (cross : ℕ → ℕ → Bool) (ends : ℕ → Bool) where
       go (some p) l later = omega (arith, l, h)
 
 chosen-short : (m : Model) (i : Item) (r : ℕ) → Short (chosen m i r)
-unfolding chosen
+unfolding chosen chosen-by
 chosen-short m i r = from-short (crosses m i) (holds m i) r 0 regions (omega arith)
 
 shown-given : (o : Option (List ℕ)) (entry : List ℕ) → Short o → RoutedGiven (shown o entry .answer)

@@ -16,7 +16,7 @@ use Rattle.region_graph.specs.Items.{holds, crosses, passes}
 use Rattle.region_graph.specs.declared.Item.{Item}
 use Rattle.region_graph.proofs.Lists.{and-yes, and-fst, and-snd, false-true, all-map, all-both, any-none, keep-length, member-all, member-kept}
 use Rattle.region_routes.specs.Route.{Route, last, next, Lex, Best, NoRoute}
-use Rattle.region_routes.specs.Chosen.{first-of, put-before, when, or-else, exactly, from, found, chosen, sees, Crosses, Holds, RouteFor, NoRouteFor, BestFor}
+use Rattle.region_routes.specs.Chosen.{first-of, put-before, when, or-else, exactly, from, chosen-by, found, chosen, sees, Crosses, Holds, RouteFor, NoRouteFor, BestFor}
 use Rattle.region_routes.proofs.RouteLaws.{lt-or-ge, nonempty, head-lex, best-unique}
 
 -- what an answer says of the lists in P: it is the first of them, or there is none
@@ -210,6 +210,49 @@ module _ (cross : ℕ → ℕ → Bool) (ends : ℕ → Bool) (inside : (r s : �
             smallest = λ q t l. h .1 q (t, sym l ∙ h .0 .1);
           }
 
+  -- the chosen route is the best, and there is one where there is a route
+  module _ (r : ℕ) where
+    says : Says E H r (chosen-by cross ends r)
+    unfolding chosen-by
+    says = from-says regions 0 r refl (λ q t. nonempty t)
+
+    says-one : (o u : Option (List ℕ)) → Says E H r o → Says E H r u → o ≡ u
+    says-one none none h k = refl
+    says-one none (some q) h k = absurd (h q (k .route))
+    says-one (some p) none h k = absurd (k p (h .route))
+    says-one (some p) (some q) h k = ap some (best-unique h k)
+
+    pub by-best : (p : List ℕ) → Best E H r p → chosen-by cross ends r ≡ some p
+    by-best p b = says-one (chosen-by cross ends r) (some p) says b
+
+    pub by-none : NoRoute E H r → chosen-by cross ends r ≡ none
+    by-none n = says-one (chosen-by cross ends r) none says n
+
+    pub best-by : (p : List ℕ) → chosen-by cross ends r ≡ some p → Best E H r p
+    best-by p e = subst (Says E H r) e says
+
+    pub none-by : chosen-by cross ends r ≡ none → NoRoute E H r
+    none-by e = subst (Says E H r) e says
+
+    pub found-route : found (chosen-by cross ends r) ≡ true → (p : List ℕ) × Route E H r p
+    found-route = go (chosen-by cross ends r) says
+      where
+        go : (o : Option (List ℕ)) → Says E H r o → found o ≡ true → (p : List ℕ) × Route E H r p
+        go none h e = false-true e
+        go (some p) h e = (p, h .route)
+
+    pub route-found : (p : List ℕ) → Route E H r p → found (chosen-by cross ends r) ≡ true
+    route-found p t = go (chosen-by cross ends r) says
+      where
+        go : (o : Option (List ℕ)) → Says E H r o → found o ≡ true
+        go none h = absurd (h p t)
+        go (some q) h = refl
+
+    -- a test that is true where there is a route and false where there is none says whether one is found
+    pub found-is : (b : Bool) → (b ≡ true → (p : List ℕ) × Route E H r p) → (b ≡ false → NoRoute E H r) → b ≡ found (chosen-by cross ends r)
+    found-is true f g = let w = f refl in sym (route-found (w .0) (w .1))
+    found-is false f g = sym (ap found (by-none (g refl)))
+
 -- an element that passes, with what is known of each
 any-one : {A : Type 0} (p : A → Bool) (P : A → Type 0) (xs : List A) → All P xs → any p xs ≡ true → (x : A) × (p x ≡ true) × P x
 any-one p P [] h e = false-true e
@@ -238,47 +281,30 @@ crosses-inside m i r s l e =
     (below r (w .0), below s (w .1))
 
 -- `chosen` is the best route, and `sees` says whether there is a route
-abbrev SaysFor : Model → Item → ℕ → Option (List ℕ) → Type 0
-SaysFor m i r = Says (Crosses m i) (Holds m i) r
-
 module _ (m : Model) (i : Item) (r : ℕ) (l : Legal m) where
-  chosen-says : SaysFor m i r (chosen m i r)
-  unfolding chosen
-  chosen-says = from-says (crosses m i) (holds m i) (λ r s. crosses-inside m i r s l) regions 0 r refl (λ q t. nonempty t)
-
-  says-one : (o u : Option (List ℕ)) → SaysFor m i r o → SaysFor m i r u → o ≡ u
-  says-one none none h k = refl
-  says-one none (some q) h k = absurd (h q (k .route))
-  says-one (some p) none h k = absurd (k p (h .route))
-  says-one (some p) (some q) h k = ap some (best-unique h k)
+  inside : (r s : ℕ) → crosses m i r s ≡ true → (r < regions) × (s < regions)
+  inside r s = crosses-inside m i r s l
 
   pub chosen-best : (p : List ℕ) → chosen m i r ≡ some p → BestFor m i r p
-  chosen-best p e = subst (SaysFor m i r) e chosen-says
+  unfolding chosen
+  chosen-best = best-by (crosses m i) (holds m i) inside r
 
   pub chosen-none : chosen m i r ≡ none → NoRouteFor m i r
-  chosen-none e = subst (SaysFor m i r) e chosen-says
+  unfolding chosen
+  chosen-none = none-by (crosses m i) (holds m i) inside r
 
   pub best-chosen : (p : List ℕ) → BestFor m i r p → chosen m i r ≡ some p
-  best-chosen p b = says-one (chosen m i r) (some p) chosen-says b
+  unfolding chosen
+  best-chosen = by-best (crosses m i) (holds m i) inside r
 
   pub none-chosen : NoRouteFor m i r → chosen m i r ≡ none
-  none-chosen n = says-one (chosen m i r) none chosen-says n
+  unfolding chosen
+  none-chosen = by-none (crosses m i) (holds m i) inside r
 
   pub sees-route : sees m i r ≡ true → (p : List ℕ) × RouteFor m i r p
-  sees-route = go (chosen m i r) chosen-says
-    where
-      go : (o : Option (List ℕ)) → SaysFor m i r o → found o ≡ true → (p : List ℕ) × RouteFor m i r p
-      go none h e = false-true e
-      go (some p) h e = (p, h .route)
+  unfolding chosen
+  sees-route = found-route (crosses m i) (holds m i) inside r
 
   pub route-sees : (p : List ℕ) → RouteFor m i r p → sees m i r ≡ true
-  route-sees p t = go (chosen m i r) chosen-says
-    where
-      go : (o : Option (List ℕ)) → SaysFor m i r o → found o ≡ true
-      go none h = absurd (h p t)
-      go (some q) h = refl
-
-  -- a test that is true where there is a route and false where there is none is `sees`
-  pub sees-is : (b : Bool) → (b ≡ true → (p : List ℕ) × RouteFor m i r p) → (b ≡ false → NoRouteFor m i r) → b ≡ sees m i r
-  sees-is true f g = let w = f refl in sym (route-sees (w .0) (w .1))
-  sees-is false f g = sym (ap found (none-chosen (g refl)))
+  unfolding chosen
+  route-sees = route-found (crosses m i) (holds m i) inside r

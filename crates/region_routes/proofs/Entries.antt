@@ -16,7 +16,7 @@ use Rattle.region_graph.specs.Model.{Model, Bundle, Filter, Part, Connection, W
 use Rattle.region_graph.specs.Items.{provided, part-of, part-passes, provides, passes}
 use Rattle.region_graph.specs.Record.{store-bundle, store-connection, bundle-in, connection-in, no-bundle, no-connection}
 use Rattle.region_graph.specs.Places.{ShortBundle, ShortConnection, BundleStored, ConnectionStored}
-use Rattle.region_graph.specs.Promise.{place-of, holder-set, successor-sets}
+use Rattle.region_graph.specs.Promise.{place-of, holder-set, predecessor-sets}
 use Rattle.region_graph.specs.declared.Place.{Place}
 use Rattle.region_graph.specs.declared.Place.the-variants.{Within, Nowhere}
 use Rattle.region_graph.specs.declared.bundles.StoredBundle.{StoredBundle}
@@ -26,7 +26,9 @@ use Rattle.region_graph.proofs.Bits.{set-below-lt}
 use Rattle.region_graph.proofs.Arrays.{Filled, filled-at, filled-inside, filled-means}
 use Rattle.region_graph.proofs.Storing.{map-back, stored-as, bundle-back, connection-back, short-bundle, short-connection}
 use Rattle.region_routes.specs.Hooks.{item, installed, all-installed}
-use Rattle.region_routes.specs.Tables.{width, every, entry, number-in, place-in, ends, source-in, target-in, gather, passed, offer, passage, offers, passages, Appended, Holding, of-number, held-in, led-in, place-at, all-placed, FromRegions, Tables}
+use Rattle.region_routes.specs.Search.{RegionSets}
+use Rattle.region_routes.specs.Tables.{width, every, entry, number-in, place-in, ends, source-in, target-in, gather, passed, offer, passage, offers, passages, Appended, Holding, of-number, held-in, led-in, place-at, all-placed, Tables}
+use Rattle.region_routes.proofs.SetLaws.{counted-sets}
 
 -- what is put at the end of what stands in a buffer
 
@@ -80,26 +82,18 @@ module _ {A : Type 0} (f : A → List ℕ) where
   any-gather p [] = refl
   any-gather p (x ∷ xs) = any-append p (f x) (gather f xs) ∙ ap (λ (b : Bool). any p (f x) || b) (any-gather p xs)
 
-  all-gather : (P : A → Type 0) (Q : ℕ → Type 0) → ((x : A) → P x → All Q (f x)) → (xs : List A) → All P xs → All Q (gather f xs)
-  all-gather P Q g [] h = tt
-  all-gather P Q g (x ∷ xs) h = go (f x) (g x (h .0)) (all-gather P Q g xs (h .1))
-    where
-      go : (ys : List ℕ) → All Q ys → All Q (gather f xs) → All Q (ys ++ gather f xs)
-      go [] a b = b
-      go (y ∷ ys) a b = (a .0, go ys (a .1) b)
-
   -- tests that agree on each element
   any-each : (P : A → Type 0) (p q : A → Bool) → ((x : A) → P x → p x ≡ q x) → (xs : List A) → All P xs → any p xs ≡ any q xs
   any-each P p q e [] h = refl
   any-each P p q e (x ∷ xs) h = ap₂ _||_ (e x (h .0)) (any-each P p q e xs (h .1))
 
 -- a loop over an array whose first places hold a list puts the entries of each element
-module _ {A B : Type 0} {store : A → B} {none : B} {size : ℕ} (out : B → A) (back : (x : A) → out (store x) ≡ x) (f : A → List ℕ)
-    {items : List B} {count : ℕ} {xs : List A} (h : Filled store none size items count xs) where
+module _ {A B : Type 0} {store : A → B} {none : B} {size : ℕ} (out : B → A) (f : A → List ℕ)
+    {items : List B} {count : ℕ} {xs : List A} (back : All (λ x. out (store x) ≡ x) xs) (h : Filled store none size items count xs) where
   filled-read : map out (take count items) ≡ xs
   filled-read =
       rw (h .shape, h .counted)
-      (ap (map out) (take-at (map store xs) (replicate (size - length xs) none) (length xs) (length-map xs store)) ∙ map-back store out back xs)
+      (ap (map out) (take-at (map store xs) (replicate (size - length xs) none) (length xs) (length-map xs store)) ∙ map-back store out xs back)
 
   module _ {before mid : List ℕ} {j : ℕ} (i : ℕ) (l : i < count) (e : B) (d : A) (a : Appended before 0 (gather f (take i (map out (take count items)))) mid j) where
     pub gathered-step : {after : List ℕ} {k : ℕ} → Appended mid j (f (out (getD items i e))) after k
@@ -232,24 +226,14 @@ module _ (m : Model) (h : Legal m) where
       ∙ ap (λ (t : Bool). (eqb (c .source) r && eqb (c .target) s) && t) (part-says n (part-of k (c .filter)) (part-legal k (c .filter) (l .filter)))
 
   -- the table leads where a connection that passes the item leads
-  pub led-passages : (k n : ℕ) → led-in (passages k (m .connections)) n ≡ successor-sets m (item k n)
-  unfolding led-in successor-sets
+  pub led-passages : (k n : ℕ) → led-in (passages k (m .connections)) n ≡ predecessor-sets m (item k n)
+  unfolding led-in predecessor-sets
   led-passages k n =
-      ap (λ (f : ℕ → ℕ → Bool). map (λ r. set-of (f r)) (count-from 0 regions))
-      (λ j r s.
+      ap (λ (f : ℕ → ℕ → Bool). map (λ s. set-of (f s)) (count-from 0 regions))
+      (λ j s r.
       (any-gather (passage k) (λ e. (eqb (source-in e) r && eqb (target-in e) s) && of-number n e) (m .connections)
       ∙ any-each (passage k) (LegalConnection (m .regions)) (λ c. any (λ e. (eqb (source-in e) r && eqb (target-in e) s) && of-number n e) (passage k c))
       (λ c. (eqb (c .source) r && eqb (c .target) s) && passes (item k n) (c .filter)) (passage-says k n r s) (m .connections) (h .connections-legal)) j)
-
-  pub passages-from : (k : ℕ) → FromRegions (passages k (m .connections))
-  passages-from k =
-      all-gather (passage k) (LegalConnection (m .regions)) (λ e. source-in e < regions) (λ c l. each l (passed (part-of k (c .filter)))) (m .connections)
-      (h .connections-legal)
-    where
-      each : {c : Connection} → LegalConnection (m .regions) c → (xs : List ℕ)
-          → All (λ e. source-in e < regions) (map (λ x. entry x (ends (c .source) (c .target))) xs)
-      each l [] = tt
-      each l (x ∷ xs) = (rw (entry-source (source-inside l) (target-inside l) x) (source-inside l), each l xs)
 
   few-passed : (p : Part) → NumberedPart p → length (passed p) ≤ most-listed
   few-passed (Part.listed xs) l = l .few
@@ -264,7 +248,7 @@ module _ (m : Model) (h : Legal m) where
   module _ {items : List StoredBundle} {count : ℕ} (f : Filled store-bundle (store-bundle no-bundle) most-bundles items count (m .bundles)) where
     pub bundle-placed : (i : ℕ) (e : StoredBundle) → i < count → BundleStored (getD items i e)
     bundle-placed i e l =
-        stored-as store-bundle bundle-in bundle-back ShortBundle (getD (m .bundles) i no-bundle) (filled-at f i e no-bundle l)
+        stored-as store-bundle bundle-in ShortBundle (λ b s. bundle-back b) (getD (m .bundles) i no-bundle) (filled-at f i e no-bundle l)
         (short-bundle (all-at (LegalBundle (m .regions)) (m .bundles) i no-bundle (filled-inside f i l) (h .bundles-legal)))
 
   module _ {items : List StoredConnection} {count : ℕ} (f : Filled store-connection (store-connection no-connection) most-connections items count (m .connections))
@@ -274,7 +258,7 @@ module _ (m : Model) (h : Legal m) where
 
     pub connection-placed : ConnectionStored (getD items i e)
     connection-placed =
-        stored-as store-connection connection-in connection-back ShortConnection (getD (m .connections) i no-connection) (filled-at f i e no-connection l)
+        stored-as store-connection connection-in ShortConnection connection-back (getD (m .connections) i no-connection) (filled-at f i e no-connection l)
         (short-connection connection-legal)
 
     pub connection-ends : (getD items i e .source < regions) × (getD items i e .target < regions)
@@ -305,12 +289,12 @@ module _ {m : Model} {kind : ℕ} {offered passing : List ℕ} (t : Tables m kin
   pub held-table : held-in offered n ≡ holder-set m (item kind n)
   held-table = ap (λ (es : List ℕ). held-in es n) (t .offered-is) ∙ held-offers m (t .legal) kind n
 
-  pub led-table : led-in passing n ≡ successor-sets m (item kind n)
+  pub led-table : led-in passing n ≡ predecessor-sets m (item kind n)
   led-table = ap (λ (es : List ℕ). led-in es n) (t .passing-is) ∙ led-passages m (t .legal) kind n
 
 pub held-small : (es : List ℕ) (n : ℕ) → held-in es n < 2 ^ regions
 held-small es n = set-below-lt regions (λ r. any (λ e. eqb (place-in e) r && eqb (number-in e) n) es)
 
-pub led-long : (es : List ℕ) (n : ℕ) → length (led-in es n) ≡ regions
+pub led-sets : (es : List ℕ) (n : ℕ) → RegionSets (led-in es n)
 unfolding led-in
-led-long es n = refl
+led-sets es n = counted-sets (λ s r. any (λ e. (eqb (source-in e) r && eqb (target-in e) s) && of-number n e) es)

@@ -15,22 +15,23 @@ use Rattle.region_graph.specs.Sets.{bit, has, set-of}
 use Rattle.region_graph.specs.Model.{Model, Bundle, Legal, LegalBundle}
 use Rattle.region_graph.specs.Calls.{at-location}
 use Rattle.region_graph.specs.Items.{holds, crosses, provides}
-use Rattle.region_graph.specs.Promise.{place-of, holder-set, successor-sets}
+use Rattle.region_graph.specs.Promise.{place-of, holder-set, predecessor-sets}
 use Rattle.region_graph.specs.declared.Item.{Item}
 use Rattle.region_graph.specs.declared.Place.{Place}
 use Rattle.region_graph.specs.declared.Place.the-variants.{Within, Nowhere}
 use Rattle.region_graph.proofs.Lists.{member-all, and-fst, false-true}
 use Rattle.region_graph.proofs.Bits.{bit-le, bit-zero, in-lt, set-below-lt, bit-set-below, set-is, has-set}
 use Rattle.region_graph.proofs.Views.{counted-at}
-use Rattle.region_routes.specs.Route.{last, next}
-use Rattle.region_routes.specs.Chosen.{chosen, sees, Crosses, Holds, RouteFor, BestFor}
+use Rattle.region_routes.specs.Route.{Route, last, next, Best}
+use Rattle.region_routes.specs.Chosen.{chosen-by, found, chosen, sees, Crosses, Holds}
 use Rattle.region_routes.specs.Hooks.{Outcome, routed, shown, sees-from, stands-in}
-use Rattle.region_routes.specs.Search.{In, Conn, Searched, Reached, Found, Walkable, Walked}
+use Rattle.region_routes.specs.Search.{In, RegionSets, Conn, Searched, Reached, Found, Walkable, Walked}
 use Rattle.region_routes.specs.declared.Routed.{Routed}
 use Rattle.region_routes.specs.declared.Routed.the-variants.{Count}
-use Rattle.region_routes.proofs.Choosing.{crosses-inside, best-chosen, none-chosen, sees-is}
+use Rattle.region_routes.proofs.Choosing.{crosses-inside, by-best, by-none, found-is}
 use Rattle.region_routes.proofs.Layers.{trail, shallower}
 use Rattle.region_routes.proofs.RouteLaws.{lt-or-ge, carry, carry-best}
+use Rattle.region_routes.proofs.SetLaws.{counted-sets}
 
 -- the members of a set by a test
 set-in : (p : ℕ → Bool) (n : ℕ) → In (set-of p) n → p n ≡ true
@@ -71,49 +72,35 @@ held-inside rs h i r (b ∷ bs) a e = go (eqb (b .region) r && provides i b) ref
         (member-all (λ x. x < regions) (b .region) rs h (a .0 .region))
     go false f g k = g k
 
-pub successors-long : (m : Model) (i : Item) → length (successor-sets m i) ≡ regions
-unfolding successor-sets
-successors-long m i = refl
+pub predecessors-sets : (m : Model) (i : Item) → RegionSets (predecessor-sets m i)
+unfolding predecessor-sets
+predecessors-sets m i = counted-sets (λ s r. crosses m i r s)
 
-module _ (m : Model) (i : Item) (h : Legal m) where
-  -- the successor sets are the connections that pass the item, the holder set the regions that hold it
-  conn-crosses : (r s : ℕ) → Conn (successor-sets m i) r s → Crosses m i r s
-  unfolding successor-sets
-  conn-crosses r s c = go (lt-or-ge r regions)
-    where
-      go : (r < regions) ⊎ (regions ≤ r) → Crosses m i r s
-      go (inl l) = set-in (crosses m i r) s (subst (λ (x : ℕ). In x s) (counted-at (λ n. set-of (crosses m i n)) 0 regions r r 0 l (omega arith)) c)
-      go (inr l) =
-          let z : _≡_ {A = ℕ} 0 1 = sym (bit-zero s) ∙ subst (λ (x : ℕ). In x s) (List·getD-eq-default (successor-sets m i) 0 l) c in
-          absurd (omega arith)
+-- the predecessor sets are those of a crossing test, and the holder set that of an ending test
+pub record Tied (cross : ℕ → ℕ → Bool) (ends : ℕ → Bool) (pred : List ℕ) (holders : ℕ) : Type 0 where
+  pub inside : (r s : ℕ) → cross r s ≡ true → (r < regions) × (s < regions)
+  pub conn-cross : (r s : ℕ) → Conn pred r s → cross r s ≡ true
+  pub cross-conn : (r s : ℕ) → cross r s ≡ true → Conn pred r s
+  pub in-ends : (n : ℕ) → In holders n → ends n ≡ true
+  pub ends-in : (n : ℕ) → ends n ≡ true → In holders n
 
-  crosses-conn : (r s : ℕ) → Crosses m i r s → Conn (successor-sets m i) r s
-  unfolding successor-sets
-  crosses-conn r s c =
-      let l = crosses-inside m i r s h c in
-      subst (λ (x : ℕ). In x s) (sym (counted-at (λ n. set-of (crosses m i n)) 0 regions r r 0 (l .0) (omega arith))) (in-set (crosses m i r) s (l .1) c)
-
-  in-holds : (n : ℕ) → In (holder-set m i) n → Holds m i n
-  in-holds n k = set-in (holds m i) n k
-
-  holds-in : (n : ℕ) → Holds m i n → In (holder-set m i) n
-  holds-in n k = in-set (holds m i) n (held-inside (m .regions) (h .region-numbers) i n (m .bundles) (h .bundles-legal) k) k
-
-  module _ {sets : List ℕ} {deep reached : ℕ} (f : Searched (successor-sets m i) (holder-set m i) sets deep reached) where
+-- what a search over them says of the routes
+module _ {cross : ℕ → ℕ → Bool} {ends : ℕ → Bool} {pred : List ℕ} {holders : ℕ} (tied : Tied cross ends pred holders) where
+  module _ {sets : List ℕ} {deep reached : ℕ} (f : Searched pred holders sets deep reached) where
     -- what is reached has a route, and what has one is reached
-    reached-route : (n : ℕ) → In reached n → (p : List ℕ) × RouteFor m i n p
+    reached-route : (n : ℕ) → In reached n → (p : List ℕ) × Route (λ r s. cross r s ≡ true) (λ r. ends r ≡ true) n p
     reached-route n k =
         let x = f .from n k in
         let t = trail (f .layered) (x .0) n (x .1) (x .2) in
-        (t .0, carry conn-crosses in-holds (t .1))
+        (t .0, carry (tied .conn-cross) (tied .in-ends) (t .1))
 
-    route-reached : {n : ℕ} {p : List ℕ} → RouteFor m i n p → In reached n
-    route-reached (last {r = r} k) = f .into 0 r zero-le (f .layered .base r (holds-in r k))
-    route-reached (next {r = r} {s = s} c t) = f .shut r s (crosses-conn r s c) (route-reached t)
+    route-reached : {n : ℕ} {p : List ℕ} → Route (λ r s. cross r s ≡ true) (λ r. ends r ≡ true) n p → In reached n
+    route-reached (last {r = r} k) = f .into 0 r zero-le (f .layered .base r (tied .ends-in r k))
+    route-reached (next {r = r} {s = s} c t) = f .shut r s (tied .cross-conn r s c) (route-reached t)
 
-    -- the reached regions are those that see the item
-    pub reached-sees : reached ≡ set-of (sees m i)
-    reached-sees = set-is reached (sees m i) (f .small) (λ n l. digit n ∙ ap (λ (b : Bool). pick b 1 0) (same n l))
+    -- the reached regions are those from which a route is found
+    pub reached-found : reached ≡ set-of (λ n. found (chosen-by cross ends n))
+    reached-found = set-is reached (λ n. found (chosen-by cross ends n)) (f .small) (λ n l. digit n ∙ ap (λ (b : Bool). pick b 1 0) (same n l))
       where
         digit : (n : ℕ) → bit reached n ≡ pick (eqb (bit reached n) 1) 1 0
         digit n = go (eqb (bit reached n) 1) refl
@@ -122,24 +109,21 @@ module _ (m : Model) (i : Item) (h : Legal m) where
             go true e = eqb-true (bit reached n) 1 e
             go false e = omega (arith, eqb-false (bit reached n) 1 e, bit-le reached n)
 
-        same : (n : ℕ) → n < regions → eqb (bit reached n) 1 ≡ sees m i n
-        same n l = sees-is m i n h (eqb (bit reached n) 1) (λ e. reached-route n (eqb-true (bit reached n) 1 e)) (λ e p t. eqb-false (bit reached n) 1 e (route-reached t))
+        same : (n : ℕ) → n < regions → eqb (bit reached n) 1 ≡ found (chosen-by cross ends n)
+        same n l = found-is cross ends (tied .inside) n (eqb (bit reached n) 1) (λ e. reached-route n (eqb-true (bit reached n) 1 e)) (λ e p t. eqb-false (bit reached n) 1 e (route-reached t))
 
     module _ (r : ℕ) (l : r < regions) where
-      -- a region that is not reached: the item is hidden from it
-      pub unreached : has reached r ≡ false → none ≡ chosen m i r
-      unreached e =
-          sym (none-chosen m i r h (λ p t. eqb-false (bit reached r) 1 (rw (lt-ltb r regions l) at e) (route-reached t)))
+      -- a region that is not reached has no route
+      pub unreached-none : has reached r ≡ false → none ≡ chosen-by cross ends r
+      unreached-none e =
+          sym (by-none cross ends (tied .inside) r (λ p t. eqb-false (bit reached r) 1 (rw (lt-ltb r regions l) at e) (route-reached t)))
 
       -- a region that is reached: its layer is found, and a walk can start there
-      pub reached-layer : has reached r ≡ true → Reached sets deep r
-      reached-layer e = record { low = f .low; inside = l; some-layer = f .from r (reached-in e) }
-        where
-          reached-in : has reached r ≡ true → In reached r
-          reached-in e = eqb-true (bit reached r) 1 (rw (lt-ltb r regions l) at e)
+      pub layer-of-reached : has reached r ≡ true → Reached sets deep r
+      layer-of-reached e = record { low = f .low; inside = l; some-layer = f .from r (eqb-true (bit reached r) 1 (rw (lt-ltb r regions l) at e)) }
 
-      pub walkable : {d : ℕ} → Found sets deep r d → Walkable (successor-sets m i) sets d r
-      walkable w = record {
+      pub walk-from : {d : ℕ} → Found sets deep r d → Walkable pred sets d r
+      walk-from w = record {
         layered =
             let ly = shallower (f .layered) _ (w .within) in
             record { base = λ n k. k; holds = λ n k. k; back = ly .back; closed = ly .closed; apart = ly .apart };
@@ -149,14 +133,66 @@ module _ (m : Model) (i : Item) (h : Legal m) where
       }
 
       -- what the walk writes is the chosen route
-      pub walked-chosen : {d : ℕ} {entry exit : List ℕ} → Walked (successor-sets m i) sets d r entry exit
-          → _≡_ {A = Outcome Routed} (routed (Count d) exit) (shown (chosen m i r) entry)
-      walked-chosen {d} {entry} {exit} w =
-          let b : BestFor m i r (w .path)
-          = carry-best conn-crosses (λ n k. in-holds n (f .layered .holds n k)) crosses-conn (λ n k. f .layered .base n (holds-in n k)) (w .best) in
-          let e : chosen m i r ≡ some (w .path) = best-chosen m i r h (w .path) b in
+      pub walked-by : {d : ℕ} {entry exit : List ℕ} → Walked pred sets d r entry exit
+          → _≡_ {A = Outcome Routed} (routed (Count d) exit) (shown (chosen-by cross ends r) entry)
+      walked-by {d} {entry} {exit} w =
+          let b : Best (λ r s. cross r s ≡ true) (λ r. ends r ≡ true) r (w .path)
+          = carry-best (tied .conn-cross) (λ n k. tied .in-ends n (f .layered .holds n k)) (tied .cross-conn) (λ n k. f .layered .base n (tied .ends-in n k)) (w .best) in
+          let e : chosen-by cross ends r ≡ some (w .path) = by-best cross ends (tied .inside) r (w .path) b in
           let n : length (w .path) - 1 ≡ d = omega (arith, w .counted) in
           rw e (λ j. routed (Count (sym n j)) (w .exit-is j))
+
+module _ (m : Model) (i : Item) (h : Legal m) where
+  -- the predecessor sets are the connections that pass the item, the holder set the regions that hold it
+  conn-crosses : (r s : ℕ) → Conn (predecessor-sets m i) r s → Crosses m i r s
+  unfolding predecessor-sets
+  conn-crosses r s c = go (lt-or-ge s regions)
+    where
+      go : (s < regions) ⊎ (regions ≤ s) → Crosses m i r s
+      go (inl l) =
+          set-in (λ n. crosses m i n s) r
+          (subst (λ (x : ℕ). In x r) (counted-at (λ k. set-of (λ n. crosses m i n k)) 0 regions s s 0 l (omega arith)) c)
+      go (inr l) =
+          let z : _≡_ {A = ℕ} 0 1 = sym (bit-zero r) ∙ subst (λ (x : ℕ). In x r) (List·getD-eq-default (predecessor-sets m i) 0 l) c in
+          absurd (omega arith)
+
+  crosses-conn : (r s : ℕ) → Crosses m i r s → Conn (predecessor-sets m i) r s
+  unfolding predecessor-sets
+  crosses-conn r s c =
+      let l = crosses-inside m i r s h c in
+      subst (λ (x : ℕ). In x r) (sym (counted-at (λ k. set-of (λ n. crosses m i n k)) 0 regions s s 0 (l .1) (omega arith)))
+      (in-set (λ n. crosses m i n s) r (l .0) c)
+
+  in-holds : (n : ℕ) → In (holder-set m i) n → Holds m i n
+  in-holds n k = set-in (holds m i) n k
+
+  holds-in : (n : ℕ) → Holds m i n → In (holder-set m i) n
+  holds-in n k = in-set (holds m i) n (held-inside (m .regions) (h .region-numbers) i n (m .bundles) (h .bundles-legal) k) k
+
+  tied : Tied (crosses m i) (holds m i) (predecessor-sets m i) (holder-set m i)
+  tied = record { inside = λ r s. crosses-inside m i r s h; conn-cross = conn-crosses; cross-conn = crosses-conn; in-ends = in-holds; ends-in = holds-in }
+
+  module _ {sets : List ℕ} {deep reached : ℕ} (f : Searched (predecessor-sets m i) (holder-set m i) sets deep reached) where
+    -- the reached regions are those that see the item
+    pub reached-sees : reached ≡ set-of (sees m i)
+    unfolding chosen
+    reached-sees = reached-found tied f
+
+    module _ (r : ℕ) (l : r < regions) where
+      pub unreached : has reached r ≡ false → none ≡ chosen m i r
+      unfolding chosen
+      unreached = unreached-none tied f r l
+
+      pub reached-layer : has reached r ≡ true → Reached sets deep r
+      reached-layer = layer-of-reached tied f r l
+
+      pub walkable : {d : ℕ} → Found sets deep r d → Walkable (predecessor-sets m i) sets d r
+      walkable = walk-from tied f r l
+
+      pub walked-chosen : {d : ℕ} {entry exit : List ℕ} → Walked (predecessor-sets m i) sets d r entry exit
+          → _≡_ {A = Outcome Routed} (routed (Count d) exit) (shown (chosen m i r) entry)
+      unfolding chosen
+      walked-chosen = walked-by tied f r l
 
 -- listeners stand in the set of the regions that see the item exactly where they see it
 pub stands-sees : (m : Model) (i : Item) → Legal m → (l : ℕ)

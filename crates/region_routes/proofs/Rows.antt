@@ -12,7 +12,7 @@ use Rattle.region_graph.specs.Promise.{place-of}
 use Rattle.region_graph.specs.declared.Item.{Item}
 use Rattle.region_graph.specs.declared.Place.the-variants.{Within}
 use Rattle.region_graph.proofs.Legal.{legal-nothing, legal-run}
-use Rattle.region_routes.specs.Chosen.{chosen, sees}
+use Rattle.region_routes.specs.Chosen.{chosen-by, chosen, sees}
 use Rattle.region_routes.specs.Hooks.{item}
 use Rattle.region_routes.specs.Table.{Says, Shown, rows, graph-g, cycle, diamond, resolves, routes, hides}
 use Rattle.region_routes.proofs.Choosing.{chosen-best, chosen-none}
@@ -50,7 +50,7 @@ words-diamond = search needs depth 30 fits 4000
 
 -- every row of the table holds
 pub every-row : All Shown rows
-unfolding chosen
+unfolding chosen chosen-by
 every-row = (
   (finds graph-g words-g 10 0 (1 ∷ 2 ∷ 3 ∷ []) refl, tt),
   (

@@ -1,12 +1,12 @@
--- The loops of the search: `layer` takes the unreached regions one by one, and `search` adds a layer a turn.
+-- The loops of the search: `layer` takes the regions of the layer before one by one, and `search` adds a layer a turn.
 use mathlib.Core.Path.{_≡_, sym, subst, ap, _∙_}
 use mathlib.Core.Logic.{_⊎_, inl, inr}
 use mathlib.Core.List.{List}
 use Prim.Native.Nat.{ℕ, zero, suc, _+_, _-_, _≤_, _<_, _^_, zero-le}
-use native.Mathlib.Nat.{eq-or-lt-of-le, le-refl, le-of-suc-le-suc, not-suc-le-zero, sub-zero, lt-of-lt-of-le, lt-of-le-of-lt}
+use native.Mathlib.Nat.{eq-or-lt-of-le, le-refl, le-of-suc-le-suc, not-suc-le-zero, lt-of-lt-of-le, lt-of-le-of-lt}
 use native.Mathlib.Omega.{arith}
 use lib.Dec.{lit≤}
-use lib.ListN.{length, getD, set, length-set, List·getD-eq-default}
+use lib.ListN.{length, getD, set, length-set}
 use lib.Seq.{getD-set-same, getD-set-other}
 use lib.Pow.{pow-lt, pow-pos, pow-mono}
 use lib.Bits.{bitAnd, bitOr, and-le-l, or-lt}
@@ -14,11 +14,10 @@ use lib.Count.{trailingZeros, ones}
 use borrow.Author.Tests.{lt-ltb}
 use Rattle.region_graph.specs.Size.{regions}
 use Rattle.region_graph.specs.Lists.{pick}
-use Rattle.region_graph.specs.Sets.{bit, one}
-use Rattle.region_graph.proofs.Bits.{bit-not, bit-zero, bit-one, in-lt, low-in}
-use Rattle.region_routes.specs.Search.{In, Meets, Conn, Layer, Layered, At, Searched}
-use Rattle.region_routes.proofs.RouteLaws.{lt-or-ge}
-use Rattle.region_routes.proofs.SetLaws.{not-in-empty, in-dec, or-in, in-or, diff-in, in-diff, in-one, in-pos, meets-yes, meets-no, ones-pos, grows}
+use Rattle.region_graph.specs.Sets.{one}
+use Rattle.region_graph.proofs.Bits.{bit-one, in-lt, low-in}
+use Rattle.region_routes.specs.Search.{In, SetOfRegions, Conn, Layer, Layered, At, Searched}
+use Rattle.region_routes.proofs.SetLaws.{not-in-empty, in-dec, or-in, in-or, diff-in, in-diff, in-one, in-pos, ones-pos, grows}
 
 -- a set of regions fits a word
 fits : {x : ℕ} → x < 2 ^ regions → x < 2 ^ 64
@@ -26,37 +25,34 @@ fits h = lt-of-lt-of-le h (pow-mono {i = regions} {j = 64} (lit≤ tt))
 
 -- ---- the loop of `layer`
 
--- every number below k is in the set of all k
-all-in : (k n : ℕ) → n < k → In (2 ^ k - 1) n
-all-in k n h =
-    ap (λ (x : ℕ). bit x n) (sym (sub-zero (2 ^ k - 1))) ∙ bit-not k 0 n (pow-pos k) h ∙ ap (λ (d : ℕ). 1 - d) (bit-zero n)
-
--- r is the lowest of `left`, `alone` holds it alone, and `rest` is `left` without it
-pub record Taken (left r alone rest : ℕ) : Type 0 where
+-- r is the lowest of `left`, and `rest` is `left` without it
+pub record Taken (left r rest : ℕ) : Type 0 where
   pub inside : In left r
   pub low : r < regions
-  pub alone-is : alone ≡ 2 ^ r
   pub kept : (n : ℕ) → In rest n → In left n
   pub still : (n : ℕ) → In left n → (n ≡ r) ⊎ In rest n
   pub less : rest < left
 
+-- the lowest of a set that is not empty is in it
+pub lowest-in : {left r : ℕ} → left < 2 ^ 64 → 0 < left → r ≡ trailingZeros 64 left → In left r
+lowest-in {left} word pos e = subst (In left) (sym e) (low-in 64 left pos word)
+
 -- what the functions of the turn answer
-pub taken : {left r alone rest : ℕ} → left < 2 ^ regions → 0 < left → r ≡ trailingZeros 64 left → alone ≡ one r
-    → rest ≡ bitAnd left (2 ^ 64 - 1 - alone) → Taken left r alone rest
-taken {left} {r} {alone} {rest} small pos e o d = record {
+pub taken : {left r alone rest : ℕ} → SetOfRegions left → left < 2 ^ 64 → 0 < left → r ≡ trailingZeros 64 left → alone ≡ one r
+    → rest ≡ bitAnd left (2 ^ 64 - 1 - alone) → Taken left r rest
+taken {left} {r} {alone} {rest} small word pos e o d = record {
   inside = inside;
   low = low;
-  alone-is = alone-is;
   kept = λ n h. parted n h .0;
   still = λ n h. go n h (in-dec alone n);
   less = less (eq-or-lt-of-le (and-le-l left (2 ^ 64 - 1 - alone)));
 }
   where
     inside : In left r
-    inside = subst (In left) (sym e) (low-in 64 left pos (fits small))
+    inside = lowest-in word pos e
 
     low : r < regions
-    low = in-lt regions left r small inside
+    low = small r inside
 
     alone-is : alone ≡ 2 ^ r
     alone-is = o ∙ ap (λ b. pick b (2 ^ r) 0) (lt-ltb r regions low)
@@ -65,114 +61,96 @@ taken {left} {r} {alone} {rest} small pos e o d = record {
     alone-fits = fits (subst (λ (x : ℕ). x < 2 ^ regions) (sym alone-is) (pow-lt low))
 
     parted : (n : ℕ) → In rest n → In left n × (In alone n → ⊥)
-    parted n h = in-diff 64 left alone n (fits small) alone-fits (subst (λ (x : ℕ). In x n) d h)
+    parted n h = in-diff 64 left alone n word alone-fits (subst (λ (x : ℕ). In x n) d h)
 
     go : (n : ℕ) → In left n → In alone n ⊎ (In alone n → ⊥) → (n ≡ r) ⊎ In rest n
     go n h (inl k) = inl (in-one r n (subst (λ (x : ℕ). In x n) alone-is k))
-    go n h (inr f) = inr (subst (λ (x : ℕ). In x n) (sym d) (diff-in 64 left alone n (fits small) alone-fits h f))
+    go n h (inr f) = inr (subst (λ (x : ℕ). In x n) (sym d) (diff-in 64 left alone n word alone-fits h f))
 
     less : (bitAnd left (2 ^ 64 - 1 - alone) ≡ left) ⊎ (bitAnd left (2 ^ 64 - 1 - alone) < left) → rest < left
     less (inl q) =
         absurd (parted r (subst (λ (x : ℕ). In x r) (sym (d ∙ q)) inside) .1 (subst (λ (x : ℕ). In x r) (sym alone-is) (bit-one r)))
     less (inr l) = subst (λ (x : ℕ). x < left) (sym d) l
 
--- `next` holds the regions of the layer, but for those that are still in `left`
-pub record Going (succ : List ℕ) (prev reached next left : ℕ) : Type 0 where
-  pub left-small : left < 2 ^ regions
-  pub next-small : next < 2 ^ regions
-  pub out : (n : ℕ) → In left n → In reached n → ⊥
-  pub fresh : (n : ℕ) → In next n → In reached n → ⊥
-  pub sound : (n : ℕ) → In next n → Meets (getD succ n 0) prev
-  pub cover : (n : ℕ) → n < regions → (In reached n → ⊥) → Meets (getD succ n 0) prev → In next n ⊎ In left n
+pub above-none : (x : ℕ) → (x ≡ 0 → ⊥) → 0 < x
+above-none x h = omega arith
 
-module _ {succ : List ℕ} {prev reached : ℕ} where
-  -- no region is taken yet
-  pub start : {left : ℕ} → reached < 2 ^ 64 → left ≡ bitAnd (2 ^ regions - 1) (2 ^ 64 - 1 - reached) → Going succ prev reached 0 left
-  start {left} f e = subst (Going succ prev reached 0) (sym e) record {
-    left-small = lt-of-le-of-lt (and-le-l (2 ^ regions - 1) (2 ^ 64 - 1 - reached)) every;
-    next-small = pow-pos regions;
-    out = λ n h. in-diff 64 (2 ^ regions - 1) reached n (fits every) f h .1;
-    fresh = λ n h. absurd (not-in-empty n h);
+-- `next` holds the regions that have a connection into the layer before, but for those with one into `left`
+pub record Going (pred : List ℕ) (prev next left : ℕ) : Type 0 where
+  pub word : left < 2 ^ 64
+  pub small : next < 2 ^ regions
+  pub within : (n : ℕ) → In left n → In prev n
+  pub sound : (n : ℕ) → In next n → (s : ℕ) × (Conn pred n s) × (In prev s)
+  pub cover : (n s : ℕ) → Conn pred n s → In prev s → In next n ⊎ In left s
+
+module _ {pred : List ℕ} {prev : ℕ} where
+  -- no region of the layer before is taken yet
+  pub start : prev < 2 ^ 64 → Going pred prev 0 prev
+  start f = record {
+    word = f;
+    small = pow-pos regions;
+    within = λ n h. h;
     sound = λ n h. absurd (not-in-empty n h);
-    cover = λ n l g m. inr (diff-in 64 (2 ^ regions - 1) reached n (fits every) f (all-in regions n l) g);
+    cover = λ n s c h. inr h;
+  }
+
+  -- r is taken: its predecessors join
+  pub take : {next left r rest : ℕ} → ((s : ℕ) → getD pred s 0 < 2 ^ regions) → Taken left r rest → Going pred prev next left
+      → Going pred prev (bitOr next (getD pred r 0)) rest
+  take {next} {left} {r} {rest} sm t g = record {
+    word = omega (arith, t .less, g .word);
+    small = or-lt regions next (getD pred r 0) (g .small) (sm r);
+    within = λ n h. g .within n (t .kept n h);
+    sound = λ n h. met n (in-or next (getD pred r 0) n h);
+    cover = λ n s c h. go n s c (g .cover n s c h);
   }
     where
-      every : 2 ^ regions - 1 < 2 ^ regions
-      every = omega (arith, pow-pos regions)
+      met : (n : ℕ) → In next n ⊎ In (getD pred r 0) n → (s : ℕ) × (Conn pred n s) × (In prev s)
+      met n (inl h) = g .sound n h
+      met n (inr h) = (r, h, g .within r (t .inside))
 
-  -- all are taken
-  pub end : {next : ℕ} → Going succ prev reached next 0 → Layer succ prev reached next
-  end {next} g = record {
-    small = g .next-small;
-    fresh = g .fresh;
-    sound = g .sound;
-    complete = λ n l f m. go n (g .cover n l f m);
+      also : (n s : ℕ) → Conn pred n s → (s ≡ r) ⊎ In rest s → In (bitOr next (getD pred r 0)) n ⊎ In rest s
+      also n s c (inl q) = inl (or-in next (getD pred r 0) n (inr (subst (λ (y : ℕ). Conn pred n y) q c)))
+      also n s c (inr h) = inr h
+
+      go : (n s : ℕ) → Conn pred n s → In next n ⊎ In left s → In (bitOr next (getD pred r 0)) n ⊎ In rest s
+      go n s c (inl h) = inl (or-in next (getD pred r 0) n (inl h))
+      go n s c (inr h) = also n s c (t .still s h)
+
+  -- all are taken, and what is reached goes
+  pub end : {next reached x : ℕ} → reached < 2 ^ 64 → x ≡ bitAnd next (2 ^ 64 - 1 - reached) → Going pred prev next 0 → Layer pred prev reached x
+  end {next} {reached} f e g = subst (Layer pred prev reached) (sym e) record {
+    small = lt-of-le-of-lt (and-le-l next (2 ^ 64 - 1 - reached)) (g .small);
+    fresh = λ n h. in-diff 64 next reached n (fits (g .small)) f h .1;
+    sound = λ n h. g .sound n (in-diff 64 next reached n (fits (g .small)) f h .0);
+    complete = λ n s c h o. diff-in 64 next reached n (fits (g .small)) f (go n s (g .cover n s c h)) o;
   }
     where
-      go : (n : ℕ) → In next n ⊎ In 0 n → In next n
-      go n (inl h) = h
-      go n (inr h) = absurd (not-in-empty n h)
-
-  module _ {next left r alone rest : ℕ} (t : Taken left r alone rest) (g : Going succ prev reached next left) where
-    -- `next` as x, which may have r besides, and has it where r has a connection into the layer before
-    onto : (x : ℕ) → x < 2 ^ regions → ((n : ℕ) → In next n → In x n)
-        → ((n : ℕ) → In x n → In next n ⊎ ((n ≡ r) × Meets (getD succ r 0) prev)) → (Meets (getD succ r 0) prev → In x r) → Going succ prev reached x rest
-    onto x small old only gain = record {
-      left-small = omega (arith, t .less, g .left-small);
-      next-small = small;
-      out = λ n k. g .out n (t .kept n k);
-      fresh = λ n k. new n (only n k);
-      sound = λ n k. met n (only n k);
-      cover = λ n l u m. go n m (g .cover n l u m);
-    }
-      where
-        new : (n : ℕ) → In next n ⊎ ((n ≡ r) × Meets (getD succ r 0) prev) → In reached n → ⊥
-        new n (inl k) = g .fresh n k
-        new n (inr (q, m)) = g .out n (subst (In left) (sym q) (t .inside))
-
-        met : (n : ℕ) → In next n ⊎ ((n ≡ r) × Meets (getD succ r 0) prev) → Meets (getD succ n 0) prev
-        met n (inl k) = g .sound n k
-        met n (inr (q, m)) = subst (λ (y : ℕ). Meets (getD succ y 0) prev) (sym q) m
-
-        also : (n : ℕ) → Meets (getD succ n 0) prev → (n ≡ r) ⊎ In rest n → In x n ⊎ In rest n
-        also n m (inl q) = inl (subst (In x) (sym q) (gain (subst (λ (y : ℕ). Meets (getD succ y 0) prev) q m)))
-        also n m (inr k) = inr k
-
-        go : (n : ℕ) → Meets (getD succ n 0) prev → In next n ⊎ In left n → In x n ⊎ In rest n
-        go n m (inl k) = inl (old n k)
-        go n m (inr k) = also n m (t .still n k)
-
-    -- r has no connection into the layer before
-    pub skip : bitAnd (getD succ r 0) prev ≡ 0 → Going succ prev reached next rest
-    skip e = onto next (g .next-small) (λ n k. k) (λ n k. inl k) (λ m. absurd (meets-no (getD succ r 0) prev e m))
-
-    -- r has one
-    pub take : getD succ r 0 < 2 ^ 64 → 0 < bitAnd (getD succ r 0) prev → Going succ prev reached (bitOr next alone) rest
-    take f p =
-        subst (λ (s : ℕ). Going succ prev reached (bitOr next s) rest) (sym (t .alone-is))
-        (onto (bitOr next (2 ^ r)) (or-lt regions next (2 ^ r) (g .next-small) (pow-lt (t .low))) (λ n k. or-in next (2 ^ r) n (inl k))
-        (λ n k. go n (in-or next (2 ^ r) n k)) (λ m. or-in next (2 ^ r) r (inr (bit-one r))))
-      where
-        go : (n : ℕ) → In next n ⊎ In (2 ^ r) n → In next n ⊎ ((n ≡ r) × Meets (getD succ r 0) prev)
-        go n (inl k) = inl k
-        go n (inr k) = inr (in-one r n k, meets-yes 64 (getD succ r 0) prev f p)
+      go : (n s : ℕ) → In next n ⊎ In 0 s → In next n
+      go n s (inl h) = h
+      go n s (inr h) = absurd (not-in-empty s h)
 
 -- ---- the loop of `search`
 
 -- layers 0 to k, the last of them `prev`, all regions in them `reached`; each layer but the last has a member, so there are few
-pub record State (succ : List ℕ) (holders : ℕ) (sets : List ℕ) (k reached prev : ℕ) : Type 0 where
+pub record State (pred : List ℕ) (holders : ℕ) (sets : List ℕ) (k reached prev : ℕ) : Type 0 where
   pub long : length sets ≡ regions
   pub low : k < regions
   pub here : getD sets k 0 ≡ prev
   pub small : reached < 2 ^ regions
   pub count : k + ones prev ≤ ones reached
-  pub layered : Layered (Conn succ) (In holders) (At sets) k
+  pub layered : Layered (Conn pred) (In holders) (At sets) k
   pub into : (i n : ℕ) → i ≤ k → At sets i n → In reached n
   pub from : (n : ℕ) → In reached n → (i : ℕ) × (i ≤ k) × (At sets i n)
 
+-- the last layer has regions only
+pub last-regions : {pred : List ℕ} {holders : ℕ} {sets : List ℕ} {k reached prev : ℕ} → State pred holders sets k reached prev → SetOfRegions prev
+last-regions {k = k} {reached = reached} st n h =
+    in-lt regions reached n (st .small) (st .into k n (le-refl k) (subst (λ (x : ℕ). In x n) (sym (st .here)) h))
+
 -- layer 0 is the holders
-pub begin : {succ : List ℕ} {holders : ℕ} {sets : List ℕ} → holders < 2 ^ regions → length sets ≡ regions → getD sets 0 0 ≡ holders
-    → State succ holders sets 0 holders holders
+pub begin : {pred : List ℕ} {holders : ℕ} {sets : List ℕ} → holders < 2 ^ regions → length sets ≡ regions → getD sets 0 0 ≡ holders
+    → State pred holders sets 0 holders holders
 begin {holders = holders} {sets = sets} h l e = record {
   long = l;
   low = omega arith;
@@ -194,26 +172,18 @@ begin {holders = holders} {sets = sets} h l e = record {
     zeroth zero n m a = rw e at a
     zeroth (suc i) n m a = absurd (not-suc-le-zero m)
 
--- only regions have connections
-from-low : (succ : List ℕ) (n s : ℕ) → length succ ≡ regions → Conn succ n s → n < regions
-from-low succ n s l h = go (lt-or-ge n regions)
-  where
-    go : (n < regions) ⊎ (regions ≤ n) → n < regions
-    go (inl k) = k
-    go (inr k) = absurd (not-in-empty s (subst (λ (x : ℕ). In x s) (List·getD-eq-default succ 0 (omega arith)) h))
-
-module _ {succ : List ℕ} {holders : ℕ} {sets : List ℕ} {k reached prev next : ℕ} (st : State succ holders sets k reached prev)
-    (long : length succ ≡ regions) (ly : Layer succ prev reached next) where
+module _ {pred : List ℕ} {holders : ℕ} {sets : List ℕ} {k reached prev next : ℕ} (st : State pred holders sets k reached prev)
+    (ly : Layer pred prev reached next) where
   -- a region with a connection into the last layer is reached, or in the next one
-  onward : (n s : ℕ) → Conn succ n s → At sets k s → In reached n ⊎ In next n
+  onward : (n s : ℕ) → Conn pred n s → At sets k s → In reached n ⊎ In next n
   onward n s c h = go (in-dec reached n)
     where
       go : In reached n ⊎ (In reached n → ⊥) → In reached n ⊎ In next n
       go (inl i) = inl i
-      go (inr f) = inr (ly .complete n (from-low succ n s long c) f (s, c, rw (st .here) at h))
+      go (inr f) = inr (ly .complete n s c (rw (st .here) at h) f)
 
   -- with no further layer the search is whole
-  pub whole : next ≡ 0 → Searched succ holders sets k reached
+  pub whole : next ≡ 0 → Searched pred holders sets k reached
   whole e = record {
     layered = st .layered;
     low = st .low;
@@ -227,7 +197,7 @@ module _ {succ : List ℕ} {holders : ℕ} {sets : List ℕ} {k reached prev nex
       none n (inl h) = h
       none n (inr h) = absurd (not-in-empty n (subst (λ (x : ℕ). In x n) e h))
 
-      go : (n s : ℕ) → Conn succ n s → (i : ℕ) → At sets i s → (i ≡ k) ⊎ (i < k) → In reached n
+      go : (n s : ℕ) → Conn pred n s → (i : ℕ) → At sets i s → (i ≡ k) ⊎ (i < k) → In reached n
       go n s c i h (inl q) = none n (onward n s c (subst (λ (x : ℕ). At sets x s) q h))
       go n s c i h (inr l) = let x = st .layered .closed i n s l c h in st .into (x .0) n (omega (arith, x .1)) (x .2)
 
@@ -271,7 +241,7 @@ module _ {succ : List ℕ} {holders : ℕ} {sets : List ℕ} {k reached prev nex
     from-next n (inl h) = let x = st .from n h in (x .0, omega (arith, x .1), keep (x .0) n (x .1) (x .2))
     from-next n (inr h) = (suc k, le-refl (suc k), subst (λ (x : ℕ). In x n) (sym top) h)
 
-    layered-next : Layered (Conn succ) (In holders) (At new) (suc k)
+    layered-next : Layered (Conn pred) (In holders) (At new) (suc k)
     layered-next = record {
       base = λ n h. keep 0 n zero-le (st .layered .base n h);
       holds = λ n h. st .layered .holds n (old 0 n zero-le h);
@@ -280,7 +250,7 @@ module _ {succ : List ℕ} {holders : ℕ} {sets : List ℕ} {k reached prev nex
       apart = λ i j n l m a b. two i j n l a b (eq-or-lt-of-le m);
     }
       where
-        behind : (j n : ℕ) → At new (suc j) n → (j ≡ k) ⊎ (j < k) → (s : ℕ) × (Conn succ n s) × (At new j s)
+        behind : (j n : ℕ) → At new (suc j) n → (j ≡ k) ⊎ (j < k) → (s : ℕ) × (Conn pred n s) × (At new j s)
         behind j n h (inl e) =
             let x = ly .sound n (top-in (suc j) n (ap suc e) h) in
             let l : getD sets j 0 ≡ prev = ap (λ (y : ℕ). getD sets y 0) e ∙ st .here in
@@ -288,7 +258,7 @@ module _ {succ : List ℕ} {holders : ℕ} {sets : List ℕ} {k reached prev nex
         behind j n h (inr l) =
             let x = st .layered .back j n l (old (suc j) n l h) in (x .0, x .1, keep j (x .0) (omega arith) (x .2))
 
-        on : (j n s : ℕ) → Conn succ n s → At new j s → (j ≡ k) ⊎ (j < k) → (i : ℕ) × (i ≤ suc j) × (At new i n)
+        on : (j n s : ℕ) → Conn pred n s → At new j s → (j ≡ k) ⊎ (j < k) → (i : ℕ) × (i ≤ suc j) × (At new i n)
         on j n s c h (inl e) =
             let x = from-next n (onward n s c (subst (λ (y : ℕ). At sets y s) e (old j s (omega arith) h))) in
             (x .0, omega (arith, x .1), x .2)
@@ -300,7 +270,7 @@ module _ {succ : List ℕ} {holders : ℕ} {sets : List ℕ} {k reached prev nex
         two i j n l a b (inr u) = let m = le-of-suc-le-suc u in st .layered .apart i j n l m (old i n (omega arith) a) (old j n m b)
 
     -- one layer more
-    pub turn : State succ holders (set sets (suc k) next) (suc k) (bitOr reached next) next
+    pub turn : State pred holders (set sets (suc k) next) (suc k) (bitOr reached next) next
     unfolding new
     turn = record {
       long = length-set sets (suc k) next ∙ st .long;

@@ -2,6 +2,7 @@
 use mathlib.Core.Path.{_≡_, refl, sym, ap, ap₂, _∙_, subst}
 use mathlib.Core.Bool.{Bool, true, false, _&&_}
 use mathlib.Core.Logic.{_⊎_, inl, inr}
+use mathlib.Core.List.{map}
 use Prim.Native.Nat.{ℕ, zero, suc, _+_, _-_, _/_, _%_, _^_, _≤_, _<_, zero-le, suc-le-suc, min, max}
 use native.Mathlib.Nat.{add-comm, eq-zero-or-pos, lt-of-le-of-lt}
 use native.Mathlib.Omega.{arith}
@@ -9,11 +10,20 @@ use lib.Arith.{bin-ind}
 use lib.Bits.{bitAnd, bitOr, and-le-l, and-shr, or-shr, or-lt}
 use lib.Count.{trailingZeros, ones, ones-step, ones-le}
 use lib.Dec.{eqb, ltb}
+use lib.ListN.{getD, List·getD-eq-default}
+use lib.Pow.{pow-pos}
 use borrow.Author.Tests.{eqb-true, eqb-false, eq-eqb, lt-ltb}
 use Rattle.region_graph.specs.Size.{regions}
-use Rattle.region_graph.specs.Sets.{bit, has}
-use Rattle.region_graph.proofs.Bits.{bit-le, bit-and, bit-or, bit-zero, bit-other, bit-not, in-lt, low-in}
-use Rattle.region_routes.specs.Search.{In, Meets}
+use Rattle.region_graph.specs.Lists.{count-from}
+use Rattle.region_graph.specs.Sets.{bit, has, set-of}
+use Rattle.region_graph.proofs.Bits.{bit-le, bit-and, bit-or, bit-zero, bit-other, bit-not, in-lt, low-in, set-below-lt}
+use Rattle.region_graph.proofs.Views.{counted-at}
+use Rattle.region_routes.specs.Search.{In, RegionSets}
+use Rattle.region_routes.proofs.RouteLaws.{lt-or-ge}
+
+-- the sets have a member in common
+abbrev pub Meets : ℕ → ℕ → Type 0
+Meets a b = (n : ℕ) × (In a n) × (In b n)
 
 -- the empty set has no member
 pub not-in-empty : (n : ℕ) → In 0 n → ⊥
@@ -29,10 +39,7 @@ in-dec x n = go (bit x n) (bit-le x n)
 
 -- the members of the and and of the or of two sets
 module _ (a b n : ℕ) where
-  pub and-in : In a n → In b n → In (bitAnd a b) n
-  and-in h k = omega (arith, bit-and a b n)
-
-  pub in-and : In (bitAnd a b) n → In a n × In b n
+  in-and : In (bitAnd a b) n → In a n × In b n
   in-and h =
       let s : min (bit a n) (bit b n) ≡ 1 = sym (bit-and a b n) ∙ h in
       (omega (arith, bit-le a n, bit-le b n), omega (arith, bit-le a n, bit-le b n))
@@ -84,14 +91,19 @@ pub in-pos : (x n : ℕ) → In x n → 0 < x
 in-pos zero n h = absurd (not-in-empty n h)
 in-pos (suc x) n h = suc-le-suc zero-le
 
--- sets meet where their and is not 0
-pub meets-yes : (w a b : ℕ) → a < 2 ^ w → 0 < bitAnd a b → Meets a b
+-- sets whose and is not 0 meet
+meets-yes : (w a b : ℕ) → a < 2 ^ w → 0 < bitAnd a b → Meets a b
 meets-yes w a b h p =
     let n : ℕ = trailingZeros w (bitAnd a b) in
     let k = in-and a b n (low-in w (bitAnd a b) p (lt-of-le-of-lt (and-le-l a b) h)) in (n, k .0, k .1)
 
-pub meets-no : (a b : ℕ) → bitAnd a b ≡ 0 → Meets a b → ⊥
-meets-no a b e (n, h, k) = not-in-empty n (subst (λ (x : ℕ). In x n) e (and-in a b n h k))
+-- for each region the regions that pass its test
+pub counted-sets : (f : ℕ → ℕ → Bool) → RegionSets (map (λ s. set-of (f s)) (count-from 0 regions))
+counted-sets f = record { long = refl; small = λ s. go s (lt-or-ge s regions) }
+  where
+    go : (s : ℕ) → (s < regions) ⊎ (regions ≤ s) → getD (map (λ s. set-of (f s)) (count-from 0 regions)) s 0 < 2 ^ regions
+    go s (inl l) = subst (λ (x : ℕ). x < 2 ^ regions) (sym (counted-at (λ s. set-of (f s)) 0 regions s s 0 l (omega arith))) (set-below-lt regions (f s))
+    go s (inr l) = subst (λ (x : ℕ). x < 2 ^ regions) (sym (List·getD-eq-default (map (λ s. set-of (f s)) (count-from 0 regions)) 0 l)) (pow-pos regions)
 
 -- ---- the count of members
 

@@ -39,9 +39,13 @@ module _ (cross : ℕ → ℕ → Bool) (ends : ℕ → Bool) where
   from r k zero = none
   from r k (suc n) = or-else (exactly k r) (from r (suc k) n)
 
--- the route that the route call writes: one with fewest connections passes no region twice, so it has fewer connections than there are regions
+  -- one with fewest connections passes no region twice, so it has fewer connections than there are regions
+  unfoldable pub chosen-by : ℕ → Option (List ℕ)
+  chosen-by r = from r 0 regions
+
+-- the route that the route call writes
 unfoldable pub chosen : Model → Item → ℕ → Option (List ℕ)
-chosen m i r = from (crosses m i) (holds m i) r 0 regions
+chosen m i r = chosen-by (crosses m i) (holds m i) r
 
 abbrev pub found : Option (List ℕ) → Bool
 found (some p) = true

@@ -11,20 +11,25 @@ use Rattle.region_routes.specs.Route.{Best}
 abbrev pub In : ℕ → ℕ → Type 0
 In x n = bit x n ≡ 1
 
--- the sets have a member in common
-abbrev pub Meets : ℕ → ℕ → Type 0
-Meets a b = (n : ℕ) × (In a n) × (In b n)
+-- the members of x are regions
+abbrev pub SetOfRegions : ℕ → Type 0
+SetOfRegions x = (n : ℕ) → In x n → n < regions
 
--- a connection from r to s, where succ holds for each region the set of the regions that it leads to
+-- for each region a set of regions
+pub record RegionSets (pred : List ℕ) : Type 0 where
+  pub long : length pred ≡ regions
+  pub small : (s : ℕ) → getD pred s 0 < 2 ^ regions
+
+-- a connection from r to s, where pred holds for each region the set of the regions from which a connection leads to it
 abbrev pub Conn : List ℕ → ℕ → ℕ → Type 0
-Conn succ r s = In (getD succ r 0) s
+Conn pred r s = In (getD pred s 0) r
 
 -- x holds the regions outside `reached` that have a connection into `prev`
-pub record Layer (succ : List ℕ) (prev reached x : ℕ) : Type 0 where
+pub record Layer (pred : List ℕ) (prev reached x : ℕ) : Type 0 where
   pub small : x < 2 ^ regions
   pub fresh : (n : ℕ) → In x n → In reached n → ⊥
-  pub sound : (n : ℕ) → In x n → Meets (getD succ n 0) prev
-  pub complete : (n : ℕ) → n < regions → (In reached n → ⊥) → Meets (getD succ n 0) prev → In x n
+  pub sound : (n : ℕ) → In x n → (s : ℕ) × (Conn pred n s) × (In prev s)
+  pub complete : (n s : ℕ) → Conn pred n s → In prev s → (In reached n → ⊥) → In x n
 
 -- layers 0 to k: layer 0 is H, each region of a later one has a connection into the layer before, a region with a connection into
 -- a layer below k is in that layer's next one or an earlier one, and no region is in two
@@ -40,13 +45,13 @@ abbrev pub At : List ℕ → ℕ → ℕ → Type 0
 At sets j n = In (getD sets j 0) n
 
 -- a whole search: the layers 0 to deep, all regions in them, and no connection from another region into them
-pub record Searched (succ : List ℕ) (holders : ℕ) (sets : List ℕ) (deep reached : ℕ) : Type 0 where
-  pub layered : Layered (Conn succ) (In holders) (At sets) deep
+pub record Searched (pred : List ℕ) (holders : ℕ) (sets : List ℕ) (deep reached : ℕ) : Type 0 where
+  pub layered : Layered (Conn pred) (In holders) (At sets) deep
   pub low : deep < regions
   pub small : reached < 2 ^ regions
   pub into : (i n : ℕ) → i ≤ deep → At sets i n → In reached n
   pub from : (n : ℕ) → In reached n → (i : ℕ) × (i ≤ deep) × (At sets i n)
-  pub shut : (n s : ℕ) → Conn succ n s → In reached s → In reached n
+  pub shut : (n s : ℕ) → Conn pred n s → In reached s → In reached n
 
 -- a region of some layer up to `deep`, and the layer that a search for it finds
 pub record Reached (sets : List ℕ) (deep region : ℕ) : Type 0 where
@@ -58,16 +63,27 @@ pub record Found (sets : List ℕ) (deep region layer : ℕ) : Type 0 where
   pub within : layer ≤ deep
   pub here : At sets layer region
 
+-- from region r a connection leads into the set x, and s is the smallest region of x to which one leads
+pub record Leading (pred : List ℕ) (x r : ℕ) : Type 0 where
+  pub inside : r < regions
+  pub small : SetOfRegions x
+  pub some : (n : ℕ) × (Conn pred r n) × (In x n)
+
+pub record Next (pred : List ℕ) (x r s : ℕ) : Type 0 where
+  pub here : In x s
+  pub conn : Conn pred r s
+  pub least : (n : ℕ) → Conn pred r n → In x n → s ≤ n
+
 -- a region of the layer `deep`, from which a walk down the layers starts
-pub record Walkable (succ sets : List ℕ) (deep region : ℕ) : Type 0 where
-  pub layered : Layered (Conn succ) (At sets 0) (At sets) deep
+pub record Walkable (pred sets : List ℕ) (deep region : ℕ) : Type 0 where
+  pub layered : Layered (Conn pred) (At sets 0) (At sets) deep
   pub low : deep < regions
   pub small : (j n : ℕ) → j ≤ deep → At sets j n → n < regions
   pub here : At sets deep region
 
 -- what the walk leaves in the buffer: the best route at its start, and the rest as it was
-pub record Walked (succ sets : List ℕ) (deep region : ℕ) (entry exit : List ℕ) : Type 0 where
+pub record Walked (pred sets : List ℕ) (deep region : ℕ) (entry exit : List ℕ) : Type 0 where
   pub path : List ℕ
-  pub best : Best (Conn succ) (At sets 0) region path
+  pub best : Best (Conn pred) (At sets 0) region path
   pub counted : length path ≡ suc deep
   pub exit-is : exit ≡ path ++ drop (length path) entry

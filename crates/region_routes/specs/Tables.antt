@@ -2,11 +2,11 @@
 use mathlib.Core.Path.{_≡_}
 use mathlib.Core.Bool.{Bool, true, _&&_, _||_}
 use mathlib.Core.List.{List, [], _∷_, _++_, map}
-use Prim.Native.Nat.{ℕ, _+_, _*_, _/_, _%_, _<_, _≤_}
+use Prim.Native.Nat.{ℕ, _+_, _*_, _/_, _%_, _≤_}
 use lib.Dec.{eqb}
 use lib.ListN.{length, take}
 use Rattle.region_graph.specs.Size.{regions}
-use Rattle.region_graph.specs.Lists.{pick, any, All, count-from}
+use Rattle.region_graph.specs.Lists.{pick, any, count-from}
 use Rattle.region_graph.specs.Sets.{set-of}
 use Rattle.region_graph.specs.Model.{Model, Bundle, Part, Connection, Legal}
 use Rattle.region_graph.specs.Items.{provided, part-of}
@@ -78,12 +78,12 @@ pub record Holding (xs items : List ℕ) (count : ℕ) : Type 0 where
 abbrev pub of-number : ℕ → ℕ → Bool
 of-number n e = eqb (number-in e) every || eqb (number-in e) n
 
--- the regions that entries name for a number, and for each region those to which entries lead with it
+-- the regions that entries name for a number, and for each region those from which entries lead to it
 abbrev pub held-in : List ℕ → ℕ → ℕ
 held-in es n = set-of (λ r. any (λ e. eqb (place-in e) r && eqb (number-in e) n) es)
 
 unfoldable pub led-in : List ℕ → ℕ → List ℕ
-led-in es n = map (λ r. set-of (λ s. any (λ e. (eqb (source-in e) r && eqb (target-in e) s) && of-number n e) es)) (count-from 0 regions)
+led-in es n = map (λ s. set-of (λ r. any (λ e. (eqb (source-in e) r && eqb (target-in e) s) && of-number n e) es)) (count-from 0 regions)
 
 -- the place of the first entry that has the number
 abbrev pub place-at : List ℕ → ℕ → Place
@@ -94,10 +94,6 @@ place-at (e ∷ es) l = pick (eqb (number-in e) l) (Within (place-in e)) (place-
 abbrev pub all-placed : (ℕ → Place) → List ℕ → Bool
 all-placed place [] = true
 all-placed place (l ∷ ls) = installed (place l) && all-placed place ls
-
--- each entry leads from a region
-abbrev pub FromRegions : List ℕ → Type 0
-FromRegions es = All (λ e. source-in e < regions) es
 
 -- the tables are those of a model, for a kind
 pub record Tables (m : Model) (kind : ℕ) (offered passing : List ℕ) : Type 0 where

@@ -8,7 +8,7 @@ ghost use Rattle.region_graph.specs.Model.{Model};
 ghost use Rattle.region_graph.specs.Record.{Valid, meaning};
 ghost use Rattle.region_routes.specs.Chosen.{sees};
 ghost use Rattle.region_routes.specs.Hooks.{«kind-number», item, kept, «kept-outcome», «find-outcome», «event-outcome», «stands-in»};
-ghost use Rattle.region_routes.specs.Tables.{FromRegions, Tables, «place-at», «all-placed»};
+ghost use Rattle.region_routes.specs.Tables.{Tables, «place-at», «all-placed»};
 use crate::Kept;
 use crate::Kind;
 use crate::search::seers;
@@ -41,7 +41,6 @@ fn keep_seen(
     candidates: &[u32],
     out: &mut [u32],
 ) -> usize
-    requires { ⌜ FromRegions (now passing) ⌝ }
     requires { ⌜ (region < regions) × (length (now candidates) ≤ length (now out)) ⌝ }
     ensures { λ r. ⌜ ((m : Model) (kind : ℕ) → Tables m kind (now (offered .entry)) (now (passing .entry)) → kept (Kept.Wrote r) (now (out .exit)) ≡ kept-outcome (keep (λ n. sees m (item kind n) region) (now (candidates .entry))) (now (out .entry))) ⌝ }
 {
@@ -59,7 +58,8 @@ fn keep_seen(
     n
 }
 
-fn find(graph: Graph, kind: Kind, location: u32, candidates: &[u32], out: &mut [u32]) -> Kept
+// The items of a kind among the candidates that a bundle sees.
+pub fn find(graph: Graph, kind: Kind, location: u32, candidates: &[u32], out: &mut [u32]) -> Kept
     requires { ⌜ Valid graph ⌝ }
     ensures { λ r. ⌜ kept r (now (out .exit)) ≡ find-outcome (meaning graph) kind location (now (candidates .entry)) (now (out .entry)) ⌝ }
 {

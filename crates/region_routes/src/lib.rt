@@ -6,6 +6,7 @@ mod tables;
 
 pub use hooks::bundle_event;
 pub use hooks::bundle_find;
+pub use hooks::find;
 pub use hooks::resolve;
 pub use hooks::service_event;
 pub use hooks::service_find;

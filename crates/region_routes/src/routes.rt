@@ -4,36 +4,55 @@ ghost use Prim.Native.Nat.{_≤_};
 ghost use lib.ListN.{length};
 ghost use Rattle.region_graph.specs.Size.{regions};
 ghost use Rattle.region_graph.specs.Record.{Valid, meaning};
-ghost use Rattle.region_routes.specs.Search.{Walkable, Walked};
+ghost use Rattle.region_routes.specs.Search.{Leading, Next, Walkable, Walked};
 ghost use Rattle.region_routes.specs.Hooks.{routed, «route-outcome»};
 use crate::Routed;
 use crate::search::Layers;
 use crate::search::distance;
-use crate::search::search;
+use crate::search::search_for;
 use region_graph::Graph;
 use region_graph::Item;
 use region_graph::Place;
 use region_graph::refusals::NO_PLACE;
 use region_graph::refusals::NOT_A_KIND;
 use region_graph::refusals::NOT_INSTALLED;
+use region_graph::region_set::difference;
 use region_graph::region_set::has;
 use region_graph::region_set::lowest;
+use region_graph::region_set::one;
 use region_graph::size::REGIONS;
 
+// The smallest region of a set to which a connection from a region leads.
+fn next_to(pred: &[u64], set: u64, region: u32) -> u32
+    requires { ⌜ (length (now pred) ≡ regions) × Leading (now pred) set region ⌝ }
+    ensures { λ r. ⌜ Next (now (pred .entry)) set region r ⌝ }
+{
+    let mut left = set;
+    while left != 0 {
+        let n = lowest(left);
+        let at = n as usize;
+        if has(pred[at], region) {
+            return n;
+        }
+        left = difference(left, one(n));
+    }
+    0
+}
+
 // Writes the best route from a region of the layer `deep` at the buffer's start: the smallest next region each time.
-fn walk(out: &mut [u8], succ: &[u64], found: Layers, deep: usize, region: u32)
-    requires { ⌜ (length (now succ) ≡ regions) × (regions ≤ length (now out)) ⌝ }
-    requires { ⌜ Walkable (now succ) (found .sets) deep region ⌝ }
-    ensures { λ r. ⌜ Walked (now (succ .entry)) (found .sets) deep region (now (out .entry)) (now (out .exit)) ⌝ }
+fn walk(out: &mut [u8], pred: &[u64], found: Layers, deep: usize, region: u32)
+    requires { ⌜ (length (now pred) ≡ regions) × (regions ≤ length (now out)) ⌝ }
+    requires { ⌜ Walkable (now pred) (found .sets) deep region ⌝ }
+    ensures { λ r. ⌜ Walked (now (pred .entry)) (found .sets) deep region (now (out .entry)) (now (out .exit)) ⌝ }
 {
     let sets = found.sets;
     let mut d = deep;
     let mut i: usize = 0;
-    let mut r = region as usize;
+    let mut r = region;
     out[0] = region as u8;
     while 0 < d {
         d -= 1;
-        r = lowest(succ[r] & sets[d]) as usize;
+        r = next_to(pred, sets[d], r);
         i += 1;
         out[i] = r as u8;
     }
@@ -55,14 +74,14 @@ pub fn route(graph: Graph, location: u32, kind: u32, number: u32, out: &mut [u8]
         return Routed::Refused(NO_PLACE);
     }
     let item = Item { kind, number };
-    let succ = graph.successors(item);
-    let holders = graph.holders(item);
-    let found = search(&succ, holders);
+    let searched = search_for(graph, item);
+    let pred = searched.pred;
+    let found = searched.found;
     let reached = found.reached;
     if !has(reached, region) {
         return Routed::Hidden;
     }
     let deep = distance(found, region);
-    walk(out, &succ, found, deep, region);
+    walk(out, &pred, found, deep, region);
     Routed::Count(deep)
 }

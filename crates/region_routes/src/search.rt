@@ -1,20 +1,19 @@
-// The search for routes over successor sets: the regions in layers by their distance to a holder.
+// The search for routes over predecessor sets: the regions in layers by their distance to a holder.
 ghost use mathlib.Core.Path.{_≡_};
 ghost use Prim.Native.Nat.{ℕ, _<_, _^_};
-ghost use lib.ListN.{length};
 ghost use Rattle.region_graph.specs.Size.{regions};
 ghost use Rattle.region_graph.specs.Model.{Model};
+ghost use Rattle.region_graph.specs.Promise.{«holder-set», «predecessor-sets»};
 ghost use Rattle.region_graph.specs.Record.{Valid, meaning};
 ghost use Rattle.region_graph.specs.Sets.{«set-of»};
 ghost use Rattle.region_routes.specs.Chosen.{sees};
 ghost use Rattle.region_routes.specs.Hooks.{item};
-ghost use Rattle.region_routes.specs.Tables.{FromRegions, Tables};
-ghost use Rattle.region_routes.specs.Search.{Layer, Searched, Reached, Found};
+ghost use Rattle.region_routes.specs.Tables.{Tables};
+ghost use Rattle.region_routes.specs.Search.{RegionSets, SetOfRegions, Layer, Searched, Reached, Found};
 use crate::tables::holders;
-use crate::tables::successors;
+use crate::tables::predecessors;
 use region_graph::Graph;
 use region_graph::Item;
-use region_graph::region_set::EVERY;
 use region_graph::region_set::difference;
 use region_graph::region_set::has;
 use region_graph::region_set::lowest;
@@ -29,28 +28,25 @@ pub struct Layers {
 }
 
 // One layer: the regions that are not reached yet and have a connection into the layer before.
-fn layer(succ: &[u64], prev: u64, reached: u64) -> u64
-    requires { ⌜ length (now succ) ≡ regions ⌝ }
-    ensures { λ r. ⌜ Layer (now (succ .entry)) prev reached r ⌝ }
+fn layer(pred: &[u64], prev: u64, reached: u64) -> u64
+    requires { ⌜ RegionSets (now pred) × SetOfRegions prev ⌝ }
+    ensures { λ r. ⌜ Layer (now (pred .entry)) prev reached r ⌝ }
 {
     let mut next: u64 = 0;
-    let mut left = difference(EVERY, reached);
+    let mut left = prev;
     while left != 0 {
         let n = lowest(left);
-        let alone = one(n);
-        left = difference(left, alone);
+        left = difference(left, one(n));
         let at = n as usize;
-        if succ[at] & prev != 0 {
-            next = next | alone;
-        }
+        next = next | pred[at];
     }
-    next
+    difference(next, reached)
 }
 
 // All layers, from the holders back.
-pub fn search(succ: &[u64], holders: u64) -> Layers
-    requires { ⌜ (length (now succ) ≡ regions) × (holders < 2 ^ regions) ⌝ }
-    ensures { λ r. ⌜ Searched (now (succ .entry)) holders (r .sets) (r .deep) (r .reached) ⌝ }
+pub fn search(pred: &[u64], holders: u64) -> Layers
+    requires { ⌜ RegionSets (now pred) × (holders < 2 ^ regions) ⌝ }
+    ensures { λ r. ⌜ Searched (now (pred .entry)) holders (r .sets) (r .deep) (r .reached) ⌝ }
 {
     let mut sets = [0u64; REGIONS];
     sets[0] = holders;
@@ -58,7 +54,7 @@ pub fn search(succ: &[u64], holders: u64) -> Layers
     let mut reached = holders;
     let mut prev = holders;
     loop {
-        let next = layer(succ, prev, reached);
+        let next = layer(pred, prev, reached);
         if next == 0 {
             return Layers {
                 sets,
@@ -89,24 +85,39 @@ pub fn distance(found: Layers, region: u32) -> usize
     d
 }
 
+// The predecessors of each region for an item, and the layers over them.
+pub struct ItemSearch {
+    pub pred: [u64; REGIONS],
+    pub found: Layers,
+}
+
+// The search for an item.
+pub fn search_for(graph: Graph, item: Item) -> ItemSearch
+    requires { ⌜ Valid graph ⌝ }
+    ensures { λ r. ⌜ (r .pred ≡ predecessor-sets (meaning graph) item) × Searched (predecessor-sets (meaning graph) item) (holder-set (meaning graph) item) (r .found .sets) (r .found .deep) (r .found .reached) ⌝ }
+{
+    let pred = graph.predecessors(item);
+    let holders = graph.holders(item);
+    let found = search(&pred, holders);
+    ItemSearch { pred, found }
+}
+
 // The regions that see an item.
 pub fn seers(graph: Graph, item: Item) -> u64
     requires { ⌜ Valid graph ⌝ }
     ensures { λ r. ⌜ r ≡ set-of (sees (meaning graph) item) ⌝ }
 {
-    let succ = graph.successors(item);
-    let holders = graph.holders(item);
-    let found = search(&succ, holders);
+    let searched = search_for(graph, item);
+    let found = searched.found;
     found.reached
 }
 
 // The regions that see an item, by the tables of its kind.
 pub fn seers_by(offered: &[u64], passing: &[u64], number: u32) -> u64
-    requires { ⌜ FromRegions (now passing) ⌝ }
     ensures { λ r. ⌜ ((m : Model) (kind : ℕ) → Tables m kind (now (offered .entry)) (now (passing .entry)) → r ≡ set-of (sees m (item kind number))) ⌝ }
 {
-    let succ = successors(passing, number);
+    let pred = predecessors(passing, number);
     let held = holders(offered, number);
-    let layers = search(&succ, held);
+    let layers = search(&pred, held);
     layers.reached
 }

@@ -4,18 +4,19 @@ ghost use mathlib.Core.List.{[], _∷_, map};
 ghost use Prim.Native.Nat.{_+_, _<_, _≤_};
 ghost use lib.ListN.{length};
 ghost use Rattle.region_graph.specs.Size.{regions};
-ghost use Rattle.region_graph.specs.Record.{Valid, meaning, «numbers-of», «bundle-in», «connection-in», «part-in»};
-ghost use Rattle.region_graph.specs.Places.{NumbersStored, BundleStored, PartStored, ConnectionStored};
+ghost use Rattle.region_graph.specs.Record.{Valid, meaning, «numbers-of», «provided-of», «bundle-in», «connection-in», «part-in»};
+ghost use Rattle.region_graph.specs.Places.{NumbersStored, ProvidedStored, BundleStored, PartStored, ConnectionStored};
 ghost use Rattle.region_routes.specs.Hooks.{«kind-number»};
 ghost use Rattle.region_routes.specs.Tables;
 use crate::Kind;
 use region_graph::Graph;
 use region_graph::Numbers;
 use region_graph::Place;
+use region_graph::Provided;
 use region_graph::StoredBundle;
 use region_graph::StoredConnection;
-use region_graph::StoredPart;
 use region_graph::region_set::one;
+use region_graph::size::EVERYTHING;
 use region_graph::size::MOST_CONNECTIONS;
 use region_graph::size::MOST_LISTED;
 use region_graph::size::REGIONS;
@@ -66,6 +67,22 @@ fn append(out: &mut [u64], at: usize, list: Numbers, place: u32) -> usize
     n
 }
 
+fn append_provided(out: &mut [u64], at: usize, list: Provided, place: u32) -> usize
+    requires { ⌜ ProvidedStored list ⌝ }
+    requires { ⌜ at + length (map (λ n. Tables.entry n place) (provided-of list)) ≤ length (now out) ⌝ }
+    ensures { λ r. ⌜ Tables.Appended (now (out .entry)) at (map (λ n. Tables.entry n place) (provided-of list)) (now (out .exit)) r ⌝ }
+{
+    let count = list.count;
+    let mut n = at;
+    let mut i: usize = 0;
+    while i < count {
+        let number = wide(list.items[i]);
+        n = append_one(out, n, number, place);
+        i += 1;
+    }
+    n
+}
+
 // Puts what a bundle brings to its region.
 fn append_offer(out: &mut [u64], at: usize, b: StoredBundle, kind: Kind) -> usize
     requires { ⌜ BundleStored b ⌝ }
@@ -76,26 +93,25 @@ fn append_offer(out: &mut [u64], at: usize, b: StoredBundle, kind: Kind) -> usiz
         Kind::Bundle => append_one(out, at, wide(b.location), b.region),
         Kind::Package => {
             let packages = b.packages;
-            append(out, at, packages, b.region)
+            append_provided(out, at, packages, b.region)
         }
         Kind::Service => {
             let services = b.services;
-            append(out, at, services, b.region)
+            append_provided(out, at, services, b.region)
         }
     }
 }
 
 // Puts what a part of a filter passes.
-fn append_part(out: &mut [u64], at: usize, part: StoredPart, ends: u32) -> usize
+fn append_part(out: &mut [u64], at: usize, part: Numbers, ends: u32) -> usize
     requires { ⌜ PartStored part ⌝ }
     requires { ⌜ at + length (map (λ n. Tables.entry n ends) (Tables.passed (part-in part))) ≤ length (now out) ⌝ }
     ensures { λ r. ⌜ Tables.Appended (now (out .entry)) at (map (λ n. Tables.entry n ends) (Tables.passed (part-in part))) (now (out .exit)) r ⌝ }
 {
-    if part.all {
+    if part.count == EVERYTHING {
         return append_one(out, at, EVERY_NUMBER, ends);
     }
-    let numbers = part.numbers;
-    append(out, at, numbers, ends)
+    append(out, at, part, ends)
 }
 
 // Puts what a connection passes, with its two ends.
@@ -184,9 +200,8 @@ fn of_number(entry: u64, number: u32) -> bool
     n == wide(number)
 }
 
-// For each region the regions to which the entries of a number lead.
-pub fn successors(table: &[u64], number: u32) -> [u64; REGIONS]
-    requires { ⌜ Tables.FromRegions (now table) ⌝ }
+// For each region the regions from which the entries of a number lead to it.
+pub fn predecessors(table: &[u64], number: u32) -> [u64; REGIONS]
     ensures { λ r. ⌜ r ≡ Tables.led-in (now (table .entry)) number ⌝ }
 {
     let mut sets = [0u64; REGIONS];
@@ -198,7 +213,7 @@ pub fn successors(table: &[u64], number: u32) -> [u64; REGIONS]
             let ends = (e % WIDTH) as usize;
             let source = ends / REGIONS;
             let target = ends % REGIONS;
-            sets[source] = sets[source] | one(target as u32);
+            sets[target] = sets[target] | one(source as u32);
         }
     }
     sets

@@ -7,7 +7,7 @@ use lib.ListN.{length, take}
 use lib.Seq.{take-all}
 use Rattle.region_graph.specs.Model.{Bundle}
 use Rattle.region_graph.specs.Items.{provided}
-use Rattle.region_graph.specs.Record.{meaning, numbers-of, bundle-in}
+use Rattle.region_graph.specs.Record.{meaning, provided-of, bundle-in}
 use Rattle.region_graph.specs.Promise.{bundle-at}
 use Rattle.region_graph.proofs.Storing.{bundle-back}
 use Rattle.region_routes.specs.Hooks.{kind-number}
@@ -29,7 +29,7 @@ abbrev μ-loop : tie.MeasureT-loop
 -- what the bundle at the loop's place brings
 brought : (c : tie.After-provided-by Inv-loop μ-loop)
     → (let s = c .before .before .before .before .before .args in
-    numbers-of (c .provided-by .result) ≡ provided (kind-number (s .kind)) (bundle-at (meaning (s .graph)) (c .before .before .before .loop .i)))
+    provided-of (c .provided-by .result) ≡ provided (kind-number (s .kind)) (bundle-at (meaning (s .graph)) (c .before .before .before .loop .i)))
 brought c =
     let s = c .before .before .before .before .before .args in
     let b = bundle-at (meaning (s .graph)) (c .before .before .before .loop .i) in
@@ -74,7 +74,7 @@ loop-again c =
         count = r .count;
         size = r .size;
         those =
-            r .those ∙ ap (λ (xs : List ℕ). joined-all xs (numbers-of (c .before .provided-by .result))) (l .inv .1 .those)
+            r .those ∙ ap (λ (xs : List ℕ). joined-all xs (provided-of (c .before .provided-by .result))) (l .inv .1 .those)
             ∙ ap (joined-all (held (s .kind) (take (l .i) bs))) (brought (c .before)) ∙ sym (held-next (s .kind) bs (l .i) (omega arith));
       },
     )

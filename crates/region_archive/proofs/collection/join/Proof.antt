@@ -5,7 +5,7 @@ use native.Mathlib.Omega.{arith}
 use borrow.Author.Tests.{not-true, not-false}
 use lib.ListN.{length, take}
 use lib.Seq.{getD-take, take-all, length-take-le}
-use Rattle.region_graph.specs.Record.{numbers-of}
+use Rattle.region_graph.specs.Record.{provided-of}
 use Rattle.region_archive.specs.Listing.{joined-all}
 use Rattle.region_archive.specs.Counts.{numbers-in}
 use Rattle.region_archive.proofs.Collecting.{Joining, joining-room, joining-left, joining-took}
@@ -14,13 +14,13 @@ use Rattle.region_archive.proofs.collection.join.Tie as tie
 
 abbrev Inv-loop : tie.InvT-loop
 Inv-loop list items₀ n₀ count i₀ items n i =
-    (list .count ≡ length (numbers-of list)) × Joining (take n₀ items₀) (numbers-of list) items n i
+    (list .count ≡ length (provided-of list)) × Joining (take n₀ items₀) (provided-of list) items n i
 
 abbrev μ-loop : tie.MeasureT-loop
 μ-loop list items₀ n₀ count i₀ items n i = list .count - i
 
 loop-holds : tie.Need-loop-holds Inv-loop μ-loop
-unfolding numbers-in numbers-of
+unfolding numbers-in provided-of
 loop-holds c =
     let p = c .before .pre in
     let n = c .before .args .t2 in (
@@ -59,7 +59,7 @@ loop-less : tie.Need-loop-less Inv-loop μ-loop
 loop-less c = search needs
 
 loop-again : tie.Need-loop-again Inv-loop μ-loop
-unfolding numbers-in numbers-of
+unfolding numbers-in provided-of
 loop-again c =
     let l = c .before .before .before .before .before .loop in
     let s = c .before .before .before .before .before .before .before .args .t2 in (
@@ -72,7 +72,7 @@ loop-less-2 : tie.Need-loop-less-2 Inv-loop μ-loop
 loop-less-2 c = search needs
 
 loop-again-2 : tie.Need-loop-again-2 Inv-loop μ-loop
-unfolding numbers-in numbers-of
+unfolding numbers-in provided-of
 loop-again-2 c =
     let l = c .before .before .before .before .before .loop in
     let s = c .before .before .before .before .before .before .before .args .t2 in (
@@ -82,11 +82,11 @@ loop-again-2 c =
     )
 
 returns : tie.Need-returns Inv-loop μ-loop
-unfolding numbers-in numbers-of
+unfolding numbers-in provided-of
 returns c =
     let l = c .before .loop in
     let s = c .before .before .before .args in
-    let e : take (l .i) (numbers-of (s .t2)) ≡ numbers-of (s .t2) = take-all (l .i) (numbers-of (s .t2)) (omega (arith, l .inv .0)) in
+    let e : take (l .i) (provided-of (s .t2)) ≡ provided-of (s .t2) = take-all (l .i) (provided-of (s .t2)) (omega (arith, l .inv .0)) in
     record { count = l .inv .1 .few; size = l .inv .1 .size; those = l .inv .1 .those ∙ ap (joined-all (numbers-in (s .collection))) e }
 
 pub join-spec : {M : Type 1} → statement M

@@ -20,10 +20,10 @@ abbrev μ-loop : tie.MeasureT-loop
 
 -- the count stands at the place
 counts : (c : tie.Else1 Inv-loop μ-loop)
-    → (let a = c .before .before .before .before .before .before .args in let r = c .before .before .count-at .result in
+    → (let a = c .before .before .before .before .before .args in let r = c .before .before .count-at .result in
     Count most-listed (omega arith) (a .bytes .now) (a .at) (r .number) (r .next))
 counts c =
-    let a = c .before .before .before .before .before .before .args in
+    let a = c .before .before .before .before .before .args in
     let r = c .before .before .count-at in
     count-stands most-listed (omega arith) (a .bytes .now) (a .at) (r .result) (c .if1 .left) (r .ensures)
 
@@ -35,9 +35,9 @@ count-at-requires c κs = search needs
 
 returns : tie.Need-returns Inv-loop μ-loop
 returns c =
-    let a = c .before .before .before .before .before .before .args in
+    let a = c .before .before .before .before .before .args in
     let r = c .before .before .count-at in
-    (c .before .before .before .before .no-part .ensures, no-count most-listed (omega arith) (a .bytes .now) (a .at) Listed (big 4) (λ xs h. h .few) (r .result) (c .if1 .taken) (r .ensures))
+    (c .before .before .before .no-part .ensures, no-count most-listed (omega arith) (a .bytes .now) (a .at) Listed (big 4) (λ xs h. h .few) (r .result) (c .if1 .taken) (r .ensures))
 
 cast-total : tie.Need-cast-total Inv-loop μ-loop
 cast-total c = search needs
@@ -45,17 +45,17 @@ cast-total c = search needs
 loop-holds : tie.Need-loop-holds Inv-loop μ-loop
 loop-holds c =
     let p = counts (c .before) in
-    (omega arith, (p .is-good, record { size = refl; run = run-none Word (big 4) (big-same 4) (c .before .before .before .before .before .before .before .args .bytes .now) _ (p .room) }))
+    (omega arith, (p .is-good, record { size = refl; run = run-none Word (big 4) (big-same 4) (c .before .before .before .before .before .before .args .bytes .now) _ (p .room) }))
 
 number-at-requires : tie.Need-number-at-requires Inv-loop μ-loop
 number-at-requires c κs = (c .before .loop .inv .1 .1 .run .room, omega arith)
 
 returns-2 : tie.Need-returns-2 Inv-loop μ-loop
 returns-2 c =
-    let a = c .before .before .before .before .before .before .before .before .before .before .before .before .args in
+    let a = c .before .before .before .before .before .before .before .before .before .before .before .args in
     let l = c .before .before .before .before .loop in
     let r = c .before .before .number-at in (
-      c .before .before .before .before .before .before .before .before .before .before .no-part .ensures,
+      c .before .before .before .before .before .before .before .before .before .no-part .ensures,
       list-stuck (a .bytes .now) (a .at) (counts (c .before .before .before .before .before .before)) (l .inv .1 .1) (omega arith) (number-fails 4 (a .bytes .now) (l .to) (r .result) (c .if2 .taken) (r .ensures)),
     )
 
@@ -73,7 +73,7 @@ loop-less c = search needs
 
 loop-again : tie.Need-loop-again Inv-loop μ-loop
 loop-again c =
-    let a = c .before .before .before .before .before .before .before .before .before .before .before .before .args in
+    let a = c .before .before .before .before .before .before .before .before .before .before .before .args in
     let l = c .before .before .before .before .loop in
     let r = c .before .before .number-at in (
       omega arith,
@@ -86,7 +86,7 @@ loop-again c =
 returns-3 : tie.Need-returns-3 Inv-loop μ-loop
 unfolding numbers-of
 returns-3 c =
-    let a = c .before .before .before .before .before .before .before .before .before .args in
+    let a = c .before .before .before .before .before .before .before .before .args in
     let l = c .before .loop in
     (record { count = omega (arith, l .inv .1 .0); size = l .inv .1 .1 .size }, list-end (a .bytes .now) (a .at) (counts (c .before .before .before)) (l .inv .1 .1) (omega arith))
 

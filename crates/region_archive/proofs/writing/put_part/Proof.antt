@@ -4,6 +4,7 @@ use lib.ListN.{length}
 use Rattle.region_graph.specs.Model.{Part}
 use Rattle.region_archive.specs.Bytes.{big}
 use Rattle.region_archive.specs.Image.{part-bytes}
+use Rattle.region_archive.proofs.Fits.{part-list}
 use Rattle.region_archive.proofs.Sizes.{part-all, part-listed}
 use Rattle.region_archive.proofs.Writes.{wrote-is, wrote-length}
 use Rattle.region_archive.proofs.writing.put_part.Statement.{statement}
@@ -11,25 +12,25 @@ use Rattle.region_archive.proofs.writing.put_part.Tie as tie
 
 put-number-requires : tie.Need-put-number-requires
 put-number-requires c κs =
-    let s = c .before .before .before in
+    let s = c .before .before .before .before in
     omega (arith, s .pre .1, ap (λ (p : Part). length (part-bytes (big 4) p)) (part-all (s .args .part) (c .before .if1 .taken)))
 
 same-length : tie.Need-same-length
 same-length c = wrote-length (c .before .before .put-number .ensures)
 
 returns : tie.Need-returns
-returns c = wrote-is (ap (part-bytes (big 4)) (sym (part-all (c .before .before .before .before .before .before .args .part) (c .before .before .before .before .if1 .taken)))) (c .before .before .put-number .ensures)
+returns c = wrote-is (ap (part-bytes (big 4)) (sym (part-all (c .before .before .before .before .before .before .before .args .part) (c .before .before .before .before .if1 .taken)))) (c .before .before .put-number .ensures)
 
 put-list-requires : tie.Need-put-list-requires
 put-list-requires c κs =
     let s = c .before .before .before .before in
-    (s .pre .0, omega (arith, s .pre .1, ap (λ (p : Part). length (part-bytes (big 4) p)) (part-listed (s .args .part) (c .before .before .if1 .left))))
+    (part-list (s .args .part) (s .pre .0) (c .before .if1 .left), omega (arith, s .pre .1, ap (λ (p : Part). length (part-bytes (big 4) p)) (part-listed (s .args .part) (c .before .if1 .left))))
 
 same-length-2 : tie.Need-same-length-2
 same-length-2 c = wrote-length (c .before .before .put-list .ensures)
 
 returns-2 : tie.Need-returns-2
-returns-2 c = wrote-is (ap (part-bytes (big 4)) (sym (part-listed (c .before .before .before .before .before .before .before .args .part) (c .before .before .before .before .before .if1 .left)))) (c .before .before .put-list .ensures)
+returns-2 c = wrote-is (ap (part-bytes (big 4)) (sym (part-listed (c .before .before .before .before .before .before .before .args .part) (c .before .before .before .before .if1 .left)))) (c .before .before .put-list .ensures)
 
 pub put-part-spec : {M : Type 1} → statement M
 put-part-spec =

@@ -28,6 +28,14 @@ passed c =
     connectable (meaning (a .self)) (connection (a .source) (a .target) (a .bundles .now) (a .all-packages) (a .packages .now) (a .all-services) (a .services .now))
     (sym (c .before .connect-number .ensures) ∙ c .if1 .left)
 
+-- and its lists are short
+short : (c : tie.Else1) → (let a = c .before .before .before .before .before .args in ShortConnection (connection (a .source) (a .target) (a .bundles .now) (a .all-packages) (a .packages .now) (a .all-services) (a .services .now)))
+short c =
+    let a = c .before .before .before .before .before .args in
+    let x = connection (a .source) (a .target) (a .bundles .now) (a .all-packages) (a .packages .now) (a .all-services) (a .services .now) in
+    let o = passed c in
+    record { bundles = o .bundles-few; packages = part-short (x .filter .packages) (o .packages-within); services = part-short (x .filter .services) (o .services-within) }
+
 -- the new place stores the connection
 stores : (c : tie.After-part-copied2)
     → (let a = c .before .before .before .before .before .before .before .before .args in
@@ -74,8 +82,7 @@ with-requires c κs =
     let x = connection (a .source) (a .target) (a .bundles .now) (a .all-packages) (a .packages .now) (a .all-services) (a .services .now) in (
       connections-stored (a .self) (s .pre),
       (
-        stored-as store-connection connection-in connection-back ShortConnection x (stores (c .before .before))
-            (record { bundles = o .bundles-few; packages = part-short (x .filter .packages) (o .packages-within); services = part-short (x .filter .services) (o .services-within) }),
+        stored-as store-connection connection-in ShortConnection connection-back x (stores (c .before .before)) (short (c .before .before .before .before .before)),
         (rw (c .first .ensures) (position-le (connection-meets (After (a .source) (a .target))) (meaning (a .self) .connections)), o .room),
       ),
     )
@@ -96,7 +103,7 @@ returns-2 c =
     (stored-graph (accepted (meaning g) (Call.connect x)) (regions-stored g (s .pre)) (bundles-stored g (s .pre) .stored)
     (c .with .ensures
     ∙ ap store-connections ((λ i. take (c .before .first .ensures i) (meaning g .connections)
-    ++ ((ap connection-in (stores (c .before .before .before)) ∙ connection-back x) i ∷ drop (c .before .first .ensures i) (meaning g .connections)))
+    ++ ((ap connection-in (stores (c .before .before .before)) ∙ connection-back x (short (c .before .before .before .before .before .before))) i ∷ drop (c .before .first .ensures i) (meaning g .connections)))
     ∙ sym (insert-at connection-before x (meaning g .connections)))))
 
 pub connect-spec : {M : Type 1} → statement M

@@ -12,7 +12,7 @@ use Rattle.region_graph.specs.Items.{provides}
 use Rattle.region_graph.specs.Record.{meaning, bundles-of, bundle-in, no-bundle}
 use Rattle.region_graph.specs.declared.bundles.StoredBundle.{StoredBundle}
 use Rattle.region_graph.proofs.Arrays.{filled-at, filled-inside, filled-means}
-use Rattle.region_graph.proofs.Storing.{bundles-stored, bundles-filled, bundle-stored, bundle-back}
+use Rattle.region_graph.proofs.Storing.{bundles-stored, bundles-filled, bundle-stored, bundles-each}
 use Rattle.region_graph.proofs.Views.{held, held-none, held-took, held-left}
 use Rattle.region_graph.proofs.Graph.holders.Statement.{statement}
 use Rattle.region_graph.proofs.Graph.holders.Tie as tie
@@ -32,7 +32,7 @@ tested c e =
     let a = c .before .before .before in
     let s = a .before .before in
     let h = bundles-filled (s .args .self .bundles) (bundles-stored (s .args .self) (s .pre)) in
-    ap (provides (s .args .item)) (sym (filled-means h bundle-in bundle-back (a .loop .i) _ no-bundle (omega arith)))
+    ap (provides (s .args .item)) (sym (filled-means h bundle-in (bundles-each (bundles-of (s .args .self .bundles))) (a .loop .i) _ no-bundle (omega arith)))
     ∙ sym (c .bundle-provides .ensures) ∙ e
 
 loop-holds : tie.Need-loop-holds Inv-loop μ-loop

@@ -26,13 +26,13 @@ passed c =
     installable (meaning (a .self)) (bundle (a .region) (a .location) (a .packages .now) (a .services .now)) (sym (c .before .install-number .ensures) ∙ c .if1 .left)
 
 -- the new place stores the bundle
-stores : (c : tie.After-copied2)
+stores : (c : tie.After-provided-copied2)
     → (let a = c .before .before .before .before .before .before .args in
-    record { location = a .location; region = a .region; packages = c .before .copied .result; services = c .copied2 .result }
+    record { location = a .location; region = a .region; packages = c .before .provided-copied .result; services = c .provided-copied2 .result }
     ≡ store-bundle (bundle (a .region) (a .location) (a .packages .now) (a .services .now)))
 stores c =
     let a = c .before .before .before .before .before .before .args in
-    λ i. record { location = a .location; region = a .region; packages = c .before .copied .ensures i; services = c .copied2 .ensures i }
+    λ i. record { location = a .location; region = a .region; packages = c .before .provided-copied .ensures i; services = c .provided-copied2 .ensures i }
 
 install-number-requires : tie.Need-install-number-requires
 install-number-requires c κs = search needs
@@ -44,11 +44,11 @@ returns c =
     refused (a .self) (Call.install (bundle (a .region) (a .location) (a .packages .now) (a .services .now))) (s .pre)
     (sym (c .before .install-number .ensures)) (ne-eqb _ _ (c .if1 .taken))
 
-copied-requires : tie.Need-copied-requires
-copied-requires c κs = omega (arith, passed c .few-packages)
+provided-copied-requires : tie.Need-provided-copied-requires
+provided-copied-requires c κs = passed c .few-packages
 
-copied-requires-2 : tie.Need-copied-requires-2
-copied-requires-2 c κs = omega (arith, passed (c .before) .few-services)
+provided-copied-requires-2 : tie.Need-provided-copied-requires-2
+provided-copied-requires-2 c κs = passed (c .before) .few-services
 
 first-requires : tie.Need-first-requires
 first-requires c κs = bundles-stored (c .before .before .before .before .before .before .before .args .self) (c .before .before .before .before .before .before .before .pre)
@@ -61,8 +61,8 @@ with-requires c κs =
     let o = passed (c .before .before .before .before) in (
       bundles-stored (a .self) (s .pre),
       (
-        stored-as store-bundle bundle-in bundle-back ShortBundle (bundle (a .region) (a .location) (a .packages .now) (a .services .now)) (stores (c .before .before))
-            (record { packages = omega (arith, o .few-packages); services = omega (arith, o .few-services) }),
+        stored-as store-bundle bundle-in ShortBundle (λ b h. bundle-back b) (bundle (a .region) (a .location) (a .packages .now) (a .services .now)) (stores (c .before .before))
+            (record { packages = o .few-packages; services = o .few-services }),
         (rw (c .first .ensures) (position-le (bundle-meets (After (a .location))) (meaning (a .self) .bundles)), o .room),
       ),
     )
@@ -93,8 +93,8 @@ install-spec =
     (tie.spec
     install-number-requires
     returns
-    copied-requires
-    copied-requires-2
+    provided-copied-requires
+    provided-copied-requires-2
     first-requires
     with-requires
     returns-2)

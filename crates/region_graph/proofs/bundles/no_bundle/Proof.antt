@@ -3,16 +3,16 @@ use mathlib.Core.Path.{_≡_}
 use Rattle.region_graph.proofs.bundles.no_bundle.Statement.{statement}
 use Rattle.region_graph.proofs.bundles.no_bundle.Tie as tie
 
-no-numbers-requires : tie.Need-no-numbers-requires
-no-numbers-requires c κs = search needs
+none-provided-requires : tie.Need-none-provided-requires
+none-provided-requires c κs = search needs
 
 returns : tie.Need-returns
 returns c = λ i. record {
   location = 0;
   region = 0;
-  packages = c .no-numbers .ensures i;
-  services = c .no-numbers .ensures i;
+  packages = c .none-provided .ensures i;
+  services = c .none-provided .ensures i;
 }
 
 pub no-bundle-spec : {M : Type 1} → statement M
-no-bundle-spec = tie.close (tie.spec no-numbers-requires returns)
+no-bundle-spec = tie.close (tie.spec none-provided-requires returns)

@@ -1,5 +1,4 @@
 use borrow.Author.Needs.{needs}
-use mathlib.Core.Bool.{false}
 use mathlib.Core.Path.{_≡_}
 use Rattle.region_graph.proofs.connections.no_connection.Statement.{statement}
 use Rattle.region_graph.proofs.connections.no_connection.Tie as tie
@@ -12,8 +11,8 @@ returns c = λ i. record {
   source = 0;
   target = 0;
   bundles = c .no-numbers .ensures i;
-  packages = record { all = false; numbers = c .no-numbers .ensures i };
-  services = record { all = false; numbers = c .no-numbers .ensures i };
+  packages = c .no-numbers .ensures i;
+  services = c .no-numbers .ensures i;
 }
 
 pub no-connection-spec : {M : Type 1} → statement M

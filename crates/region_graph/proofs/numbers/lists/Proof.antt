@@ -1,15 +1,13 @@
-use mathlib.Core.Path.{_≡_, refl, sym, ap, _∙_}
-use Prim.Native.Nat.{ℕ, _+_, _-_, _≤_}
+use mathlib.Core.Path.{_≡_, refl}
+use Prim.Native.Nat.{_-_, _≤_}
 use native.Mathlib.Omega.{arith}
 use borrow.Author.Needs.{needs}
-use borrow.Author.Tests.{eq-eqb, ne-eqb}
 use lib.Dec.{eqb}
-use lib.ListN.{length, drop, getD}
+use lib.ListN.{drop}
 use Rattle.region_graph.specs.Size.{most-listed}
 use Rattle.region_graph.specs.Lists.{any, member}
 use Rattle.region_graph.specs.Record.{numbers-of}
-use Rattle.region_graph.proofs.Lists.{any-here, any-later, any-end}
-use Rattle.region_graph.proofs.Arrays.{filled-inside, filled-at}
+use Rattle.region_graph.proofs.Arrays.{number-here, number-later, number-end}
 use Rattle.region_graph.proofs.Storing.{numbers-filled}
 use Rattle.region_graph.proofs.numbers.lists.Statement.{statement}
 use Rattle.region_graph.proofs.numbers.lists.Tie as tie
@@ -35,8 +33,7 @@ returns c =
     let a = c .before .before .before in
     let s = a .before in
     let h = numbers-filled (s .args .t1) (s .pre) in
-    any-here (eqb (s .args .number)) (numbers-of (s .args .t1)) (a .loop .i) 0 (filled-inside h (a .loop .i) (omega arith)) (a .loop .inv .2)
-    (eq-eqb _ _ (sym (sym (filled-at h (a .loop .i) _ 0 (omega arith)) ∙ c .if1 .taken)))
+    number-here h (s .args .number) (a .loop .i) (a .loop .inv .2) _ (omega arith) (c .if1 .taken)
 
 add-i : tie.Need-add-i Inv-loop μ-loop
 add-i c = search needs
@@ -51,15 +48,13 @@ loop-again c =
     let h = numbers-filled (s .args .t1) (s .pre) in (
       omega arith,
       a .loop .inv .1,
-      any-later (eqb (s .args .number)) (numbers-of (s .args .t1)) (a .loop .i) 0 (filled-inside h (a .loop .i) (omega arith)) (a .loop .inv .2)
-          (ne-eqb _ _ (λ e. c .if1 .left (filled-at h (a .loop .i) _ 0 (omega arith) ∙ sym e))),
+      number-later h (s .args .number) (a .loop .i) (a .loop .inv .2) _ (omega arith) (c .if1 .left),
     )
 
 returns-2 : tie.Need-returns-2 Inv-loop μ-loop
 returns-2 c =
     let s = c .before .before in
-    any-end (eqb (s .args .number)) (numbers-of (s .args .t1)) (c .before .loop .i) (c .before .loop .inv .2)
-    (omega (arith, numbers-filled (s .args .t1) (s .pre) .counted))
+    number-end (numbers-filled (s .args .t1) (s .pre)) (s .args .number) (c .before .loop .i) (c .before .loop .inv .2) (omega arith)
 
 pub lists-spec : {M : Type 1} → statement M
 lists-spec =

@@ -5,7 +5,6 @@ use Rattle.region_graph.specs.Record.{meaning}
 use Rattle.region_graph.specs.Promise.{place-of}
 use Rattle.region_graph.specs.declared.Place.the-variants.{Within}
 use Rattle.region_routes.specs.Hooks.{kind-number}
-use Rattle.region_routes.proofs.Entries.{passages-from}
 use Rattle.region_routes.proofs.Judging.{region-inside}
 use Rattle.region_routes.proofs.Answering.{find-outside, find-cramped, find-answers}
 use Rattle.region_routes.proofs.hooks.find.Statement.{statement}
@@ -55,10 +54,8 @@ slice-aggregate-keep-seen-2 c = let r = c .before .before .before .passages in s
 keep-seen-requires : tie.Need-keep-seen-requires
 keep-seen-requires c κs =
     let s = c .before .before .before .before .before .before .before .before .before .before .before .before .before .before in
-    let m = meaning (s .args .graph) in (
-      rw (c .before .before .before .before .passages .ensures .table) (passages-from m (s .pre .good) (kind-number (s .args .kind))),
-      (region-inside m (s .pre .good) (s .args .location) (place (c .before .before .before .before .before .before .before .before)), c .before .before .before .before .before .before .before .if1 .left),
-    )
+    let m = meaning (s .args .graph) in
+    (region-inside m (s .pre .good) (s .args .location) (place (c .before .before .before .before .before .before .before .before)), c .before .before .before .before .before .before .before .if1 .left)
 
 same-length : tie.Need-same-length
 same-length c = search needs

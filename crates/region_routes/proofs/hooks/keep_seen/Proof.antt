@@ -35,13 +35,13 @@ tested c e m k t =
     let r = s .args .region in
     sym
     (ap (λ (x : ℕ). has x r) (c .before .seers-by .ensures m k t)
-    ∙ has-set (sees m (item k (getD (s .args .candidates .now) (a .loop .i) 0))) r ∙ rw (lt-ltb r regions (s .pre .1 .0)))
+    ∙ has-set (sees m (item k (getD (s .args .candidates .now) (a .loop .i) 0))) r ∙ rw (lt-ltb r regions (s .pre .0)))
     ∙ sym (c .has .ensures) ∙ e
 
 loop-holds : tie.Need-loop-holds Inv-loop μ-loop
 loop-holds c =
     let s = c .before .before .before .before in
-    (omega arith, s .pre .1 .1, omega arith, refl, λ m k t. keeping-start (s .pre .1 .1))
+    (omega arith, s .pre .1, omega arith, refl, λ m k t. keeping-start (s .pre .1))
 
 mul-number : tie.Need-mul-number Inv-loop μ-loop
 mul-number c = search needs

@@ -6,14 +6,11 @@ use Prim.Native.Nat.{ℕ, _<_}
 use lib.ListN.{length}
 use borrow.Author.Tests.{not-true, not-false}
 use Rattle.region_graph.specs.Size.{regions}
-use Rattle.region_graph.specs.Items.{holds}
 use Rattle.region_graph.specs.Record.{meaning}
-use Rattle.region_graph.specs.Promise.{place-of, holder-set, successor-sets}
+use Rattle.region_graph.specs.Promise.{place-of}
 use Rattle.region_graph.specs.declared.Place.the-variants.{Within}
-use Rattle.region_graph.proofs.Bits.{set-below-lt}
 use Rattle.region_routes.specs.Hooks.{item, shown}
-use Rattle.region_routes.specs.Search.{Searched}
-use Rattle.region_routes.proofs.Judging.{region-inside, successors-long, unreached, reached-layer, walkable, walked-chosen}
+use Rattle.region_routes.proofs.Judging.{region-inside, predecessors-sets, unreached, reached-layer, walkable, walked-chosen}
 use Rattle.region_routes.proofs.Answering.{route-outside, route-unknown, route-cramped, route-answers}
 use Rattle.region_routes.proofs.routes.route.Statement.{statement}
 use Rattle.region_routes.proofs.routes.route.Tie as tie
@@ -24,12 +21,6 @@ place c = sym (c .before .before .before .region-of .ensures) ∙ c .before .pla
 
 inside : (c : tie.After-known-told) → c .before .place .given .0 .0 < regions
 inside c = region-inside (meaning (c .before .before .before .before .before .args .graph)) (c .before .before .before .before .before .pre .good) (c .before .before .before .before .before .args .location) (place c)
-
--- the search over the graph's own sets
-searched : (c : tie.After-search)
-    → (let s = c .before .before .before .before .before .before .before .before .before .before .before in let m = meaning (s .args .graph) in let i = item (s .args .kind) (s .args .number) in
-    Searched (successor-sets m i) (holder-set m i) (c .search .result .sets) (c .search .result .deep) (c .search .result .reached))
-searched c = rw (c .before .before .holders .ensures) at (rw (c .before .before .before .successors .ensures) at (c .search .ensures))
 
 region-of-requires : tie.Need-region-of-requires
 region-of-requires c κs = search needs
@@ -55,38 +46,25 @@ returns-3 c =
     let s = c .before .before .before .before .before .before .before in
     route-cramped (meaning (s .args .graph)) (s .args .location) (s .args .kind) (s .args .number) (s .args .out .now) (place (c .before .before)) (c .before .if1 .left) (c .if2 .taken)
 
-successors-requires : tie.Need-successors-requires
-successors-requires c κs = search needs
-
-holders-requires : tie.Need-holders-requires
-holders-requires c κs = search needs
-
-slice-aggregate-search : tie.Need-slice-aggregate-search
-slice-aggregate-search c = search needs
-
-search-requires : tie.Need-search-requires
-search-requires c κs =
-    let s = c .before .before .before .before .before .before .before .before .before .before in
-    let m = meaning (s .args .graph) in
-    let i = item (s .args .kind) (s .args .number) in
-    (ap length (c .before .before .successors .ensures) ∙ successors-long m i, rw (c .before .holders .ensures) (set-below-lt regions (holds m i)))
+search-for-requires : tie.Need-search-for-requires
+search-for-requires c κs = search needs
 
 has-requires : tie.Need-has-requires
 has-requires c κs = search needs
 
 returns-4 : tie.Need-returns-4
 returns-4 c =
-    let s = c .before .before .before .before .before .before .before .before .before .before .before .before .before in
+    let s = c .before .before .before .before .before .before .before .before .before .before .before .before in
     let m = meaning (s .args .graph) in
     let i = item (s .args .kind) (s .args .number) in
-    route-answers (meaning (s .args .graph)) (s .args .location) (s .args .kind) (s .args .number) (s .args .out .now) (place (c .before .before .before .before .before .before .before .before)) (c .before .before .before .before .before .before .before .if1 .left) (c .before .before .before .before .before .before .if2 .left)
+    route-answers m (s .args .location) (s .args .kind) (s .args .number) (s .args .out .now) (place (c .before .before .before .before .before .before .before)) (c .before .before .before .before .before .before .if1 .left) (c .before .before .before .before .before .if2 .left)
     (ap (λ (p : Option (List ℕ)). shown p (s .args .out .now))
-    (unreached m i (s .pre .good) (searched (c .before .before)) (c .before .before .before .before .before .before .before .before .before .place .given .0 .0) (inside (c .before .before .before .before .before .before .before .before)) (sym (c .before .has .ensures) ∙ not-true _ (c .if3 .taken))))
+    (unreached m i (s .pre .good) (c .before .before .before .before .search-for .ensures .1) (c .before .before .before .before .before .before .before .before .place .given .0 .0) (inside (c .before .before .before .before .before .before .before)) (sym (c .before .has .ensures) ∙ not-true _ (c .if3 .taken))))
 
 distance-requires : tie.Need-distance-requires
 distance-requires c κs =
-    let s = c .before .before .before .before .before .before .before .before .before .before .before .before .before in
-    reached-layer (meaning (s .args .graph)) (item (s .args .kind) (s .args .number)) (s .pre .good) (searched (c .before .before)) (c .before .before .before .before .before .before .before .before .before .place .given .0 .0) (inside (c .before .before .before .before .before .before .before .before))
+    let s = c .before .before .before .before .before .before .before .before .before .before .before .before in
+    reached-layer (meaning (s .args .graph)) (item (s .args .kind) (s .args .number)) (s .pre .good) (c .before .before .before .before .search-for .ensures .1) (c .before .before .before .before .before .before .before .before .place .given .0 .0) (inside (c .before .before .before .before .before .before .before))
     (sym (c .before .has .ensures) ∙ not-false _ (c .if3 .left))
 
 slice-aggregate-walk : tie.Need-slice-aggregate-walk
@@ -94,11 +72,12 @@ slice-aggregate-walk c = search needs
 
 walk-requires : tie.Need-walk-requires
 walk-requires c κs =
-    let s = c .before .before .before .before .before .before .before .before .before .before .before .before .before .before .before .before in
+    let s = c .before .before .before .before .before .before .before .before .before .before .before .before .before .before .before in
     let m = meaning (s .args .graph) in
-    let i = item (s .args .kind) (s .args .number) in (
-      (ap length (c .before .before .before .before .before .before .before .before .successors .ensures) ∙ successors-long m i, c .before .before .before .before .before .before .before .before .before .if2 .left),
-      rw (c .before .before .before .before .before .before .before .before .successors .ensures) (walkable m i (s .pre .good) (searched (c .before .before .before .before .before)) (c .before .before .before .before .before .before .before .before .before .before .before .before .place .given .0 .0) (inside (c .before .before .before .before .before .before .before .before .before .before .before)) (c .before .before .distance .ensures)),
+    let i = item (s .args .kind) (s .args .number) in
+    let e = c .before .before .before .before .before .before .before .search-for .ensures in (
+      (ap length (e .0) ∙ predecessors-sets m i .long, c .before .before .before .before .before .before .before .before .if2 .left),
+      rw (e .0) (walkable m i (s .pre .good) (e .1) (c .before .before .before .before .before .before .before .before .before .before .before .place .given .0 .0) (inside (c .before .before .before .before .before .before .before .before .before .before)) (c .before .before .distance .ensures)),
     )
 
 same-length : tie.Need-same-length
@@ -106,12 +85,12 @@ same-length c = search needs
 
 returns-5 : tie.Need-returns-5
 returns-5 c =
-    let s = c .before .before .before .before .before .before .before .before .before .before .before .before .before .before .before .before .before .before .before in
+    let s = c .before .before .before .before .before .before .before .before .before .before .before .before .before .before .before .before .before .before in
     let m = meaning (s .args .graph) in
     let i = item (s .args .kind) (s .args .number) in
-    route-answers (meaning (s .args .graph)) (s .args .location) (s .args .kind) (s .args .number) (s .args .out .now) (place (c .before .before .before .before .before .before .before .before .before .before .before .before .before .before)) (c .before .before .before .before .before .before .before .before .before .before .before .before .before .if1 .left) (c .before .before .before .before .before .before .before .before .before .before .before .before .if2 .left)
-    (walked-chosen m i (s .pre .good) (searched (c .before .before .before .before .before .before .before .before)) (c .before .before .before .before .before .before .before .before .before .before .before .before .before .before .before .place .given .0 .0) (inside (c .before .before .before .before .before .before .before .before .before .before .before .before .before .before))
-    (rw (c .before .before .before .before .before .before .before .before .before .before .before .successors .ensures) at (c .before .before .walk .ensures)))
+    let e = c .before .before .before .before .before .before .before .before .before .before .search-for .ensures in
+    route-answers m (s .args .location) (s .args .kind) (s .args .number) (s .args .out .now) (place (c .before .before .before .before .before .before .before .before .before .before .before .before .before)) (c .before .before .before .before .before .before .before .before .before .before .before .before .if1 .left) (c .before .before .before .before .before .before .before .before .before .before .before .if2 .left)
+    (walked-chosen m i (s .pre .good) (e .1) (c .before .before .before .before .before .before .before .before .before .before .before .before .before .before .place .given .0 .0) (inside (c .before .before .before .before .before .before .before .before .before .before .before .before .before)) (rw (e .0) at (c .before .before .walk .ensures)))
 
 pub route-spec : {M : Type 1} → statement M
 route-spec =
@@ -123,10 +102,7 @@ route-spec =
     returns
     returns-2
     returns-3
-    successors-requires
-    holders-requires
-    slice-aggregate-search
-    search-requires
+    search-for-requires
     has-requires
     returns-4
     distance-requires

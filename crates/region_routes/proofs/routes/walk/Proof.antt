@@ -1,29 +1,22 @@
 -- `routes::walk` meets its contract. The invariant: the best route from `r`, behind the regions that are written, is the best route.
-use Prim.Native.Nat.{_<_, _^_}
+use Prim.Native.Nat.{_<_}
 use native.Mathlib.Omega.{arith}
-use lib.ListN.{getD, length-set}
+use lib.ListN.{length-set}
 use borrow.Author.Needs.{needs}
 use Rattle.region_graph.specs.Size.{regions}
-use Rattle.region_routes.proofs.Walking.{Walk, stored, in-low, next-low, onward, arrived}
+use Rattle.region_routes.proofs.Walking.{Walk, stored, leading, next-low, onward, arrived}
 use Rattle.region_routes.proofs.routes.walk.Statement.{statement}
 use Rattle.region_routes.proofs.routes.walk.Tie as tie
 
 abbrev Inv-loop : tie.InvT-loop
-Inv-loop out₀ succ deep region sets d₀ i₀ r₀ out d i r = Walk succ sets deep region out₀ out d i r
+Inv-loop out₀ pred deep region sets d₀ i₀ r₀ out d i r = Walk pred sets deep region out₀ out d i r
 
 abbrev μ-loop : tie.MeasureT-loop
-μ-loop out₀ succ deep region sets d₀ i₀ r₀ out d i r = d
-
--- the successor set of `r` fits a word
-word : (c : tie.After-lowest Inv-loop μ-loop)
-    → getD (c .before .before .before .before .before .before .before .args .succ .now) (c .before .before .before .loop .r) 0 < 2 ^ 64
-word c = omega (arith, c .before .shared-slice-known2 .given (c .before .before .before .loop .r))
+μ-loop out₀ pred deep region sets d₀ i₀ r₀ out d i r = d
 
 -- the next region is a region
-low : (c : tie.After-lowest Inv-loop μ-loop) → c .lowest .result < regions
-low c =
-    let s = c .before .before .before .before .before .before .before in
-    next-low (s .pre .1) (c .before .before .before .loop .inv) (search needs) (c .lowest .ensures) (word c)
+low : (c : tie.After-next-to Inv-loop μ-loop) → c .next-to .result < regions
+low c = next-low (c .before .before .before .before .before .before .pre .1) (c .before .before .loop .inv) (search needs) (c .next-to .ensures)
 
 cast-out : tie.Need-cast-out Inv-loop μ-loop
 cast-out c = let w = c .before .before .before .pre .1 in omega (arith, w .small _ _ (search needs) (w .here))
@@ -37,24 +30,14 @@ loop-holds c = let s = c .before .before .before in stored (s .pre .1) (s .args 
 sub-d : tie.Need-sub-d Inv-loop μ-loop
 sub-d c = search needs
 
-mul-lowest : tie.Need-mul-lowest Inv-loop μ-loop
-mul-lowest c = omega (arith, in-low (c .before .before .before .before .before .pre .1) (c .before .loop .inv))
+mul-next-to : tie.Need-mul-next-to Inv-loop μ-loop
+mul-next-to c = search needs
 
-shared-slice-read-lowest : tie.Need-shared-slice-read-lowest Inv-loop μ-loop
-shared-slice-read-lowest c =
-    let s = c .before .before .before .before .before .before in omega (arith, in-low (s .pre .1) (c .before .before .loop .inv), s .pre .0)
+array-read-next-to : tie.Need-array-read-next-to Inv-loop μ-loop
+array-read-next-to c = search needs
 
-mul-lowest-2 : tie.Need-mul-lowest-2 Inv-loop μ-loop
-mul-lowest-2 c = search needs
-
-array-read-lowest : tie.Need-array-read-lowest Inv-loop μ-loop
-array-read-lowest c = search needs
-
-lowest-requires : tie.Need-lowest-requires Inv-loop μ-loop
-lowest-requires c κs = tt
-
-cast-r : tie.Need-cast-r Inv-loop μ-loop
-cast-r c = omega (arith, low c)
+next-to-requires : tie.Need-next-to-requires Inv-loop μ-loop
+next-to-requires c κs = let s = c .before .before .before .before .before in (s .pre .0 .0, leading (s .pre .1) (c .before .loop .inv) (search needs))
 
 add-i : tie.Need-add-i Inv-loop μ-loop
 add-i c = search needs
@@ -69,9 +52,7 @@ loop-less : tie.Need-loop-less Inv-loop μ-loop
 loop-less c = search needs
 
 loop-again : tie.Need-loop-again Inv-loop μ-loop
-loop-again c =
-    let s = c .before .before .before .before .before .before .before in
-    onward (s .pre .1) (c .before .before .before .loop .inv) (search needs) (c .lowest .ensures) (word c)
+loop-again c = onward (c .before .before .before .before .before .before .pre .1) (c .before .before .loop .inv) (search needs) (c .next-to .ensures)
 
 same-length : tie.Need-same-length Inv-loop μ-loop
 same-length c = simp length-set at (c .before .loop .inv .long)
@@ -89,12 +70,9 @@ walk-spec =
     slice-write-out
     loop-holds
     sub-d
-    mul-lowest
-    shared-slice-read-lowest
-    mul-lowest-2
-    array-read-lowest
-    lowest-requires
-    cast-r
+    mul-next-to
+    array-read-next-to
+    next-to-requires
     add-i
     cast-out-2
     slice-write-out-2

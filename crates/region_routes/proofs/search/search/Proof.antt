@@ -5,19 +5,19 @@ use native.Mathlib.Numerals.{add-one}
 use native.Mathlib.Omega.{arith}
 use borrow.Author.Needs.{needs}
 use Rattle.region_graph.specs.Size.{regions}
-use Rattle.region_routes.proofs.SearchLoops.{State, begin, whole, room, turn}
+use Rattle.region_routes.proofs.SearchLoops.{State, last-regions, begin, whole, room, turn}
 use Rattle.region_routes.proofs.search.search.Statement.{statement}
 use Rattle.region_routes.proofs.search.search.Tie as tie
 
 abbrev Inv-loop : tie.InvT-loop
-Inv-loop succ holders sets₀ deep₀ reached₀ prev₀ sets deep reached prev = State succ holders sets deep reached prev
+Inv-loop pred holders sets₀ deep₀ reached₀ prev₀ sets deep reached prev = State pred holders sets deep reached prev
 
 abbrev μ-loop : tie.MeasureT-loop
-μ-loop succ holders sets₀ deep₀ reached₀ prev₀ sets deep reached prev = regions - deep
+μ-loop pred holders sets₀ deep₀ reached₀ prev₀ sets deep reached prev = regions - deep
 
 -- there is a place for one layer more
 fits : (c : tie.Else1 Inv-loop μ-loop) → suc (c .before .before .loop .deep) < regions
-fits c = room (c .before .before .loop .inv) (c .before .before .before .before .pre .0) (c .before .layer .ensures) (omega arith)
+fits c = room (c .before .before .loop .inv) (c .before .layer .ensures) (omega arith)
 
 array-write-sets : tie.Need-array-write-sets Inv-loop μ-loop
 array-write-sets c = search needs
@@ -26,10 +26,10 @@ loop-holds : tie.Need-loop-holds Inv-loop μ-loop
 loop-holds c = begin (search needs) refl refl
 
 layer-requires : tie.Need-layer-requires Inv-loop μ-loop
-layer-requires c κs = search needs
+layer-requires c κs = (c .before .before .pre .0, last-regions (c .loop .inv))
 
 returns : tie.Need-returns Inv-loop μ-loop
-returns c = whole (c .before .before .loop .inv) (c .before .before .before .before .pre .0) (c .before .layer .ensures) (c .if1 .taken)
+returns c = whole (c .before .before .loop .inv) (c .before .layer .ensures) (c .if1 .taken)
 
 add-deep : tie.Need-add-deep Inv-loop μ-loop
 add-deep c = search needs
@@ -44,7 +44,7 @@ loop-less : tie.Need-loop-less Inv-loop μ-loop
 loop-less c = omega (arith, fits c)
 
 loop-again : tie.Need-loop-again Inv-loop μ-loop
-loop-again c = rw add-one (turn (c .before .before .loop .inv) (c .before .before .before .before .pre .0) (c .before .layer .ensures) (omega arith))
+loop-again c = rw add-one (turn (c .before .before .loop .inv) (c .before .layer .ensures) (omega arith))
 
 pub search-spec : {M : Type 1} → statement M
 search-spec =

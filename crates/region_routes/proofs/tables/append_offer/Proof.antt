@@ -16,14 +16,14 @@ append-one-requires c κs = (omega (arith, rw (c .before .before .enum-told .giv
 enum-told-2 : tie.Need-enum-told-2
 enum-told-2 c = search needs
 
-append-requires : tie.Need-append-requires
-append-requires c κs = (packages-stored (c .before .before .before .before .before .args .b) (c .before .before .before .before .before .pre .0), rw (c .before .before .enum-told2 .given .1) at (c .before .before .before .before .before .pre .1))
+append-provided-requires : tie.Need-append-provided-requires
+append-provided-requires c κs = (packages-stored (c .before .before .before .before .before .args .b) (c .before .before .before .before .before .pre .0), rw (c .before .before .enum-told2 .given .1) at (c .before .before .before .before .before .pre .1))
 
 enum-told-3 : tie.Need-enum-told-3
 enum-told-3 c = search needs
 
-append-requires-2 : tie.Need-append-requires-2
-append-requires-2 c κs = (services-stored (c .before .before .before .before .before .args .b) (c .before .before .before .before .before .pre .0), rw (c .before .before .enum-told3 .given .1) at (c .before .before .before .before .before .pre .1))
+append-provided-requires-2 : tie.Need-append-provided-requires-2
+append-provided-requires-2 c κs = (services-stored (c .before .before .before .before .before .args .b) (c .before .before .before .before .before .pre .0), rw (c .before .before .enum-told3 .given .1) at (c .before .before .before .before .before .pre .1))
 
 same-length : tie.Need-same-length
 same-length c = search needs
@@ -35,13 +35,13 @@ same-length-2 : tie.Need-same-length-2
 same-length-2 c = search needs
 
 returns-2 : tie.Need-returns-2
-returns-2 c = rw (c .before .before .before .before .before .enum-told2 .given .1) (c .before .before .append .ensures)
+returns-2 c = rw (c .before .before .before .before .before .enum-told2 .given .1) (c .before .before .append-provided .ensures)
 
 same-length-3 : tie.Need-same-length-3
 same-length-3 c = search needs
 
 returns-3 : tie.Need-returns-3
-returns-3 c = rw (c .before .before .before .before .before .enum-told3 .given .1) (c .before .before .append2 .ensures)
+returns-3 c = rw (c .before .before .before .before .before .enum-told3 .given .1) (c .before .before .append-provided2 .ensures)
 
 pub append-offer-spec : {M : Type 1} → statement M
 append-offer-spec =
@@ -51,9 +51,9 @@ append-offer-spec =
     wide-requires
     append-one-requires
     enum-told-2
-    append-requires
+    append-provided-requires
     enum-told-3
-    append-requires-2
+    append-provided-requires-2
     same-length
     returns
     same-length-2

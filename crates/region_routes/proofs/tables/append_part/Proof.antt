@@ -1,26 +1,27 @@
 use borrow.Author.Needs.{needs}
+use borrow.Author.Tests.{eq-eqb, ne-eqb}
 use native.Mathlib.Omega.{arith}
 use Rattle.region_graph.proofs.Storing.{listed-stored}
 use Rattle.region_routes.proofs.tables.append_part.Statement.{statement}
 use Rattle.region_routes.proofs.tables.append_part.Tie as tie
 
 append-one-requires : tie.Need-append-one-requires
-append-one-requires c κs = (omega (arith, rw (c .before .if1 .taken) at (c .before .before .before .pre .1)), omega arith)
+append-one-requires c κs = (omega (arith, rw (eq-eqb _ _ (c .before .if1 .taken)) at (c .before .before .before .before .pre .1)), omega arith)
 
 same-length : tie.Need-same-length
 same-length c = search needs
 
 returns : tie.Need-returns
-returns c = rw (c .before .before .before .before .if1 .taken) (c .before .before .append-one .ensures)
+returns c = rw (eq-eqb _ _ (c .before .before .before .before .if1 .taken)) (c .before .before .append-one .ensures)
 
 append-requires : tie.Need-append-requires
-append-requires c κs = (listed-stored (c .before .before .before .before .args .part) (c .before .before .before .before .pre .0) (c .before .before .if1 .left), rw (c .before .before .if1 .left) at (c .before .before .before .before .pre .1))
+append-requires c κs = (listed-stored (c .before .before .before .before .args .part) (c .before .before .before .before .pre .0) (c .before .if1 .left), rw (ne-eqb _ _ (c .before .if1 .left)) at (c .before .before .before .before .pre .1))
 
 same-length-2 : tie.Need-same-length-2
 same-length-2 c = search needs
 
 returns-2 : tie.Need-returns-2
-returns-2 c = rw (c .before .before .before .before .before .if1 .left) (c .before .before .append .ensures)
+returns-2 c = rw (ne-eqb _ _ (c .before .before .before .before .if1 .left)) (c .before .before .append .ensures)
 
 pub append-part-spec : {M : Type 1} → statement M
 append-part-spec =

@@ -7,7 +7,7 @@ use lib.ListN.{length, take}
 use Rattle.region_graph.specs.Size.{most-bundles, most-connections, most-provided, most-listed}
 use Rattle.region_graph.specs.Record.{meaning, store-bundle, bundle-in, no-bundle}
 use Rattle.region_graph.proofs.Arrays.{Filled}
-use Rattle.region_graph.proofs.Storing.{bundle-back}
+use Rattle.region_graph.proofs.Storing.{bundles-each}
 use Rattle.region_routes.specs.Hooks.{kind-number}
 use Rattle.region_routes.specs.Tables.{gather, offer, Appended}
 use Rattle.region_routes.proofs.Entries.{appended-none, gathered-step, gathered-room, gathered-end, offers-few, bundle-placed}
@@ -58,7 +58,7 @@ append-offer-requires c κs =
     let h = filled (a .before) in
     let k = kind-number (s .args .kind) in (
       bundle-placed m (s .pre .good) h (a .loop .i) _ (omega arith),
-      gathered-room bundle-in bundle-back (offer k) h (a .loop .i) (omega arith) _ no-bundle (a .loop .inv .3) most-provided (omega (arith, a .loop .inv .2)) (offers-few m (s .pre .good) k),
+      gathered-room bundle-in (offer k) (bundles-each (meaning (s .args .graph) .bundles)) h (a .loop .i) (omega arith) _ no-bundle (a .loop .inv .3) most-provided (omega (arith, a .loop .inv .2)) (offers-few m (s .pre .good) k),
     )
 
 loop-less : tie.Need-loop-less Inv-loop μ-loop
@@ -71,7 +71,7 @@ loop-again c =
       omega arith,
       a .loop .inv .1,
       search needs,
-      gathered-step bundle-in bundle-back (offer (kind-number (s .args .kind))) (filled (a .before)) (a .loop .i) (omega arith) _ no-bundle (a .loop .inv .3) (c .before .append-offer .ensures),
+      gathered-step bundle-in (offer (kind-number (s .args .kind))) (bundles-each (meaning (s .args .graph) .bundles)) (filled (a .before)) (a .loop .i) (omega arith) _ no-bundle (a .loop .inv .3) (c .before .append-offer .ensures),
     )
 
 returns : tie.Need-returns Inv-loop μ-loop
@@ -81,7 +81,7 @@ returns c =
     let h = filled (a .before) in
     let m = meaning (s .args .graph) in
     let l : a .before .bundle-count .result ≤ a .loop .i = omega arith in
-    gathered-end bundle-in bundle-back (offer (kind-number (s .args .kind))) h most-provided l (omega (arith, a .loop .inv .2)) (offers-few m (s .pre .good) (kind-number (s .args .kind))) (a .loop .inv .3)
+    gathered-end bundle-in (offer (kind-number (s .args .kind))) (bundles-each (meaning (s .args .graph) .bundles)) h most-provided l (omega (arith, a .loop .inv .2)) (offers-few m (s .pre .good) (kind-number (s .args .kind))) (a .loop .inv .3)
 
 pub offers-spec : {M : Type 1} → statement M
 offers-spec =

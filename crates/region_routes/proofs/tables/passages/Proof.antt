@@ -7,7 +7,7 @@ use lib.ListN.{length, take}
 use Rattle.region_graph.specs.Size.{most-connections, most-listed}
 use Rattle.region_graph.specs.Record.{meaning, store-connection, connection-in, no-connection}
 use Rattle.region_graph.proofs.Arrays.{Filled}
-use Rattle.region_graph.proofs.Storing.{connection-back}
+use Rattle.region_graph.proofs.Storing.{connections-each, short-connections}
 use Rattle.region_routes.specs.Hooks.{kind-number}
 use Rattle.region_routes.specs.Tables.{gather, passage, Appended}
 use Rattle.region_routes.proofs.Entries.{appended-none, gathered-step, gathered-room, gathered-end, passages-few, connection-placed, connection-ends}
@@ -60,7 +60,7 @@ append-passage-requires c κs =
       connection-placed m (s .pre .good) h (a .loop .i) _ (omega arith),
       (
         connection-ends m (s .pre .good) h (a .loop .i) _ (omega arith),
-        gathered-room connection-in connection-back (passage k) h (a .loop .i) (omega arith) _ no-connection (a .loop .inv .3) most-listed (omega (arith, a .loop .inv .2)) (passages-few m (s .pre .good) k),
+        gathered-room connection-in (passage k) (connections-each (meaning (s .args .graph) .connections) (short-connections (s .pre .good))) h (a .loop .i) (omega arith) _ no-connection (a .loop .inv .3) most-listed (omega (arith, a .loop .inv .2)) (passages-few m (s .pre .good) k),
       ),
     )
 
@@ -74,7 +74,7 @@ loop-again c =
       omega arith,
       a .loop .inv .1,
       search needs,
-      gathered-step connection-in connection-back (passage (kind-number (s .args .kind))) (filled (a .before)) (a .loop .i) (omega arith) _ no-connection (a .loop .inv .3) (c .before .append-passage .ensures),
+      gathered-step connection-in (passage (kind-number (s .args .kind))) (connections-each (meaning (s .args .graph) .connections) (short-connections (s .pre .good))) (filled (a .before)) (a .loop .i) (omega arith) _ no-connection (a .loop .inv .3) (c .before .append-passage .ensures),
     )
 
 returns : tie.Need-returns Inv-loop μ-loop
@@ -84,7 +84,7 @@ returns c =
     let h = filled (a .before) in
     let m = meaning (s .args .graph) in
     let l : a .before .connection-count .result ≤ a .loop .i = omega arith in
-    gathered-end connection-in connection-back (passage (kind-number (s .args .kind))) h most-listed l (omega (arith, a .loop .inv .2)) (passages-few m (s .pre .good) (kind-number (s .args .kind))) (a .loop .inv .3)
+    gathered-end connection-in (passage (kind-number (s .args .kind))) (connections-each (meaning (s .args .graph) .connections) (short-connections (s .pre .good))) h most-listed l (omega (arith, a .loop .inv .2)) (passages-few m (s .pre .good) (kind-number (s .args .kind))) (a .loop .inv .3)
 
 pub passages-spec : {M : Type 1} → statement M
 passages-spec =

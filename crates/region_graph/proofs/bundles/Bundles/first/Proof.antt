@@ -10,7 +10,7 @@ use Rattle.region_graph.specs.Record.{bundles-of, bundle-in, no-bundle}
 use Rattle.region_graph.specs.Places.{bundle-meets}
 use Rattle.region_graph.proofs.Lists.{position-here, position-later, position-end}
 use Rattle.region_graph.proofs.Arrays.{filled-length, filled-inside, filled-means}
-use Rattle.region_graph.proofs.Storing.{bundles-filled, bundle-back}
+use Rattle.region_graph.proofs.Storing.{bundles-filled, bundles-each}
 use Rattle.region_graph.proofs.bundles.Bundles.first.Statement.{statement}
 use Rattle.region_graph.proofs.bundles.Bundles.first.Tie as tie
 
@@ -30,7 +30,7 @@ tested : (c : tie.After-bundle-meets Inv-loop μ-loop) {b : Bool} → c .bundle-
 tested c e =
     let a = c .before .before .before in
     let s = a .before .args in
-    ap (bundle-meets (s .test)) (sym (filled-means (bundles-filled (s .t1) (a .before .pre)) bundle-in bundle-back (a .loop .i) _ no-bundle (omega arith)))
+    ap (bundle-meets (s .test)) (sym (filled-means (bundles-filled (s .t1) (a .before .pre)) bundle-in (bundles-each (bundles-of (s .t1))) (a .loop .i) _ no-bundle (omega arith)))
     ∙ sym (c .bundle-meets .ensures) ∙ e
 
 loop-holds : tie.Need-loop-holds Inv-loop μ-loop

@@ -10,7 +10,7 @@ use Rattle.region_graph.specs.Lists.{keep}
 use Rattle.region_graph.specs.Record.{bundles-of, bundle-in, store-bundle, no-bundle}
 use Rattle.region_graph.specs.Places.{bundle-meets}
 use Rattle.region_graph.proofs.Arrays.{Filled, filled-none, filled-at, filled-inside, filled-means, filled-took, filled-left}
-use Rattle.region_graph.proofs.Storing.{bundles-filled, filled-bundles, bundle-back, no-bundles}
+use Rattle.region_graph.proofs.Storing.{bundles-filled, filled-bundles, bundles-each, no-bundles}
 use Rattle.region_graph.proofs.bundles.Bundles.without.Statement.{statement}
 use Rattle.region_graph.proofs.bundles.Bundles.without.Tie as tie
 
@@ -31,7 +31,7 @@ tested : (c : tie.After-bundle-meets Inv-loop μ-loop) {b : Bool} → not (c .bu
 tested c e =
     let a = c .before .before .before in
     let s = a .before .before .before in
-    ap (λ b. not (bundle-meets (s .args .test) b)) (sym (filled-means (bundles-filled (s .args .t1) (s .pre)) bundle-in bundle-back (a .loop .i) _ no-bundle (omega arith)))
+    ap (λ b. not (bundle-meets (s .args .test) b)) (sym (filled-means (bundles-filled (s .args .t1) (s .pre)) bundle-in (bundles-each (bundles-of (s .args .t1))) (a .loop .i) _ no-bundle (omega arith)))
     ∙ ap not (sym (c .bundle-meets .ensures)) ∙ e
 
 none-requires : tie.Need-none-requires Inv-loop μ-loop

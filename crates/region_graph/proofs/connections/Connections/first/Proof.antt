@@ -10,7 +10,7 @@ use Rattle.region_graph.specs.Record.{connections-of, connection-in, no-
 use Rattle.region_graph.specs.Places.{connection-meets}
 use Rattle.region_graph.proofs.Lists.{position-here, position-later, position-end}
 use Rattle.region_graph.proofs.Arrays.{filled-length, filled-inside, filled-means}
-use Rattle.region_graph.proofs.Storing.{connections-filled, connection-stored, connection-back}
+use Rattle.region_graph.proofs.Storing.{connections-filled, connection-stored, connections-each}
 use Rattle.region_graph.proofs.connections.Connections.first.Statement.{statement}
 use Rattle.region_graph.proofs.connections.Connections.first.Tie as tie
 
@@ -30,7 +30,7 @@ tested : (c : tie.After-connection-meets Inv-loop μ-loop) {b : Bool} → c .con
 tested c e =
     let a = c .before .before .before in
     let s = a .before .args in
-    ap (connection-meets (s .test)) (sym (filled-means (connections-filled (s .t1) (a .before .pre)) connection-in connection-back (a .loop .i) _ no-connection (omega arith)))
+    ap (connection-meets (s .test)) (sym (filled-means (connections-filled (s .t1) (a .before .pre)) connection-in (connections-each (connections-of (s .t1)) (a .before .pre .good .each)) (a .loop .i) _ no-connection (omega arith)))
     ∙ sym (c .connection-meets .ensures) ∙ e
 
 loop-holds : tie.Need-loop-holds Inv-loop μ-loop

@@ -10,7 +10,7 @@ use Rattle.region_graph.specs.Lists.{keep}
 use Rattle.region_graph.specs.Record.{connections-of, connection-in, store-connection, no-connection}
 use Rattle.region_graph.specs.Places.{connection-meets}
 use Rattle.region_graph.proofs.Arrays.{Filled, filled-none, filled-at, filled-inside, filled-means, filled-took, filled-left}
-use Rattle.region_graph.proofs.Storing.{connections-filled, connection-stored, filled-connections, connection-back, no-connections}
+use Rattle.region_graph.proofs.Storing.{connections-filled, connection-stored, filled-connections, connections-each, no-connections}
 use Rattle.region_graph.proofs.connections.Connections.without.Statement.{statement}
 use Rattle.region_graph.proofs.connections.Connections.without.Tie as tie
 
@@ -31,7 +31,7 @@ tested : (c : tie.After-connection-meets Inv-loop μ-loop) {b : Bool} → not (c
 tested c e =
     let a = c .before .before .before in
     let s = a .before .before .before in
-    ap (λ b. not (connection-meets (s .args .test) b)) (sym (filled-means (connections-filled (s .args .t1) (s .pre)) connection-in connection-back (a .loop .i) _ no-connection (omega arith)))
+    ap (λ b. not (connection-meets (s .args .test) b)) (sym (filled-means (connections-filled (s .args .t1) (s .pre)) connection-in (connections-each (connections-of (s .args .t1)) (s .pre .good .each)) (a .loop .i) _ no-connection (omega arith)))
     ∙ ap not (sym (c .connection-meets .ensures)) ∙ e
 
 none-requires : tie.Need-none-requires Inv-loop μ-loop

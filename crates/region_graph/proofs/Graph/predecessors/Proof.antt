@@ -9,14 +9,14 @@ use Rattle.region_graph.specs.Size.{most-connections}
 use Rattle.region_graph.specs.Sets.{one}
 use Rattle.region_graph.specs.Items.{passes}
 use Rattle.region_graph.specs.Model.{Connection}
-use Rattle.region_graph.specs.Promise.{successor-sets}
+use Rattle.region_graph.specs.Promise.{predecessor-sets}
 use Rattle.region_graph.specs.Record.{meaning, connections-of, connection-in, no-connection}
 use Rattle.region_graph.specs.declared.connections.StoredConnection.{StoredConnection}
 use Rattle.region_graph.proofs.Arrays.{filled-at, filled-inside, filled-means}
-use Rattle.region_graph.proofs.Storing.{connections-stored, connections-filled, connection-stored, connection-back}
-use Rattle.region_graph.proofs.Views.{led, led-none, led-took, led-left, source-region}
-use Rattle.region_graph.proofs.Graph.successors.Statement.{statement}
-use Rattle.region_graph.proofs.Graph.successors.Tie as tie
+use Rattle.region_graph.proofs.Storing.{connections-stored, connections-filled, connection-stored, connections-each}
+use Rattle.region_graph.proofs.Views.{led, led-none, led-took, led-left, target-region}
+use Rattle.region_graph.proofs.Graph.predecessors.Statement.{statement}
+use Rattle.region_graph.proofs.Graph.predecessors.Tie as tie
 
 abbrev Inv-loop : tie.InvT-loop
 Inv-loop item connections count sets₀ i₀ sets i =
@@ -34,7 +34,7 @@ tested c e =
     let s = a .before .before in
     let h = connections-filled (s .args .self .connections) (connections-stored (s .args .self) (s .pre)) in
     ap (λ (x : Connection). passes (s .args .item) (x .filter))
-    (sym (filled-means h connection-in connection-back (a .loop .i) _ no-connection (omega arith)))
+    (sym (filled-means h connection-in (connections-each (connections-of (s .args .self .connections)) (connections-stored (s .args .self) (s .pre) .good .each)) (a .loop .i) _ no-connection (omega arith)))
     ∙ sym (c .connection-passes .ensures) ∙ e
 
 loop-holds : tie.Need-loop-holds Inv-loop μ-loop
@@ -58,15 +58,15 @@ connection-passes-requires c κs =
     let s = a .before .before in
     connection-stored (s .args .self .connections) (connections-stored (s .args .self) (s .pre)) (a .loop .i) _ (omega arith)
 
--- the source of the connection at the loop's place is a region
+-- the target of the connection at the loop's place is a region
 array-read-sets : tie.Need-array-read-sets Inv-loop μ-loop
 array-read-sets c =
     let a = c .before .before .before .before .before in
     let s = a .before .before in
-    source-region (s .args .self) (s .pre) (a .loop .i) _ (omega arith)
+    target-region (s .args .self) (s .pre) (a .loop .i) _ (omega arith)
 
-cast-source : tie.Need-cast-source Inv-loop μ-loop
-cast-source c = omega (arith, array-read-sets c)
+cast-target : tie.Need-cast-target Inv-loop μ-loop
+cast-target c = omega (arith, array-read-sets c)
 
 mul-sets : tie.Need-mul-sets Inv-loop μ-loop
 mul-sets c = omega (arith, array-read-sets c)
@@ -91,8 +91,8 @@ loop-again c =
       omega arith,
       a .loop .inv .1,
       led-took (λ c. c .source) (λ c. c .target) (λ c. passes (s .args .item) (c .filter)) (connections-of (s .args .self .connections)) (a .loop .i) no-connection (filled-inside h (a .loop .i) (omega arith)) (a .loop .inv .2)
-          (ap (λ (x : StoredConnection). x .source) (filled-at h (a .loop .i) _ no-connection (omega arith)))
-          (c .one .ensures ∙ ap (λ (x : StoredConnection). one (x .target)) (filled-at h (a .loop .i) _ no-connection (omega arith)))
+          (ap (λ (x : StoredConnection). x .target) (filled-at h (a .loop .i) _ no-connection (omega arith)))
+          (c .one .ensures ∙ ap (λ (x : StoredConnection). one (x .source)) (filled-at h (a .loop .i) _ no-connection (omega arith)))
           (array-read-sets (c .before))
           (tested (c .before .before .before) (c .before .before .if1 .taken)),
     )
@@ -113,7 +113,7 @@ loop-again-2 c =
     )
 
 returns : tie.Need-returns Inv-loop μ-loop
-unfolding meaning led successor-sets
+unfolding meaning led predecessor-sets
 returns c =
     let a = c .before in
     let s = a .before .before in
@@ -121,8 +121,8 @@ returns c =
     let l : length (connections-of (s .args .self .connections)) ≤ a .loop .i = omega (arith, h .counted) in
     a .loop .inv .2 ∙ ap (led (λ c. c .source) (λ c. c .target) (λ c. passes (s .args .item) (c .filter))) (take-all (a .loop .i) (connections-of (s .args .self .connections)) l)
 
-pub successors-spec : {M : Type 1} → statement M
-successors-spec =
+pub predecessors-spec : {M : Type 1} → statement M
+predecessors-spec =
     tie.close
     (tie.spec
     Inv-loop
@@ -132,7 +132,7 @@ successors-spec =
     element-copy-out-c
     add-i
     connection-passes-requires
-    cast-source
+    cast-target
     mul-sets
     array-read-sets
     one-requires

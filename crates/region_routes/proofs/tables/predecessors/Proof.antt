@@ -1,15 +1,13 @@
 use mathlib.Core.Path.{_≡_, refl, sym, ap, _∙_}
-use Prim.Native.Nat.{_-_, _≤_, _<_}
+use Prim.Native.Nat.{_-_, _≤_}
 use native.Mathlib.Omega.{arith}
 use borrow.Author.Needs.{needs}
 use lib.ListN.{length, take}
 use lib.Seq.{take-all}
-use Rattle.region_graph.specs.Size.{regions}
-use Rattle.region_graph.proofs.Lists.{all-at}
 use Rattle.region_graph.proofs.Views.{led, led-none, led-took, led-left}
 use Rattle.region_routes.specs.Tables.{source-in, target-in, of-number, led-in}
-use Rattle.region_routes.proofs.tables.successors.Statement.{statement}
-use Rattle.region_routes.proofs.tables.successors.Tie as tie
+use Rattle.region_routes.proofs.tables.predecessors.Statement.{statement}
+use Rattle.region_routes.proofs.tables.predecessors.Tie as tie
 
 abbrev Inv-loop : tie.InvT-loop
 Inv-loop table number sets₀ i₀ sets i = (i ≤ length table) × (sets ≡ led source-in target-in (of-number number) (take i table))
@@ -33,10 +31,7 @@ of-number-requires : tie.Need-of-number-requires Inv-loop μ-loop
 of-number-requires c κs = search needs
 
 array-read-sets : tie.Need-array-read-sets Inv-loop μ-loop
-array-read-sets c =
-    let a = c .before .before .before .before in
-    let s = a .before .before in
-    all-at (λ e. source-in e < regions) (s .args .table .now) (a .loop .i) 0 (omega arith) (s .pre)
+array-read-sets c = omega arith
 
 mul-sets : tie.Need-mul-sets Inv-loop μ-loop
 mul-sets c = omega (arith, array-read-sets c)
@@ -85,8 +80,8 @@ returns c =
     let s = a .before .before in
     a .loop .inv .1 ∙ ap (led source-in target-in (of-number (s .args .number))) (take-all (a .loop .i) (s .args .table .now) (omega arith))
 
-pub successors-spec : {M : Type 1} → statement M
-successors-spec =
+pub predecessors-spec : {M : Type 1} → statement M
+predecessors-spec =
     tie.close
     (tie.spec
     Inv-loop

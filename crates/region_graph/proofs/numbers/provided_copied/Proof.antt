@@ -1,0 +1,68 @@
+use mathlib.Core.Path.{_≡_}
+use Prim.Native.Nat.{ℕ, _-_, _≤_}
+use native.Mathlib.Omega.{arith}
+use borrow.Author.Needs.{needs}
+use lib.ListN.{length, take}
+use lib.Seq.{take-all}
+use Rattle.region_graph.specs.Size.{most-provided}
+use Rattle.region_graph.proofs.Arrays.{Filled, filled-next}
+use Rattle.region_graph.proofs.Storing.{filled-provided, none-provided}
+use Rattle.region_graph.proofs.numbers.provided_copied.Statement.{statement}
+use Rattle.region_graph.proofs.numbers.provided_copied.Tie as tie
+
+abbrev Inv-loop : tie.InvT-loop
+Inv-loop list items₀ i₀ items i = (i ≤ length list) × (length list ≤ most-provided) × Filled (λ x. x) 0 most-provided items i (take i list)
+
+abbrev μ-loop : tie.MeasureT-loop
+μ-loop list items₀ i₀ items i = length list - i
+
+none-provided-requires : tie.Need-none-provided-requires Inv-loop μ-loop
+none-provided-requires c κs = search needs
+
+loop-holds : tie.Need-loop-holds Inv-loop μ-loop
+loop-holds c = (omega arith, c .before .before .before .pre, none-provided (c .before .none-provided .ensures))
+
+mul-items : tie.Need-mul-items Inv-loop μ-loop
+mul-items c = search needs
+
+shared-slice-read-items : tie.Need-shared-slice-read-items Inv-loop μ-loop
+shared-slice-read-items c = search needs
+
+mul-items-2 : tie.Need-mul-items-2 Inv-loop μ-loop
+mul-items-2 c = search needs
+
+array-write-items : tie.Need-array-write-items Inv-loop μ-loop
+array-write-items c = search needs
+
+add-i : tie.Need-add-i Inv-loop μ-loop
+add-i c = search needs
+
+loop-less : tie.Need-loop-less Inv-loop μ-loop
+loop-less c = search needs
+
+loop-again : tie.Need-loop-again Inv-loop μ-loop
+loop-again c =
+    let a = c .before .before in
+    (omega arith, a .loop .inv .1, filled-next (a .before .before .before .before .args .list .now) (a .loop .i) 0 (omega arith) (a .loop .inv .2) (omega arith))
+
+returns : tie.Need-returns Inv-loop μ-loop
+returns c =
+    let a = c .before in
+    rw (take-all (a .loop .i) (a .before .before .before .before .args .list .now) (omega arith)) at (filled-provided (a .loop .inv .2))
+
+pub provided-copied-spec : {M : Type 1} → statement M
+provided-copied-spec =
+    tie.close
+    (tie.spec
+    Inv-loop
+    μ-loop
+    none-provided-requires
+    loop-holds
+    mul-items
+    shared-slice-read-items
+    mul-items-2
+    array-write-items
+    add-i
+    loop-less
+    loop-again
+    returns)

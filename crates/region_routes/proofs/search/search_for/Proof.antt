@@ -1,0 +1,39 @@
+use borrow.Author.Needs.{needs}
+use Rattle.region_graph.specs.Size.{regions}
+use Rattle.region_graph.specs.Items.{holds}
+use Rattle.region_graph.specs.Record.{meaning}
+use Rattle.region_graph.proofs.Bits.{set-below-lt}
+use Rattle.region_routes.proofs.Judging.{predecessors-sets}
+use Rattle.region_routes.proofs.search.search_for.Statement.{statement}
+use Rattle.region_routes.proofs.search.search_for.Tie as tie
+
+predecessors-requires : tie.Need-predecessors-requires
+predecessors-requires c κs = search needs
+
+holders-requires : tie.Need-holders-requires
+holders-requires c κs = search needs
+
+slice-aggregate-search : tie.Need-slice-aggregate-search
+slice-aggregate-search c = search needs
+
+search-requires : tie.Need-search-requires
+search-requires c κs =
+    let s = c .before .before .before in
+    let m = meaning (s .args .graph) in
+    (rw (c .before .before .predecessors .ensures) (predecessors-sets m (s .args .item)), rw (c .before .holders .ensures) (set-below-lt regions (holds m (s .args .item))))
+
+returns : tie.Need-returns
+returns c = (
+  c .before .before .before .predecessors .ensures,
+  rw (c .before .before .holders .ensures) at (rw (c .before .before .before .predecessors .ensures) at (c .search .ensures)),
+)
+
+pub search-for-spec : {M : Type 1} → statement M
+search-for-spec =
+    tie.close
+    (tie.spec
+    predecessors-requires
+    holders-requires
+    slice-aggregate-search
+    search-requires
+    returns)

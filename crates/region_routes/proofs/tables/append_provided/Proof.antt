@@ -1,0 +1,91 @@
+use mathlib.Core.Path.{_≡_, refl, ap, _∙_}
+use mathlib.Core.List.{map}
+use Prim.Native.Nat.{ℕ, _-_, _≤_}
+use native.Mathlib.Omega.{arith}
+use borrow.Author.Needs.{needs}
+use lib.ListN.{length, take}
+use lib.Seq.{take-all}
+use Rattle.region_graph.specs.Size.{most-provided}
+use Rattle.region_graph.specs.Record.{provided-of}
+use Rattle.region_graph.proofs.Arrays.{filled-at, filled-inside}
+use Rattle.region_graph.proofs.Storing.{provided-filled}
+use Rattle.region_routes.specs.Tables.{entry, Appended}
+use Rattle.region_routes.proofs.Entries.{appended-none, appended-room, appended-next}
+use Rattle.region_routes.proofs.tables.append_provided.Statement.{statement}
+use Rattle.region_routes.proofs.tables.append_provided.Tie as tie
+
+abbrev Inv-loop : tie.InvT-loop
+Inv-loop out₀ at place list count n₀ i₀ out n i =
+    (i ≤ list .count) × (list .count ≤ most-provided) × (length out ≡ length out₀) × Appended out₀ at (map (λ x. entry x place) (take i (provided-of list))) out n
+
+abbrev μ-loop : tie.MeasureT-loop
+μ-loop out₀ at place list count n₀ i₀ out n i = list .count - i
+
+loop-holds : tie.Need-loop-holds Inv-loop μ-loop
+loop-holds c =
+    let s = c .before in
+    (omega arith, rw (provided-filled (s .args .t3) (s .pre .0) .counted) (s .pre .0 .good), refl, appended-none)
+
+mul-wide : tie.Need-mul-wide Inv-loop μ-loop
+mul-wide c = search needs
+
+element-copy-out-wide : tie.Need-element-copy-out-wide Inv-loop μ-loop
+element-copy-out-wide c = search needs
+
+wide-requires : tie.Need-wide-requires Inv-loop μ-loop
+wide-requires c κs = search needs
+
+append-one-requires : tie.Need-append-one-requires Inv-loop μ-loop
+append-one-requires c κs =
+    let a = c .before .before .before .before in
+    let s = a .before .before in
+    let h = provided-filled (s .args .t3) (s .pre .0) in (
+      appended-room _ (provided-of (s .args .t3)) (a .loop .i) (filled-inside h (a .loop .i) (omega arith)) (a .loop .inv .3) (s .pre .1) (a .loop .inv .2),
+      omega (arith, c .before .wide .ensures .1),
+    )
+
+add-i : tie.Need-add-i Inv-loop μ-loop
+add-i c = search needs
+
+loop-less : tie.Need-loop-less Inv-loop μ-loop
+loop-less c = search needs
+
+loop-again : tie.Need-loop-again Inv-loop μ-loop
+loop-again c =
+    let a = c .before .before .before .before .before .before .before in
+    let s = a .before .before in
+    let h = provided-filled (s .args .t3) (s .pre .0) in (
+      omega arith,
+      a .loop .inv .1,
+      search needs,
+      appended-next (λ x. entry x (s .args .place)) (provided-of (s .args .t3)) (a .loop .i) (filled-inside h (a .loop .i) (omega arith)) (a .loop .inv .3)
+          (ap (λ (x : ℕ). entry x (s .args .place)) (c .before .before .before .before .wide .ensures .0 ∙ filled-at h (a .loop .i) _ 0 (omega arith)))
+          (c .before .before .append-one .ensures),
+    )
+
+same-length : tie.Need-same-length Inv-loop μ-loop
+same-length c = search needs
+
+returns : tie.Need-returns Inv-loop μ-loop
+returns c =
+    let a = c .before in
+    let s = a .before .before in
+    let h = provided-filled (s .args .t3) (s .pre .0) in
+    rw (take-all (a .loop .i) (provided-of (s .args .t3)) (omega (arith, h .counted))) at (a .loop .inv .3)
+
+pub append-provided-spec : {M : Type 1} → statement M
+append-provided-spec =
+    tie.close
+    (tie.spec
+    Inv-loop
+    μ-loop
+    loop-holds
+    mul-wide
+    element-copy-out-wide
+    wide-requires
+    append-one-requires
+    add-i
+    loop-less
+    loop-again
+    same-length
+    returns)

@@ -127,8 +127,8 @@ held-room m l k i h =
       joined-few [] (each f (take i bs)),
       each-within f bs i (length bs) no-bundle h (omega arith),
       ap (λ (xs : List Bundle). length (each f xs)) (take-length bs),
-      each-most (LegalBundle (m .regions)) f most-provided (λ b x. provided-few (m .regions) b x k) bs (l .bundles-legal),
-      l .bundles-few,
+      each-most (LegalBundle (m .regions)) f most-provided (λ b x. provided-few (m .regions) b x k) bs (l .bundles-legal .each),
+      l .bundles-legal .few,
     )
 
 -- the different numbers of a list are those that it has

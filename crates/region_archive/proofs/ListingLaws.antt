@@ -101,7 +101,7 @@ place-rising (b ∷ bs) r (suc i) h =
 
 pub place-own : (m : Model) → Legal m → (i : ℕ) → i < length (m .bundles)
     → place-of (m .bundles) (getD (m .bundles) i no-bundle .location) ≡ Within (getD (m .bundles) i no-bundle .region)
-place-own m l i h = place-rising (m .bundles) (ascends-rising bundle-before strict-bundles (m .bundles) (l .bundles-ascend)) i h
+place-own m l i h = place-rising (m .bundles) (ascends-rising bundle-before strict-bundles (m .bundles) (l .bundles-legal .ascend)) i h
 
 field-few : (j n end : ℕ) → n < 10 ^ suc j → length (field n end) ≤ suc (suc j)
 field-few j n end h = omega (arith, length-append (decimal n) (end ∷ []), decimal-few j n h)
@@ -124,14 +124,14 @@ module _ (m : Model) (l : Legal m) where
         arith,
         keep-length (λ n. sees m (item (kind-number k) n) r) (held k (m .bundles)),
         joined-few [] (each (provided (kind-number k)) (m .bundles)),
-        each-most (LegalBundle (m .regions)) (provided (kind-number k)) w h (m .bundles) (l .bundles-legal),
+        each-most (LegalBundle (m .regions)) (provided (kind-number k)) w h (m .bundles) (l .bundles-legal .each),
       )
 
   -- a line has at most 25 bytes
   line-few : (b : Bundle) → LegalBundle (m .regions) b → length (line m b) ≤ 25
   line-few b h =
       let r = b .region in
-      let i : r < regions = member-all (λ n. n < regions) r (m .regions) (l .region-numbers) (h .region) in
+      let i : r < regions = member-all (λ n. n < regions) r (m .regions) (l .regions-legal .each) (h .region) in
       let bundles = seen-most Kind.Bundle r 1 (λ c k. omega arith) in
       let packages = seen-most Kind.Package r most-provided (λ c k. provided-few (m .regions) c k Kind.Package) in
       let services = seen-most Kind.Service r most-provided (λ c k. provided-few (m .regions) c k Kind.Service) in
@@ -140,13 +140,13 @@ module _ (m : Model) (l : Legal m) where
         line-length (b .location) r (seen-from m Kind.Bundle r) (seen-from m Kind.Package r) (seen-from m Kind.Service r),
         field-few 9 (b .location) space (omega (arith, h .location)),
         field-few 1 r space (omega (arith, i)),
-        field-few 1 (seen-from m Kind.Bundle r) space (omega (arith, bundles, l .bundles-few)),
-        field-few 2 (seen-from m Kind.Package r) space (omega (arith, packages, l .bundles-few)),
-        field-few 2 (seen-from m Kind.Service r) newline (omega (arith, services, l .bundles-few)),
+        field-few 1 (seen-from m Kind.Bundle r) space (omega (arith, bundles, l .bundles-legal .few)),
+        field-few 2 (seen-from m Kind.Package r) space (omega (arith, packages, l .bundles-legal .few)),
+        field-few 2 (seen-from m Kind.Service r) newline (omega (arith, services, l .bundles-legal .few)),
       )
 
   lines-few : length (each (line m) (m .bundles)) ≤ most-bundles * 25
-  lines-few = omega (arith, each-most (LegalBundle (m .regions)) (line m) 25 line-few (m .bundles) (l .bundles-legal), l .bundles-few)
+  lines-few = omega (arith, each-most (LegalBundle (m .regions)) (line m) 25 line-few (m .bundles) (l .bundles-legal .each), l .bundles-legal .few)
 
   -- the lines before that of a bundle, and its line
   pub line-room : (i : ℕ) → i < length (m .bundles)

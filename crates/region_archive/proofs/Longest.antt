@@ -7,7 +7,7 @@ use Rattle.region_graph.specs.Size.{regions, most-bundles, most-connections, mo
 use Rattle.region_graph.specs.Lists.{count-from}
 use Rattle.region_graph.specs.Model.{Model, Part, Legal}
 use Rattle.region_archive.specs.Image.{image}
-use Rattle.region_archive.proofs.Tested.{tested-none, tested-true, tested-false, tested-le, tested-lt, tested-both, tested-as, tested-all, tested-numbered, tested-part, tested-bundle, tested-filter, tested-connection, tested-legal}
+use Rattle.region_archive.proofs.Tested.{tested-none, tested-true, tested-false, tested-le, tested-lt, tested-both, tested-as, tested-all, tested-sorted, tested-numbered, tested-part, tested-bundle, tested-filter, tested-connection, tested-legal}
 
 -- every region, as many bundles and connections as there may be, and each of their lists as long as it may be
 pub longest : Model
@@ -24,7 +24,7 @@ longest =
 
 -- it is legal
 pub longest-legal : Legal longest
-unfolding longest tested-none tested-true tested-false tested-le tested-lt tested-both tested-as tested-all tested-numbered tested-part tested-bundle tested-filter tested-connection tested-legal
+unfolding longest tested-none tested-true tested-false tested-le tested-lt tested-both tested-as tested-all tested-sorted tested-numbered tested-part tested-bundle tested-filter tested-connection tested-legal
 longest-legal = tested-legal longest .holds refl
 
 -- and no legal image is longer (`image-bound`)

@@ -41,11 +41,11 @@ pub record Placed (g : Graph) (s : Section) (bs : List StoredBundle) (cs : List 
 
 module _ {g : Graph} {bs : List StoredBundle} {cs : List StoredConnection} {n : ℕ} where
   bundles-placed : Placed g Section.Bundles bs cs n → Filled store-bundle (store-bundle no-bundle) most-bundles bs n (meaning g .bundles)
-  bundles-placed p = record { shape = p .bundles; counted = p .counted; room = p .valid .good .bundles-few }
+  bundles-placed p = record { shape = p .bundles; counted = p .counted; room = p .valid .good .bundles-legal .few }
 
   connections-placed : Placed g Section.Connections bs cs n
       → Filled store-connection (store-connection no-connection) most-connections cs n (meaning g .connections)
-  connections-placed p = record { shape = p .connections; counted = p .counted; room = p .valid .good .connections-few }
+  connections-placed p = record { shape = p .connections; counted = p .counted; room = p .valid .good .connections-legal .few }
 
   -- the places of the section hold its elements
   pub placed-elements : (s : Section) → Placed g s bs cs n → elements s (placed-model bs cs n) ≡ elements s (meaning g)

@@ -96,13 +96,13 @@ section-fill k m xs l r = fills (LegalElem k (m .regions)) (key k) (most k) (fil
 
 -- the numbers of a legal part have 32 bits
 part-words : (p : Part) → NumberedPart p → PartWords p
-part-words (Part.listed xs) h = h .words
+part-words (Part.listed xs) h = h .each
 part-words Part.everything h = tt
 
 -- the numbers of a legal element have 32 bits
 words : (k : Section) (rs : List ℕ) (x : Elem k) → LegalElem k rs x → Words (call k x)
-words Section.Bundles rs b h = (h .location, h .packages .words, h .services .words)
-words Section.Connections rs c h = (h .filter .bundles .words, part-words (c .filter .packages) (h .filter .packages), part-words (c .filter .services) (h .filter .services))
+words Section.Bundles rs b h = (h .location, h .packages .each, h .services .each)
+words Section.Connections rs c h = (h .filter .bundles .each, part-words (c .filter .packages) (h .filter .packages), part-words (c .filter .services) (h .filter .services))
 
 -- some calls from nothing, with numbers of 32 bits, give the value
 pub record Reached {A : Type 0} (of : Model → A) (a : A) : Type 0 where

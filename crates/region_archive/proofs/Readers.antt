@@ -161,7 +161,7 @@ read-fitting =
 
 -- a legal model's numbers fit their bytes
 fit-part : (p : Part) → NumberedPart p → FitPart p
-fit-part (Part.listed xs) h = (omega (arith, h .few), h .words)
+fit-part (Part.listed xs) h = (omega (arith, h .few), h .each)
 fit-part Part.everything h = tt
 
 module _ (rs : List ℕ) (n : All (λ r. r < regions) rs) where
@@ -169,23 +169,23 @@ module _ (rs : List ℕ) (n : All (λ r. r < regions) rs) where
   fit-region r e = omega (arith, member-all (λ s. s < regions) r rs n e)
 
   fit-bundle : (b : Bundle) → LegalBundle rs b → FitBundle b
-  fit-bundle b h = (h .location, (fit-region (b .region) (h .region), (h .packages .words, h .services .words)))
+  fit-bundle b h = (h .location, (fit-region (b .region) (h .region), (h .packages .each, h .services .each)))
 
   fit-connection : (c : Connection) → LegalConnection rs c → FitConnection c
   fit-connection c h = (
     fit-region (c .source) (h .source),
     (
       fit-region (c .target) (h .target),
-      (h .filter .bundles .words, (fit-part (c .filter .packages) (h .filter .packages), fit-part (c .filter .services) (h .filter .services))),
+      (h .filter .bundles .each, (fit-part (c .filter .packages) (h .filter .packages), fit-part (c .filter .services) (h .filter .services))),
     ),
   )
 
 fit-body : (m : Model) → Legal m → FitBody m
 fit-body m h = (
-  all-map (λ r. r < regions) (λ r. r < 256 ^ 1) (λ r k. omega arith) (m .regions) (h .region-numbers),
+  all-map (λ r. r < regions) (λ r. r < 256 ^ 1) (λ r k. omega arith) (m .regions) (h .regions-legal .each),
   (
-    all-map (LegalBundle (m .regions)) FitBundle (fit-bundle (m .regions) (h .region-numbers)) (m .bundles) (h .bundles-legal),
-    all-map (LegalConnection (m .regions)) FitConnection (fit-connection (m .regions) (h .region-numbers)) (m .connections) (h .connections-legal),
+    all-map (LegalBundle (m .regions)) FitBundle (fit-bundle (m .regions) (h .regions-legal .each)) (m .bundles) (h .bundles-legal .each),
+    all-map (LegalConnection (m .regions)) FitConnection (fit-connection (m .regions) (h .regions-legal .each)) (m .connections) (h .connections-legal .each),
   ),
 )
 

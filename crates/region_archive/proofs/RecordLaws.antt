@@ -101,7 +101,7 @@ same-then (suc n) x y z g h = (same-then n x y z (g .0) (h .0), one n (g .1) (h 
 
 -- a legal element's fields can stand in an archive
 numbered-listed : (most : ℕ) (xs : List ℕ) → most ≤ most-listed → Numbered most xs → Listed xs
-numbered-listed most xs h n = record { few = omega (arith, n .few); words = n .words }
+numbered-listed most xs h n = record { few = omega (arith, n .few); words = n .each }
 
 pub part-listed-of : (p : Part) → NumberedPart p → ListedPart p
 part-listed-of (Part.listed xs) h = numbered-listed most-listed xs (omega arith) h

@@ -160,9 +160,9 @@ fields-whole k s mid {e} {to} h p = subst (λ (i : ℕ). Parsed (GoodTo (FieldGo
 module _ (k : Section) (start : Graph) (s : List ℕ) where
   pub section-start : Valid start → filled k (meaning start) [] ≡ meaning start → (mid : ℕ) → mid ≤ length s → Sectioned k start s mid start mid 0 0
   section-start v e mid h = record {
-    small = v .good .region-numbers;
+    small = v .good .regions-legal .each;
     records =
-        filling-start (LegalElem k (meaning start .regions)) (record-bytes k) (element-same (meaning start .regions) (v .good .region-numbers) k) (key k) (most k) (most-small k)
+        filling-start (LegalElem k (meaning start .regions)) (record-bytes k) (element-same (meaning start .regions) (v .good .regions-legal .each) k) (key k) (most k) (most-small k)
         (filled k (meaning start)) (call k) (taken k (meaning start)) (joined k (meaning start)) (taken-legal k (meaning start)) v (sym e) s mid h;
   }
 

@@ -49,8 +49,8 @@ narrow-first Section.Connections = omega arith
 
 -- a section of a valid graph has few records
 pub few-elements : (g : Graph) → Valid g → (s : Section) → length (elements s (meaning g)) ≤ most-bundles
-few-elements g v Section.Bundles = v .good .bundles-few
-few-elements g v Section.Connections = omega (arith, v .good .connections-few)
+few-elements g v Section.Bundles = v .good .bundles-legal .few
+few-elements g v Section.Connections = omega (arith, v .good .connections-legal .few)
 
 -- one record more of a section
 pub section-next : (s : Section) (m : Model) (i : ℕ) → i < length (elements s m)

@@ -145,7 +145,7 @@ region-joined rs r e f a =
 
 -- the last region is below 16
 pub region-legal : (rs : List ℕ) (r : ℕ) → Legal (only (rs ++ (r ∷ []))) → r < regions
-region-legal rs r l = all-back (λ n. n < regions) rs (r ∷ []) (l .region-numbers) .0
+region-legal rs r l = all-back (λ n. n < regions) rs (r ∷ []) (l .regions-legal .each) .0
 
 -- a legal part, and a legal filter, passes the questions about lists
 part-few : (p : Part) → NumberedPart p → part-within p ≡ true
@@ -174,9 +174,9 @@ taken Section.Bundles m xs b l h f a n =
     let rise = and-yes (h .packages .ascend) (h .services .ascend) in
     let absent = none-any (at-location (b .location)) xs (fails-below (key Section.Bundles) (at-location (b .location)) (b .location) xs (λ c g. ne-eqb (c .location) (b .location) (omega arith)) f a) in
     none-no (questions (filled Section.Bundles m xs) (Call.install b))
-    (below (m .regions) (l .region-numbers) (b .region) (h .region), (h .region, (few, (rise, (ap not absent, (refl, (lt-ltb (length xs) most-bundles n, tt)))))))
+    (below (m .regions) (l .regions-legal .each) (b .region) (h .region), (h .region, (few, (rise, (ap not absent, (refl, (lt-ltb (length xs) most-bundles n, tt)))))))
 taken Section.Connections m xs c l h f a n =
-    let ends = and-yes (below (m .regions) (l .region-numbers) (c .source) (h .source)) (below (m .regions) (l .region-numbers) (c .target) (h .target)) in
+    let ends = and-yes (below (m .regions) (l .regions-legal .each) (c .source) (h .source)) (below (m .regions) (l .regions-legal .each) (c .target) (h .target)) in
     let absent = none-any (joins (c .source) (c .target)) xs (fails-below (key Section.Connections) (joins (c .source) (c .target)) (key Section.Connections c) xs apart f a) in
     none-no (questions (filled Section.Connections m xs) (Call.connect c))
     (ends, (and-yes (h .source) (h .target), (ap not (h .differ), (ap not absent, (filter-few (c .filter) (h .filter), (filter-rises (c .filter) (h .filter), (lt-ltb (length xs) most-connections n, tt)))))))
@@ -199,13 +199,13 @@ none-after k rs n xs x h l f a =
 
 -- the elements of a section of a legal model
 section-legal : (k : Section) (m : Model) (xs : List (Elem k)) → Legal (filled k m xs) → All (LegalElem k (m .regions)) xs
-section-legal Section.Bundles m xs l = l .bundles-legal
-section-legal Section.Connections m xs l = l .connections-legal
+section-legal Section.Bundles m xs l = l .bundles-legal .each
+section-legal Section.Connections m xs l = l .connections-legal .each
 
 -- and its regions
 section-regions : (k : Section) (m : Model) (xs : List (Elem k)) → Legal (filled k m xs) → All (λ r. r < regions) (m .regions)
-section-regions Section.Bundles m xs l = l .region-numbers
-section-regions Section.Connections m xs l = l .region-numbers
+section-regions Section.Bundles m xs l = l .regions-legal .each
+section-regions Section.Connections m xs l = l .regions-legal .each
 
 -- the last element of a section is legal
 pub taken-legal : (k : Section) (m : Model) (xs : List (Elem k)) (x : Elem k) → Legal (filled k m (xs ++ (x ∷ []))) → LegalElem k (m .regions) x
@@ -240,32 +240,39 @@ section-ascends k rs n xs h =
 -- a legal model's regions and sections are rows
 pub legal-rows : (m : Model) → Legal m → Row (λ n. n < regions) (λ n. n) regions (m .regions) × ((k : Section) → Row (LegalElem k (m .regions)) (key k) (most k) (elements k m))
 legal-rows m l = (
-  record { few = ascends-few (λ n. n) regions 0 (m .regions) (l .region-numbers) ascend; each = l .region-numbers; ascend = ascend },
+  record { few = l .regions-legal .few; each = l .regions-legal .each; ascend = ascend },
   row,
 )
   where
     ascend : Ascends (λ n. n) 0 (m .regions)
-    ascend = ascends-keys (λ n. n) (m .regions) (l .regions-ascend)
+    ascend = ascends-keys (λ n. n) (m .regions) (l .regions-legal .ascend)
 
     row : (k : Section) → Row (LegalElem k (m .regions)) (key k) (most k) (elements k m)
-    row Section.Bundles = record { few = l .bundles-few; each = l .bundles-legal; ascend = ascends-keys (key Section.Bundles) (m .bundles) (l .bundles-ascend) }
+    row Section.Bundles = record { few = l .bundles-legal .few; each = l .bundles-legal .each; ascend = ascends-keys (key Section.Bundles) (m .bundles) (l .bundles-legal .ascend) }
     row Section.Connections =
         record {
-          few = l .connections-few;
-          each = l .connections-legal;
-          ascend = ascends-keys (key Section.Connections) (m .connections) (sym (section-ascends Section.Connections (m .regions) (l .region-numbers) (m .connections) (l .connections-legal)) ∙ l .connections-ascend);
+          few = l .connections-legal .few;
+          each = l .connections-legal .each;
+          ascend = ascends-keys (key Section.Connections) (m .connections) (sym (section-ascends Section.Connections (m .regions) (l .regions-legal .each) (m .connections) (l .connections-legal .each)) ∙ l .connections-legal .ascend);
         }
 
 -- and a model whose regions and sections are rows is legal
 pub rows-legal : (m : Model) → Row (λ n. n < regions) (λ n. n) regions (m .regions) → ((k : Section) → Row (LegalElem k (m .regions)) (key k) (most k) (elements k m)) → Legal m
 rows-legal m r s =
     record {
-      region-numbers = r .each;
-      regions-ascend = keys-ascend (λ n. n) (m .regions) (r .ascend);
-      bundles-few = s Section.Bundles .few;
-      bundles-ascend = keys-ascend (key Section.Bundles) (m .bundles) (s Section.Bundles .ascend);
-      bundles-legal = s Section.Bundles .each;
-      connections-few = s Section.Connections .few;
-      connections-ascend = section-ascends Section.Connections (m .regions) (r .each) (m .connections) (s Section.Connections .each) ∙ keys-ascend (key Section.Connections) (m .connections) (s Section.Connections .ascend);
-      connections-legal = s Section.Connections .each;
+      regions-legal = record { few = r .few; each = r .each; ascend = keys-ascend (λ n. n) (m .regions) (r .ascend) };
+      bundles-legal =
+          record {
+            few = s Section.Bundles .few;
+            each = s Section.Bundles .each;
+            ascend = keys-ascend (key Section.Bundles) (m .bundles) (s Section.Bundles .ascend);
+          };
+      connections-legal =
+          record {
+            few = s Section.Connections .few;
+            each = s Section.Connections .each;
+            ascend =
+                section-ascends Section.Connections (m .regions) (r .each) (m .connections) (s Section.Connections .each)
+                ∙ keys-ascend (key Section.Connections) (m .connections) (s Section.Connections .ascend);
+          };
     }

@@ -8,7 +8,7 @@ use lib.ListN.{length}
 use borrow.Author.Tests.{lt-ltb, ltb-true, le-leb, leb-true, not-true}
 use Rattle.region_graph.specs.Size.{regions, most-bundles, most-connections, most-provided, most-listed}
 use Rattle.region_graph.specs.Lists.{All, member, ascends}
-use Rattle.region_graph.specs.Model.{Model, Bundle, Filter, Part, Connection, Word, Numbered, NumberedPart, LegalBundle, LegalFilter, LegalConnection, Legal, bundle-before, connection-before}
+use Rattle.region_graph.specs.Model.{Model, Bundle, Filter, Part, Connection, Word, Sorted, Numbered, NumberedPart, LegalBundle, LegalFilter, LegalConnection, Legal, bundle-before, connection-before}
 use Rattle.region_graph.proofs.Lists.{and-yes, and-fst, and-snd}
 
 -- a test that tells whether P holds
@@ -52,11 +52,16 @@ unfoldable pub tested-all : {A : Type 0} (P : A → Type 0) → ((x : A) → Tes
 tested-all P f [] = tested-none
 tested-all P f (x ∷ xs) = tested-both (f x) (tested-all P f xs)
 
+-- for a set of at most so many elements, each good, in strictly ascending order
+unfoldable pub tested-sorted : {A : Type 0} (before : A → A → Bool) (Good : A → Type 0) → ((x : A) → Tested (Good x)) → (most : ℕ) (xs : List A)
+    → Tested (Sorted before Good most xs)
+tested-sorted before Good f most xs =
+    tested-as (λ t. record { few = t .0; each = t .1 .0; ascend = t .1 .1 }) (λ h. (h .few, (h .each, h .ascend)))
+    (tested-both (tested-le (length xs) most) (tested-both (tested-all Good f xs) (tested-true (ascends before xs))))
+
 -- for each part of a model
 unfoldable pub tested-numbered : (most : ℕ) (xs : List ℕ) → Tested (Numbered most xs)
-tested-numbered most xs =
-    tested-as (λ t. record { few = t .0; words = t .1 .0; ascend = t .1 .1 }) (λ h. (h .few, (h .words, h .ascend)))
-    (tested-both (tested-le (length xs) most) (tested-both (tested-all Word (λ n. tested-lt n (2 ^ 32)) xs) (tested-true (ascends ltb xs))))
+tested-numbered = tested-sorted ltb Word (λ n. tested-lt n (2 ^ 32))
 
 unfoldable pub tested-part : (p : Part) → Tested (NumberedPart p)
 tested-part (Part.listed xs) = tested-numbered most-listed xs
@@ -84,22 +89,8 @@ tested-connection rs c =
 -- whether a model is legal
 unfoldable pub tested-legal : (m : Model) → Tested (Legal m)
 tested-legal m =
-    tested-as
-    (λ t. record {
-      region-numbers = t .0;
-      regions-ascend = t .1 .0;
-      bundles-few = t .1 .1 .0;
-      bundles-ascend = t .1 .1 .1 .0;
-      bundles-legal = t .1 .1 .1 .1 .0;
-      connections-few = t .1 .1 .1 .1 .1 .0;
-      connections-ascend = t .1 .1 .1 .1 .1 .1 .0;
-      connections-legal = t .1 .1 .1 .1 .1 .1 .1;
-    })
-    (λ h. (h .region-numbers, (h .regions-ascend, (h .bundles-few, (h .bundles-ascend, (h .bundles-legal, (h .connections-few, (h .connections-ascend, h .connections-legal))))))))
-    (tested-both (tested-all (λ r. r < regions) (λ r. tested-lt r regions) (m .regions))
-    (tested-both (tested-true (ascends ltb (m .regions)))
-    (tested-both (tested-le (length (m .bundles)) most-bundles)
-    (tested-both (tested-true (ascends bundle-before (m .bundles)))
-    (tested-both (tested-all (LegalBundle (m .regions)) (tested-bundle (m .regions)) (m .bundles))
-    (tested-both (tested-le (length (m .connections)) most-connections)
-    (tested-both (tested-true (ascends connection-before (m .connections))) (tested-all (LegalConnection (m .regions)) (tested-connection (m .regions)) (m .connections)))))))))
+    tested-as (λ t. record { regions-legal = t .0; bundles-legal = t .1 .0; connections-legal = t .1 .1 })
+    (λ h. (h .regions-legal, (h .bundles-legal, h .connections-legal)))
+    (tested-both (tested-sorted ltb (λ r. r < regions) (λ r. tested-lt r regions) regions (m .regions))
+    (tested-both (tested-sorted bundle-before (LegalBundle (m .regions)) (tested-bundle (m .regions)) most-bundles (m .bundles))
+    (tested-sorted connection-before (LegalConnection (m .regions)) (tested-connection (m .regions)) most-connections (m .connections))))

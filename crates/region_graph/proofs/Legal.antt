@@ -2,7 +2,7 @@
 use mathlib.Core.Path.{_≡_, refl, sym, ap, _∙_}
 use mathlib.Core.Bool.{Bool, true, false, not, _||_}
 use mathlib.Core.List.{List, [], _∷_, _++_}
-use Prim.Native.Nat.{ℕ, _≤_, _<_}
+use Prim.Native.Nat.{ℕ, _+_, _≤_, _<_}
 use native.Mathlib.Omega.{arith}
 use lib.Dec.{eqb, ltb}
 use lib.ListN.{length}
@@ -10,12 +10,12 @@ use borrow.Author.Tests.{leb-true, ltb-true, eqb-true, eqb-false, not-true}
 use Rattle.region_graph.specs.Size.{regions, most-bundles, most-connections, most-provided, most-listed}
 use Rattle.region_graph.specs.Refusals.{not-refused}
 use Rattle.region_graph.specs.Lists.{pick, keep, any, All, member, insert, ascends}
-use Rattle.region_graph.specs.Model.{Word, Model, Bundle, Part, Connection, NumberedPart, LegalBundle, LegalConnection, Legal, nothing, bundle-before, connection-before}
+use Rattle.region_graph.specs.Model.{Word, Sorted, Model, Bundle, Part, Connection, NumberedPart, LegalBundle, LegalConnection, Legal, nothing, bundle-before, connection-before}
 use Rattle.region_graph.specs.Calls.{Call, Question, first-no, questions, number, accepted, after, run, Words, PartWords, at-location, in-region, joins, touches, within, part-within, part-ascends}
 use Rattle.region_graph.specs.Places.{ShortPart}
 use Rattle.region_graph.specs.Promise.{part}
 use Rattle.region_graph.proofs.Lists.{eqb-sym, and-fst, and-snd, false-true, pick-yes, keep-length, any-insert, insert-length, any-none, all-map, all-kept, all-insert, member-kept, and-yes}
-use Rattle.region_graph.proofs.Ascending.{Strict, or-right, ascends-keep, ascends-insert, strict-numbers, strict-bundles, strict-connections, numbers-differ, connections-differ}
+use Rattle.region_graph.proofs.Ascending.{Strict, Rising, or-right, ascends-rising, ascends-keep, ascends-insert, strict-numbers, strict-bundles, strict-connections, numbers-differ, connections-differ}
 
 -- neither of two tests
 not-or : (a b : Bool) → not (a || b) ≡ true → (not a ≡ true) × (not b ≡ true)
@@ -104,64 +104,45 @@ connectable m c e =
       room = ltb-true _ _ (h .1 .1 .1 .1 .1 .1 .0);
     }
 
--- what bundles and connections have in common: few, ascending, and each with a property
-record Kept {A : Type 0} (most : ℕ) (before : A → A → Bool) (P : A → Type 0) (xs : List A) : Type 0 where
-  few : length xs ≤ most
-  ascend : ascends before xs ≡ true
-  each : All P xs
-
+-- some elements of a set leave, or one joins
 module _ {A : Type 0} {most : ℕ} {before : A → A → Bool} {xs : List A} where
-  kept-map : (P Q : A → Type 0) → ((x : A) → P x → Q x) → Kept most before P xs → Kept most before Q xs
-  kept-map P Q f k = record { few = k .few; ascend = k .ascend; each = all-map P Q f xs (k .each) }
+  sorted-map : (P Q : A → Type 0) → ((x : A) → P x → Q x) → Sorted before P most xs → Sorted before Q most xs
+  sorted-map P Q f k = record { few = k .few; each = all-map P Q f xs (k .each); ascend = k .ascend }
 
   module _ (strict : Strict before) where
-    kept-keep : (p : A → Bool) (P Q : A → Type 0) → ((x : A) → p x ≡ true → P x → Q x) → Kept most before P xs → Kept most before Q (keep p xs)
-    kept-keep p P Q f k =
+    sorted-keep : (p : A → Bool) (P Q : A → Type 0) → ((x : A) → p x ≡ true → P x → Q x) → Sorted before P most xs → Sorted before Q most (keep p xs)
+    sorted-keep p P Q f k =
         record {
           few = omega (arith, keep-length p xs, k .few);
-          ascend = ascends-keep before strict p xs (k .ascend);
           each = all-kept p P Q f xs (k .each);
+          ascend = ascends-keep before strict p xs (k .ascend);
         }
 
     -- an element joins, unlike all others by a test
-    kept-insert : (P : A → Type 0) (x : A) (same : A → Bool) → ((y : A) → same y ≡ false → before x y ≡ false → before y x ≡ true)
-        → P x → any same xs ≡ false → length xs < most → Kept most before P xs → Kept most before P (insert before x xs)
-    kept-insert P x same differ h absent room k =
+    sorted-insert : (P : A → Type 0) (x : A) (same : A → Bool) → ((y : A) → same y ≡ false → before x y ≡ false → before y x ≡ true)
+        → P x → any same xs ≡ false → length (insert before x xs) ≤ most → Sorted before P most xs → Sorted before P most (insert before x xs)
+    sorted-insert P x same differ h absent room k =
         record {
-          few = rw insert-length room;
+          few = room;
+          each = all-insert P before x xs h (k .each);
           ascend =
               ascends-insert before strict x xs
               (all-map (λ y. same y ≡ false) (λ y. before x y ≡ false → before y x ≡ true) differ xs (any-none same xs absent)) (k .ascend);
-          each = all-insert P before x xs h (k .each);
         }
 
--- the bundles and connections of a model on regions rs
-abbrev KeptBundles : List ℕ → List Bundle → Type 0
-KeptBundles rs bs = Kept most-bundles bundle-before (LegalBundle rs) bs
+-- ascending numbers below a limit are no more than it
+few-below : (n a : ℕ) (xs : List ℕ) → All (λ x. x < n) xs → Rising ltb xs → All (λ x. a ≤ x) xs → a ≤ n → length xs + a ≤ n
+few-below n a [] h r f l = omega (arith, l)
+few-below n a (x ∷ xs) h r f l =
+    omega (arith, few-below n (x + 1) xs (h .1) (r .1) (all-map (λ y. ltb x y ≡ true) (λ y. x + 1 ≤ y) (λ y e. omega (arith, ltb-true x y e)) xs (r .0)) (omega (arith, h .0)), f .0)
 
-abbrev KeptConnections : List ℕ → List Connection → Type 0
-KeptConnections rs cs = Kept most-connections connection-before (LegalConnection rs) cs
-
-legal : {rs : List ℕ} {bs : List Bundle} {cs : List Connection} → All (λ r. r < regions) rs → ascends ltb rs ≡ true
-    → KeptBundles rs bs → KeptConnections rs cs → Legal (record { regions = rs; bundles = bs; connections = cs })
-legal numbers ascend b c =
+below-sorted : {n : ℕ} {xs : List ℕ} → All (λ x. x < n) xs → ascends ltb xs ≡ true → Sorted ltb (λ x. x < n) n xs
+below-sorted {n} {xs} h a =
     record {
-      region-numbers = numbers;
-      regions-ascend = ascend;
-      bundles-few = b .few;
-      bundles-ascend = b .ascend;
-      bundles-legal = b .each;
-      connections-few = c .few;
-      connections-ascend = c .ascend;
-      connections-legal = c .each;
+      few = omega (arith, few-below n 0 xs h (ascends-rising ltb strict-numbers xs a) (all-map (λ x. x < n) (λ x. 0 ≤ x) (λ x l. omega arith) xs h) (omega arith));
+      each = h;
+      ascend = a;
     }
-
-module _ {m : Model} (l : Legal m) where
-  kept-bundles : KeptBundles (m .regions) (m .bundles)
-  kept-bundles = record { few = l .bundles-few; ascend = l .bundles-ascend; each = l .bundles-legal }
-
-  kept-connections : KeptConnections (m .regions) (m .connections)
-  kept-connections = record { few = l .connections-few; ascend = l .connections-ascend; each = l .connections-legal }
 
 -- a bundle or a connection stays legal where its regions stay
 module _ (rs ts : List ℕ) where
@@ -174,23 +155,32 @@ module _ (rs ts : List ℕ) where
 
 -- a part of a filter that was handed over
 numbered-part : (p : Part) → PartWords p → part-within p ≡ true → part-ascends p ≡ true → NumberedPart p
-numbered-part (Part.listed xs) w f a = record { few = leb-true (length xs) most-listed f; words = w; ascend = a }
+numbered-part (Part.listed xs) w f a = record { few = leb-true (length xs) most-listed f; each = w; ascend = a }
 numbered-part Part.everything w f a = tt
 
 pub legal-nothing : Legal nothing
-legal-nothing = legal tt refl (record { few = omega arith; ascend = refl; each = tt }) (record { few = omega arith; ascend = refl; each = tt })
+legal-nothing = record { regions-legal = none; bundles-legal = none; connections-legal = none }
+  where
+    none : {A : Type 0} {before : A → A → Bool} {P : A → Type 0} {most : ℕ} → Sorted before P most []
+    none = record { few = omega arith; each = tt; ascend = refl }
 
 -- an accepted call
 pub legal-accepted : (m : Model) (c : Call) → Legal m → Words c → number m c ≡ not-refused → Legal (accepted m c)
 legal-accepted m (Call.add-region r) l w e =
     let h = all-yes (questions m (Call.add-region r)) (refl, (refl, tt)) e in
-    legal (all-insert (λ s. s < regions) ltb r (m .regions) (ltb-true r regions (h .0)) (l .region-numbers))
-    (ascends-insert ltb strict-numbers r (m .regions)
-    (all-map (λ s. eqb r s ≡ false) (λ s. ltb r s ≡ false → ltb s r ≡ true) (λ s n. numbers-differ r s (eqb-false r s n)) (m .regions)
-    (any-none (eqb r) (m .regions) (not-true _ (h .1 .0)))) (l .regions-ascend))
-    (kept-map (LegalBundle (m .regions)) (LegalBundle rs) (λ b. legal-bundle (m .regions) rs b (stays (b .region))) (kept-bundles l))
-    (kept-map (LegalConnection (m .regions)) (LegalConnection rs)
-    (λ c. legal-connection (m .regions) rs c (stays (c .source)) (stays (c .target))) (kept-connections l))
+    record {
+      regions-legal =
+          below-sorted
+          (all-insert (λ s. s < regions) ltb r (m .regions) (ltb-true r regions (h .0)) (l .regions-legal .each))
+          (ascends-insert ltb strict-numbers r (m .regions)
+          (all-map (λ s. eqb r s ≡ false) (λ s. ltb r s ≡ false → ltb s r ≡ true) (λ s n. numbers-differ r s (eqb-false r s n)) (m .regions)
+          (any-none (eqb r) (m .regions) (not-true _ (h .1 .0)))) (l .regions-legal .ascend));
+      bundles-legal =
+          sorted-map (LegalBundle (m .regions)) (LegalBundle rs) (λ b. legal-bundle (m .regions) rs b (stays (b .region))) (l .bundles-legal);
+      connections-legal =
+          sorted-map (LegalConnection (m .regions)) (LegalConnection rs)
+          (λ c. legal-connection (m .regions) rs c (stays (c .source)) (stays (c .target))) (l .connections-legal);
+    }
   where
     rs : List ℕ
     rs = insert ltb r (m .regions)
@@ -198,13 +188,16 @@ legal-accepted m (Call.add-region r) l w e =
     stays : (n : ℕ) → member n (m .regions) ≡ true → member n rs ≡ true
     stays n h = any-insert (eqb n) ltb r (m .regions) ∙ or-right (eqb n r) h
 legal-accepted m (Call.remove-region r) l w e =
-    legal (all-kept other (λ s. s < regions) (λ s. s < regions) (λ s _ h. h) (m .regions) (l .region-numbers))
-    (ascends-keep ltb strict-numbers other (m .regions) (l .regions-ascend))
-    (kept-keep strict-bundles (λ b. not (in-region r b)) (LegalBundle (m .regions)) (LegalBundle rs)
-    (λ b t. legal-bundle (m .regions) rs b (stays (b .region) t)) (kept-bundles l))
-    (kept-keep strict-connections (λ c. not (touches r c)) (LegalConnection (m .regions)) (LegalConnection rs)
-    (λ c t. let n = not-or (eqb (c .source) r) (eqb (c .target) r) t in
-    legal-connection (m .regions) rs c (stays (c .source) (n .0)) (stays (c .target) (n .1))) (kept-connections l))
+    record {
+      regions-legal = sorted-keep strict-numbers other (λ s. s < regions) (λ s. s < regions) (λ s _ h. h) (l .regions-legal);
+      bundles-legal =
+          sorted-keep strict-bundles (λ b. not (in-region r b)) (LegalBundle (m .regions)) (LegalBundle rs)
+          (λ b t. legal-bundle (m .regions) rs b (stays (b .region) t)) (l .bundles-legal);
+      connections-legal =
+          sorted-keep strict-connections (λ c. not (touches r c)) (LegalConnection (m .regions)) (LegalConnection rs)
+          (λ c t. let n = not-or (eqb (c .source) r) (eqb (c .target) r) t in
+          legal-connection (m .regions) rs c (stays (c .source) (n .0)) (stays (c .target) (n .1))) (l .connections-legal);
+    }
   where
     other : ℕ → Bool
     other s = not (eqb r s)
@@ -216,39 +209,54 @@ legal-accepted m (Call.remove-region r) l w e =
     stays n t h = member-kept other n (m .regions) ∙ and-yes h (ap not (eqb-sym r n) ∙ t)
 legal-accepted m (Call.install b) l w e =
     let h = installable m b e in
-    legal (l .region-numbers) (l .regions-ascend)
-    (kept-insert strict-bundles (LegalBundle (m .regions)) b (at-location (b .location))
-    (λ c n. numbers-differ (b .location) (c .location) (λ q. eqb-false (c .location) (b .location) n (sym q)))
-    (record {
-      location = w .0;
-      region = h .region;
-      packages = record { few = h .few-packages; words = w .1; ascend = h .packages-ascend };
-      services = record { few = h .few-services; words = w .2; ascend = h .services-ascend };
-    })
-    (h .absent) (h .room) (kept-bundles l)) (kept-connections l)
+    record {
+      regions-legal = l .regions-legal;
+      bundles-legal =
+          sorted-insert strict-bundles (LegalBundle (m .regions)) b (at-location (b .location))
+          (λ c n. numbers-differ (b .location) (c .location) (λ q. eqb-false (c .location) (b .location) n (sym q)))
+          (record {
+            location = w .0;
+            region = h .region;
+            packages = record { few = h .few-packages; each = w .1; ascend = h .packages-ascend };
+            services = record { few = h .few-services; each = w .2; ascend = h .services-ascend };
+          })
+          (h .absent) (rw insert-length (h .room)) (l .bundles-legal);
+      connections-legal = l .connections-legal;
+    }
 legal-accepted m (Call.uninstall n) l w e =
-    legal (l .region-numbers) (l .regions-ascend)
-    (kept-keep strict-bundles (λ b. not (at-location n b)) (LegalBundle (m .regions)) (LegalBundle (m .regions)) (λ b _ h. h) (kept-bundles l))
-    (kept-connections l)
+    record {
+      regions-legal = l .regions-legal;
+      bundles-legal =
+          sorted-keep strict-bundles (λ b. not (at-location n b)) (LegalBundle (m .regions)) (LegalBundle (m .regions)) (λ b _ h. h) (l .bundles-legal);
+      connections-legal = l .connections-legal;
+    }
 legal-accepted m (Call.connect c) l w e =
     let h = connectable m c e in
-    legal (l .region-numbers) (l .regions-ascend) (kept-bundles l)
-    (kept-insert strict-connections (LegalConnection (m .regions)) c (joins (c .source) (c .target)) (connections-differ c)
-    (record {
-      source = h .source;
-      target = h .target;
-      differ = h .differ;
-      filter = record {
-        bundles = record { few = h .bundles-few; words = w .0; ascend = h .bundles-ascend };
-        packages = numbered-part (c .filter .packages) (w .1) (h .packages-within) (h .packages-ascend);
-        services = numbered-part (c .filter .services) (w .2) (h .services-within) (h .services-ascend);
-      };
-    })
-    (h .absent) (h .room) (kept-connections l))
+    record {
+      regions-legal = l .regions-legal;
+      bundles-legal = l .bundles-legal;
+      connections-legal =
+          sorted-insert strict-connections (LegalConnection (m .regions)) c (joins (c .source) (c .target)) (connections-differ c)
+          (record {
+            source = h .source;
+            target = h .target;
+            differ = h .differ;
+            filter = record {
+              bundles = record { few = h .bundles-few; each = w .0; ascend = h .bundles-ascend };
+              packages = numbered-part (c .filter .packages) (w .1) (h .packages-within) (h .packages-ascend);
+              services = numbered-part (c .filter .services) (w .2) (h .services-within) (h .services-ascend);
+            };
+          })
+          (h .absent) (rw insert-length (h .room)) (l .connections-legal);
+    }
 legal-accepted m (Call.disconnect r s) l w e =
-    legal (l .region-numbers) (l .regions-ascend) (kept-bundles l)
-    (kept-keep strict-connections (λ c. not (joins r s c)) (LegalConnection (m .regions)) (LegalConnection (m .regions)) (λ c _ h. h)
-    (kept-connections l))
+    record {
+      regions-legal = l .regions-legal;
+      bundles-legal = l .bundles-legal;
+      connections-legal =
+          sorted-keep strict-connections (λ c. not (joins r s c)) (LegalConnection (m .regions)) (LegalConnection (m .regions)) (λ c _ h. h)
+          (l .connections-legal);
+    }
 
 pub legal-after : (m : Model) (c : Call) → Legal m → Words c → Legal (after m c)
 legal-after m c l w = go (eqb (number m c) not-refused) refl

@@ -219,7 +219,7 @@ regions-back m h =
     keep-same (has (set-of (λ r. member r (m .regions)))) (λ r. member r (m .regions)) (count-from 0 regions)
     (all-counted (λ r. has (set-of (λ s. member s (m .regions))) r ≡ member r (m .regions)) 0 regions
     (λ r l. has-set (λ s. member s (m .regions)) r ∙ rw (lt-ltb r regions (omega arith))))
-    ∙ members-back regions (m .regions) (h .region-numbers) (h .regions-ascend)
+    ∙ members-back regions (m .regions) (h .regions-legal .each) (h .regions-legal .ascend)
 
 -- legal lists are short enough for their places
 short-part : (p : Part) → NumberedPart p → ShortPart p
@@ -237,7 +237,7 @@ short-connection {c = c} h = record {
 }
 
 pub short-connections : {m : Model} → Legal m → All ShortConnection (m .connections)
-short-connections {m} h = all-map (LegalConnection (m .regions)) ShortConnection (λ c l. short-connection l) (m .connections) (h .connections-legal)
+short-connections {m} h = all-map (LegalConnection (m .regions)) ShortConnection (λ c l. short-connection l) (m .connections) (h .connections-legal .each)
 
 pub meaning-back : (m : Model) → Legal m → meaning (store m) ≡ m
 unfolding meaning store
@@ -258,7 +258,7 @@ module _ (g : Graph) (v : Valid g) where
   has-region r = ap (λ (x : ℕ). has x r) regions-stored ∙ has-set (λ s. member s (meaning g .regions)) r ∙ go (member r (meaning g .regions)) refl
     where
       go : (b : Bool) → member r (meaning g .regions) ≡ b → (ltb r regions && b) ≡ b
-      go true e = rw (lt-ltb r regions (member-all (λ s. s < regions) r (meaning g .regions) (v .good .region-numbers) e))
+      go true e = rw (lt-ltb r regions (member-all (λ s. s < regions) r (meaning g .regions) (v .good .regions-legal .each) e))
       go false e = and-false (ltb r regions)
 
   pub bundles-stored : BundlesStored (g .bundles)
@@ -266,8 +266,8 @@ module _ (g : Graph) (v : Valid g) where
   bundles-stored = record {
     stored = ap (λ (k : Graph). k .bundles) (v .stored);
     good = record {
-      few = v .good .bundles-few;
-      each = all-map (LegalBundle (meaning g .regions)) ShortBundle (λ b h. short-bundle h) (meaning g .bundles) (v .good .bundles-legal);
+      few = v .good .bundles-legal .few;
+      each = all-map (LegalBundle (meaning g .regions)) ShortBundle (λ b h. short-bundle h) (meaning g .bundles) (v .good .bundles-legal .each);
     };
   }
 
@@ -276,7 +276,7 @@ module _ (g : Graph) (v : Valid g) where
   connections-stored = record {
     stored = ap (λ (k : Graph). k .connections) (v .stored);
     good = record {
-      few = v .good .connections-few;
+      few = v .good .connections-legal .few;
       each = short-connections (v .good);
     };
   }

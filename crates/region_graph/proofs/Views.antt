@@ -198,5 +198,5 @@ target-region g v i e l =
     let h = connections-filled (g .connections) (connections-stored g v) in
     let cs = connections-of (g .connections) in
     rw (filled-at h i e no-connection l)
-    (member-all (λ r. r < regions) (getD cs i no-connection .target) (meaning g .regions) (v .good .region-numbers)
-    (all-at (LegalConnection (meaning g .regions)) cs i no-connection (filled-inside h i l) (v .good .connections-legal) .target))
+    (member-all (λ r. r < regions) (getD cs i no-connection .target) (meaning g .regions) (v .good .regions-legal .each)
+    (all-at (LegalConnection (meaning g .regions)) cs i no-connection (filled-inside h i l) (v .good .connections-legal .each) .target))

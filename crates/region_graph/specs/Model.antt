@@ -49,11 +49,15 @@ connection-before a b = ltb (a .source) (b .source) || (eqb (a .source) (b .sour
 abbrev pub Word : ℕ → Type 0
 Word n = n < 2 ^ 32
 
--- a set of at most so many numbers
-pub record Numbered (most : ℕ) (xs : List ℕ) : Type 0 where
+-- a set of at most so many elements, each good, in strictly ascending order
+pub record Sorted {A : Type 0} (before : A → A → Bool) (Good : A → Type 0) (most : ℕ) (xs : List A) : Type 0 where
   pub few : length xs ≤ most
-  pub words : All Word xs
-  pub ascend : ascends ltb xs ≡ true
+  pub each : All Good xs
+  pub ascend : ascends before xs ≡ true
+
+-- a set of at most so many numbers
+abbrev pub Numbered : ℕ → List ℕ → Type 0
+Numbered most xs = Sorted ltb Word most xs
 
 abbrev pub NumberedPart : Part → Type 0
 NumberedPart (Part.listed xs) = Numbered most-listed xs
@@ -78,11 +82,6 @@ pub record LegalConnection (rs : List ℕ) (c : Connection) : Type 0 where
 
 -- all that document 01 says of R, B and F
 pub record Legal (m : Model) : Type 0 where
-  pub region-numbers : All (λ r. r < regions) (m .regions)
-  pub regions-ascend : ascends ltb (m .regions) ≡ true
-  pub bundles-few : length (m .bundles) ≤ most-bundles
-  pub bundles-ascend : ascends bundle-before (m .bundles) ≡ true
-  pub bundles-legal : All (LegalBundle (m .regions)) (m .bundles)
-  pub connections-few : length (m .connections) ≤ most-connections
-  pub connections-ascend : ascends connection-before (m .connections) ≡ true
-  pub connections-legal : All (LegalConnection (m .regions)) (m .connections)
+  pub regions-legal : Sorted ltb (λ r. r < regions) regions (m .regions)
+  pub bundles-legal : Sorted bundle-before (LegalBundle (m .regions)) most-bundles (m .bundles)
+  pub connections-legal : Sorted connection-before (LegalConnection (m .regions)) most-connections (m .connections)

@@ -267,7 +267,7 @@ pub crosses-members : (m : Model) (i : Item) (r s : ℕ) → Legal m → crosses
     → (member r (m .regions) ≡ true) × (member s (m .regions) ≡ true)
 crosses-members m i r s l e =
     let w = any-one (λ c. (eqb (c .source) r && eqb (c .target) s) && passes i (c .filter)) (LegalConnection (m .regions)) (m .connections)
-    (l .connections-legal) e in
+    (l .connections-legal .each) e in
     let c = w .0 in
     let f = and-fst (eqb (c .source) r && eqb (c .target) s) (passes i (c .filter)) (w .1) in (
       subst (λ n. member n (m .regions) ≡ true) (eqb-true (c .source) r (and-fst (eqb (c .source) r) (eqb (c .target) s) f)) (w .2 .source),
@@ -277,7 +277,7 @@ crosses-members m i r s l e =
 pub crosses-inside : (m : Model) (i : Item) (r s : ℕ) → Legal m → crosses m i r s ≡ true → (r < regions) × (s < regions)
 crosses-inside m i r s l e =
     let w = crosses-members m i r s l e in
-    let below : (n : ℕ) → member n (m .regions) ≡ true → n < regions = λ n. member-all (λ n. n < regions) n (m .regions) (l .region-numbers) in
+    let below : (n : ℕ) → member n (m .regions) ≡ true → n < regions = λ n. member-all (λ n. n < regions) n (m .regions) (l .regions-legal .each) in
     (below r (w .0), below s (w .1))
 
 -- `chosen` is the best route, and `sees` says whether there is a route

@@ -153,7 +153,7 @@ module _ (m : Model) (h : Legal m) where
   offer-says : (k n r : ℕ) (b : Bundle) → LegalBundle (m .regions) b
       → any (λ e. eqb (place-in e) r && eqb (number-in e) n) (offer k b) ≡ (eqb (b .region) r && provides (item k n) b)
   offer-says k n r b l =
-      let i : b .region < regions = member-all (λ x. x < regions) (b .region) (m .regions) (h .region-numbers) (l .region) in
+      let i : b .region < regions = member-all (λ x. x < regions) (b .region) (m .regions) (h .regions-legal .each) (l .region) in
       any-map (λ x. entry x (b .region)) (λ e. eqb (place-in e) r && eqb (number-in e) n) (provided k b)
       ∙ ap (λ (p : ℕ → Bool). any p (provided k b))
       (λ j x. eqb (entry-place x (b .region) (omega arith) j) r && (ap (λ (y : ℕ). eqb y n) (entry-number x (b .region) (omega arith)) ∙ eqb-sym x n) j)
@@ -166,7 +166,7 @@ module _ (m : Model) (h : Legal m) where
       (λ j r.
       (any-gather (offer k) (λ e. eqb (place-in e) r && eqb (number-in e) n) (m .bundles)
       ∙ any-each (offer k) (LegalBundle (m .regions)) (λ b. any (λ e. eqb (place-in e) r && eqb (number-in e) n) (offer k b))
-      (λ b. eqb (b .region) r && provides (item k n) b) (offer-says k n r) (m .bundles) (h .bundles-legal)) j)
+      (λ b. eqb (b .region) r && provides (item k n) b) (offer-says k n r) (m .bundles) (h .bundles-legal .each)) j)
 
   few-provided : (k : ℕ) (b : Bundle) → LegalBundle (m .regions) b → length (provided k b) ≤ most-provided
   few-provided zero b l = omega arith
@@ -176,35 +176,35 @@ module _ (m : Model) (h : Legal m) where
 
   pub offers-few : (k : ℕ) → All (λ b. length (offer k b) ≤ most-provided) (m .bundles)
   offers-few k =
-      all-map (LegalBundle (m .regions)) (λ b. length (offer k b) ≤ most-provided) (λ b l. rw length-map (few-provided k b l)) (m .bundles) (h .bundles-legal)
+      all-map (LegalBundle (m .regions)) (λ b. length (offer k b) ≤ most-provided) (λ b l. rw length-map (few-provided k b l)) (m .bundles) (h .bundles-legal .each)
 
   -- the place of a location in the table of the bundles is its region
   pub place-offers : (l : ℕ) → place-at (offers 0 (m .bundles)) l ≡ place-of (m .bundles) l
-  place-offers l = go (m .bundles) (h .bundles-legal)
+  place-offers l = go (m .bundles) (h .bundles-legal .each)
     where
       go : (bs : List Bundle) → All (LegalBundle (m .regions)) bs → place-at (offers 0 bs) l ≡ place-of bs l
       go [] a = refl
       go (b ∷ bs) a =
-          let i : b .region < regions = member-all (λ x. x < regions) (b .region) (m .regions) (h .region-numbers) (a .0 .region) in
+          let i : b .region < regions = member-all (λ x. x < regions) (b .region) (m .regions) (h .regions-legal .each) (a .0 .region) in
           rw (entry-number (b .location) (b .region) (omega arith), entry-place (b .location) (b .region) (omega arith), go bs (a .1))
 
   -- passages
 
   source-inside : {c : Connection} → LegalConnection (m .regions) c → c .source < regions
-  source-inside {c} l = member-all (λ x. x < regions) (c .source) (m .regions) (h .region-numbers) (l .source)
+  source-inside {c} l = member-all (λ x. x < regions) (c .source) (m .regions) (h .regions-legal .each) (l .source)
 
   target-inside : {c : Connection} → LegalConnection (m .regions) c → c .target < regions
-  target-inside {c} l = member-all (λ x. x < regions) (c .target) (m .regions) (h .region-numbers) (l .target)
+  target-inside {c} l = member-all (λ x. x < regions) (c .target) (m .regions) (h .regions-legal .each) (l .target)
 
   part-legal : (k : ℕ) (f : Filter) → LegalFilter f → NumberedPart (part-of k f)
   part-legal zero f l = l .bundles
   part-legal (suc zero) f l = l .packages
   part-legal (suc (suc zero)) f l = l .services
-  part-legal (suc (suc (suc k))) f l = record { few = omega arith; words = tt; ascend = refl }
+  part-legal (suc (suc (suc k))) f l = record { few = omega arith; each = tt; ascend = refl }
 
   -- what a part passes
   part-says : (n : ℕ) (p : Part) → NumberedPart p → any (λ x. eqb x every || eqb x n) (passed p) ≡ part-passes n p
-  part-says n (Part.listed xs) l = go xs (l .words)
+  part-says n (Part.listed xs) l = go xs (l .each)
     where
       go : (ys : List ℕ) → All Word ys → any (λ x. eqb x every || eqb x n) ys ≡ member n ys
       go [] a = refl
@@ -233,7 +233,7 @@ module _ (m : Model) (h : Legal m) where
       (λ j s r.
       (any-gather (passage k) (λ e. (eqb (source-in e) r && eqb (target-in e) s) && of-number n e) (m .connections)
       ∙ any-each (passage k) (LegalConnection (m .regions)) (λ c. any (λ e. (eqb (source-in e) r && eqb (target-in e) s) && of-number n e) (passage k c))
-      (λ c. (eqb (c .source) r && eqb (c .target) s) && passes (item k n) (c .filter)) (passage-says k n r s) (m .connections) (h .connections-legal)) j)
+      (λ c. (eqb (c .source) r && eqb (c .target) s) && passes (item k n) (c .filter)) (passage-says k n r s) (m .connections) (h .connections-legal .each)) j)
 
   few-passed : (p : Part) → NumberedPart p → length (passed p) ≤ most-listed
   few-passed (Part.listed xs) l = l .few
@@ -242,19 +242,19 @@ module _ (m : Model) (h : Legal m) where
   pub passages-few : (k : ℕ) → All (λ c. length (passage k c) ≤ most-listed) (m .connections)
   passages-few k =
       all-map (LegalConnection (m .regions)) (λ c. length (passage k c) ≤ most-listed)
-      (λ c l. rw length-map (few-passed (part-of k (c .filter)) (part-legal k (c .filter) (l .filter)))) (m .connections) (h .connections-legal)
+      (λ c l. rw length-map (few-passed (part-of k (c .filter)) (part-legal k (c .filter) (l .filter)))) (m .connections) (h .connections-legal .each)
 
   -- the places of the bundles and of the connections: each is stored in the one way, and a connection's ends are regions
   module _ {items : List StoredBundle} {count : ℕ} (f : Filled store-bundle (store-bundle no-bundle) most-bundles items count (m .bundles)) where
     pub bundle-placed : (i : ℕ) (e : StoredBundle) → i < count → BundleStored (getD items i e)
     bundle-placed i e l =
         stored-as store-bundle bundle-in ShortBundle (λ b s. bundle-back b) (getD (m .bundles) i no-bundle) (filled-at f i e no-bundle l)
-        (short-bundle (all-at (LegalBundle (m .regions)) (m .bundles) i no-bundle (filled-inside f i l) (h .bundles-legal)))
+        (short-bundle (all-at (LegalBundle (m .regions)) (m .bundles) i no-bundle (filled-inside f i l) (h .bundles-legal .each)))
 
   module _ {items : List StoredConnection} {count : ℕ} (f : Filled store-connection (store-connection no-connection) most-connections items count (m .connections))
       (i : ℕ) (e : StoredConnection) (l : i < count) where
     connection-legal : LegalConnection (m .regions) (getD (m .connections) i no-connection)
-    connection-legal = all-at (LegalConnection (m .regions)) (m .connections) i no-connection (filled-inside f i l) (h .connections-legal)
+    connection-legal = all-at (LegalConnection (m .regions)) (m .connections) i no-connection (filled-inside f i l) (h .connections-legal .each)
 
     pub connection-placed : ConnectionStored (getD items i e)
     connection-placed =

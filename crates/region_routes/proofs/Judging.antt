@@ -57,7 +57,7 @@ place-inside rs h (b ∷ bs) a l r e = go (at-location l b) (place-inside rs h b
     go false f k = f k
 
 pub region-inside : (m : Model) → Legal m → (l : ℕ) {r : ℕ} → place-of (m .bundles) l ≡ Within r → r < regions
-region-inside m h l {r} e = place-inside (m .regions) (h .region-numbers) (m .bundles) (h .bundles-legal) l r e
+region-inside m h l {r} e = place-inside (m .regions) (h .regions-legal .each) (m .bundles) (h .bundles-legal .each) l r e
 
 -- the region of a held item is one of the sixteen
 held-inside : (rs : List ℕ) → All (λ r. r < regions) rs → (i : Item) (r : ℕ) (bs : List Bundle) → All (LegalBundle rs) bs
@@ -167,7 +167,7 @@ module _ (m : Model) (i : Item) (h : Legal m) where
   in-holds n k = set-in (holds m i) n k
 
   holds-in : (n : ℕ) → Holds m i n → In (holder-set m i) n
-  holds-in n k = in-set (holds m i) n (held-inside (m .regions) (h .region-numbers) i n (m .bundles) (h .bundles-legal) k) k
+  holds-in n k = in-set (holds m i) n (held-inside (m .regions) (h .regions-legal .each) i n (m .bundles) (h .bundles-legal .each) k) k
 
   tied : Tied (crosses m i) (holds m i) (predecessor-sets m i) (holder-set m i)
   tied = record { inside = λ r s. crosses-inside m i r s h; conn-cross = conn-crosses; cross-conn = crosses-conn; in-ends = in-holds; ends-in = holds-in }

@@ -11,6 +11,7 @@ pub use hooks::resolve;
 pub use hooks::service_event;
 pub use hooks::service_find;
 pub use routes::route;
+pub use search::seers;
 
 // The kinds of items.
 pub enum Kind {

@@ -25,7 +25,7 @@ abbrev μ-loop : tie.MeasureT-loop
 -- the places hold the model's bundles
 filled : (c : tie.After-bundle-count Inv-loop μ-loop) → (let s = c .before .before in
     Filled store-bundle (store-bundle no-bundle) most-bundles (c .before .bundle-places .result) (c .bundle-count .result) (meaning (s .args .graph) .bundles))
-filled c = record { shape = c .before .bundle-places .ensures; counted = c .bundle-count .ensures; room = c .before .before .pre .good .bundles-few }
+filled c = record { shape = c .before .bundle-places .ensures; counted = c .bundle-count .ensures; room = c .before .before .pre .good .bundles-legal .few }
 
 bundle-places-requires : tie.Need-bundle-places-requires Inv-loop μ-loop
 bundle-places-requires c κs = search needs

@@ -25,7 +25,7 @@ abbrev μ-loop : tie.MeasureT-loop
 -- the places hold the model's connections
 filled : (c : tie.After-connection-count Inv-loop μ-loop) → (let s = c .before .before in
     Filled store-connection (store-connection no-connection) most-connections (c .before .connection-places .result) (c .connection-count .result) (meaning (s .args .graph) .connections))
-filled c = record { shape = c .before .connection-places .ensures; counted = c .connection-count .ensures; room = c .before .before .pre .good .connections-few }
+filled c = record { shape = c .before .connection-places .ensures; counted = c .connection-count .ensures; room = c .before .before .pre .good .connections-legal .few }
 
 connection-places-requires : tie.Need-connection-places-requires Inv-loop μ-loop
 connection-places-requires c κs = search needs

@@ -1,4 +1,4 @@
--- Laws of tests, `keep`, `any`, `position`, `insert` and `All`, for any element and test.
+-- Laws of tests, `keep`, `any`, `position`, `insert`, `All` and lists without repetitions, for any element and test.
 use mathlib.Core.Path.{_≡_, refl, sym, ap, _∙_, subst}
 use mathlib.Core.Bool.{Bool, true, false, not, _&&_, _||_, and-false}
 use mathlib.Core.List.{List, [], _∷_, _++_, map, append-nil}
@@ -11,7 +11,7 @@ use lib.Dec.{ltb, eqb}
 use lib.ListN.{length, getD, take, drop, drop-of-length-le}
 use lib.Seq.{take-suc, drop-cons}
 use borrow.Author.Tests.{lt-ltb, le-ltb, eqb-true, eqb-false, eq-eqb, ne-eqb}
-use Rattle.region_graph.specs.Lists.{pick, any, All, keep, position, insert, member}
+use Rattle.region_graph.specs.Lists.{pick, any, All, keep, position, insert, member, count-from}
 
 -- tests
 
@@ -270,3 +270,51 @@ member-kept q n (x ∷ xs) = go (q x) (eqb n x) refl refl (member-kept q n xs)
     go true false f e h = rw e h
     go false true f e h = h ∙ rw (same f e) (and-false (member n xs))
     go false false f e h = h
+
+-- an element that passes, with what is known of each
+pub any-one : {A : Type 0} (p : A → Bool) (P : A → Type 0) (xs : List A) → All P xs → any p xs ≡ true → (x : A) × (p x ≡ true) × P x
+any-one p P [] h e = false-true e
+any-one {A} p P (x ∷ xs) h e = go (p x) refl (any-one p P xs (h .1)) e
+  where
+    go : (b : Bool) → p x ≡ b → (any p xs ≡ true → (y : A) × (p y ≡ true) × P y) → (b || any p xs) ≡ true → (y : A) × (p y ≡ true) × P y
+    go true f r k = (x, f, h .0)
+    go false f r k = r k
+
+-- a list without repetitions: it has at most as many numbers as any list that has them all
+abbrev pub Distinct : List ℕ → Type 0
+Distinct [] = Unit {0}
+Distinct (x ∷ xs) = (member x xs ≡ false) × Distinct xs
+
+less-one : (x : ℕ) (ys : List ℕ) → member x ys ≡ true → length (keep (λ y. not (eqb x y)) ys) < length ys
+less-one x [] e = false-true e
+less-one x (y ∷ ys) e = go (eqb x y) (less-one x ys) e
+  where
+    go : (b : Bool) → (member x ys ≡ true → length (keep (λ y. not (eqb x y)) ys) < length ys) → (b || member x ys) ≡ true
+        → length (pick (not b) (y ∷ keep (λ y. not (eqb x y)) ys) (keep (λ y. not (eqb x y)) ys)) < suc (length ys)
+    go true h k = omega (arith, keep-length (λ y. not (eqb x y)) ys)
+    go false h k = omega (arith, h k)
+
+pub distinct-length : (xs ys : List ℕ) → Distinct xs → All (λ x. member x ys ≡ true) xs → length xs ≤ length ys
+distinct-length [] ys d h = omega arith
+distinct-length (x ∷ xs) ys d h =
+    omega (
+      arith,
+      less-one x ys (h .0),
+      distinct-length xs (keep other ys) (d .1)
+          (all-map (λ y. (member y ys ≡ true) × (eqb x y ≡ false)) (λ y. member y (keep other ys) ≡ true)
+          (λ y t. member-kept other y ys ∙ and-yes (t .0) (ap not (t .1))) xs
+          (all-both (λ y. member y ys ≡ true) (λ y. eqb x y ≡ false) xs (h .1) (any-none (eqb x) xs (d .0)))),
+    )
+  where
+    other : ℕ → Bool
+    other y = not (eqb x y)
+
+-- the numbers of a count
+pub member-count : (k a n : ℕ) → a ≤ n → n < a + k → member n (count-from a k) ≡ true
+member-count zero a n l h = absurd (omega arith)
+member-count (suc k) a n l h = go (eqb n a) refl (member-count k (suc a) n)
+  where
+    go : (b : Bool) → eqb n a ≡ b → (suc a ≤ n → n < suc a + k → member n (count-from (suc a) k) ≡ true)
+        → (b || member n (count-from (suc a) k)) ≡ true
+    go true e rest = refl
+    go false e rest = let d = eqb-false n a e in rest (omega arith) (omega arith)

@@ -37,7 +37,7 @@ use Rattle.region_graph.proofs.Arrays.{Filled, filled-none, filled-at, 
 took : {A B : Type 0} (f : A → B) (none : B) (n : ℕ) (xs : List A) → take (length xs) (map f xs ++ replicate n none) ≡ map f xs
 took f none n xs = take-at (map f xs) (replicate n none) (length xs) (length-map xs f)
 
-map-id : {A : Type 0} (xs : List A) → map (λ x. x) xs ≡ xs
+pub map-id : {A : Type 0} (xs : List A) → map (λ x. x) xs ≡ xs
 map-id [] = refl
 map-id {A} (x ∷ xs) = ap (λ (l : List A). x ∷ l) (map-id xs)
 

@@ -14,7 +14,7 @@ use Rattle.region_graph.specs.Lists.{pick, any, All, keep, member, count-from}
 use Rattle.region_graph.specs.Model.{Model, Legal, LegalConnection}
 use Rattle.region_graph.specs.Items.{holds, crosses, passes}
 use Rattle.region_graph.specs.declared.Item.{Item}
-use Rattle.region_graph.proofs.Lists.{and-yes, and-fst, and-snd, false-true, all-map, all-both, any-none, keep-length, member-all, member-kept}
+use Rattle.region_graph.proofs.Lists.{and-fst, and-snd, false-true, member-all, Distinct, distinct-length, member-count, any-one}
 use Rattle.region_routes.specs.Route.{Route, last, next, Lex, Best, NoRoute}
 use Rattle.region_routes.specs.Chosen.{first-of, put-before, when, or-else, exactly, from, chosen-by, found, chosen, sees, Crosses, Holds, RouteFor, NoRouteFor, BestFor}
 use Rattle.region_routes.proofs.RouteLaws.{lt-or-ge, nonempty, head-lex, best-unique}
@@ -62,45 +62,6 @@ module _ (P : ℕ → List ℕ → Type 0) (f : ℕ → Option (List ℕ)) (each
         λ q. among-cases n a q (h .1 q) (λ u. orderly a (u .0) p q (u .1) (h .0) (u .3)),
       )
 
--- a list without repetitions: it has at most as many numbers as any list that has them all
-abbrev Distinct : List ℕ → Type 0
-Distinct [] = Unit {0}
-Distinct (x ∷ xs) = (member x xs ≡ false) × Distinct xs
-
-less-one : (x : ℕ) (ys : List ℕ) → member x ys ≡ true → length (keep (λ y. not (eqb x y)) ys) < length ys
-less-one x [] e = false-true e
-less-one x (y ∷ ys) e = go (eqb x y) (less-one x ys) e
-  where
-    go : (b : Bool) → (member x ys ≡ true → length (keep (λ y. not (eqb x y)) ys) < length ys) → (b || member x ys) ≡ true
-        → length (pick (not b) (y ∷ keep (λ y. not (eqb x y)) ys) (keep (λ y. not (eqb x y)) ys)) < suc (length ys)
-    go true h k = omega (arith, keep-length (λ y. not (eqb x y)) ys)
-    go false h k = omega (arith, h k)
-
-distinct-length : (xs ys : List ℕ) → Distinct xs → All (λ x. member x ys ≡ true) xs → length xs ≤ length ys
-distinct-length [] ys d h = omega arith
-distinct-length (x ∷ xs) ys d h =
-    omega (
-      arith,
-      less-one x ys (h .0),
-      distinct-length xs (keep other ys) (d .1)
-          (all-map (λ y. (member y ys ≡ true) × (eqb x y ≡ false)) (λ y. member y (keep other ys) ≡ true)
-          (λ y t. member-kept other y ys ∙ and-yes (t .0) (ap not (t .1))) xs
-          (all-both (λ y. member y ys ≡ true) (λ y. eqb x y ≡ false) xs (h .1) (any-none (eqb x) xs (d .0)))),
-    )
-  where
-    other : ℕ → Bool
-    other y = not (eqb x y)
-
--- the numbers of a count
-member-count : (k a n : ℕ) → a ≤ n → n < a + k → member n (count-from a k) ≡ true
-member-count zero a n l h = absurd (omega arith)
-member-count (suc k) a n l h = go (eqb n a) refl (member-count k (suc a) n)
-  where
-    go : (b : Bool) → eqb n a ≡ b → (suc a ≤ n → n < suc a + k → member n (count-from (suc a) k) ≡ true)
-        → (b || member n (count-from (suc a) k)) ≡ true
-    go true e rest = refl
-    go false e rest = let d = eqb-false n a e in rest (omega arith) (omega arith)
-
 -- a route that passes no region twice: where there is a route there is such a one
 abbrev Simple : (ℕ → ℕ → Type 0) → (ℕ → Type 0) → ℕ → Type 0
 Simple E H r = (q : List ℕ) × Route E H r q × Distinct q
@@ -132,7 +93,7 @@ module _ {E : ℕ → ℕ → Type 0} {H : ℕ → Type 0} where
       go w = choose (w .0) (w .1) (w .2) (member r (w .0)) refl
 
 -- what an answer says of the routes from r: it is the best, or there is none
-abbrev Says : (ℕ → ℕ → Type 0) → (ℕ → Type 0) → ℕ → Option (List ℕ) → Type 0
+abbrev pub Says : (ℕ → ℕ → Type 0) → (ℕ → Type 0) → ℕ → Option (List ℕ) → Type 0
 Says E H r none = NoRoute E H r
 Says E H r (some p) = Best E H r p
 
@@ -152,10 +113,10 @@ module _ {E : ℕ → ℕ → Type 0} {H : ℕ → Type 0} where
   goes-on k (next {s = s} {p = p} g t) e = (p, s, refl, g, (t, omega arith))
 
 module _ (cross : ℕ → ℕ → Bool) (ends : ℕ → Bool) (inside : (r s : ℕ) → cross r s ≡ true → (r < regions) × (s < regions)) where
-  abbrev E : ℕ → ℕ → Type 0
+  abbrev pub E : ℕ → ℕ → Type 0
   E r s = cross r s ≡ true
 
-  abbrev H : ℕ → Type 0
+  abbrev pub H : ℕ → Type 0
   H r = ends r ≡ true
 
   -- `exactly` finds the first of the routes of k connections
@@ -195,7 +156,7 @@ module _ (cross : ℕ → ℕ → Bool) (ends : ℕ → Bool) (inside : (r s : �
       distinct-length (r ∷ p) (count-from 0 regions) d (all-inside (inside r s g .0) (next g t))
 
   -- `from` finds the best route where those of fewer connections are ruled out and the tries suffice
-  from-says : (n k r : ℕ) → k + n ≡ regions → ((q : List ℕ) → Route E H r q → k < length q) → Says E H r (from cross ends r k n)
+  pub from-says : (n k r : ℕ) → k + n ≡ regions → ((q : List ℕ) → Route E H r q → k < length q) → Says E H r (from cross ends r k n)
   from-says zero k r e low = λ q t. let w = simple t in omega (arith, low (w .0) (w .1), short (w .1) (w .2))
   from-says (suc n) k r e low = go (exactly cross ends k r) (exactly-first k r) (from-says n (suc k) r (omega arith))
     where
@@ -252,15 +213,6 @@ module _ (cross : ℕ → ℕ → Bool) (ends : ℕ → Bool) (inside : (r s : �
     pub found-is : (b : Bool) → (b ≡ true → (p : List ℕ) × Route E H r p) → (b ≡ false → NoRoute E H r) → b ≡ found (chosen-by cross ends r)
     found-is true f g = let w = f refl in sym (route-found (w .0) (w .1))
     found-is false f g = sym (ap found (by-none (g refl)))
-
--- an element that passes, with what is known of each
-any-one : {A : Type 0} (p : A → Bool) (P : A → Type 0) (xs : List A) → All P xs → any p xs ≡ true → (x : A) × (p x ≡ true) × P x
-any-one p P [] h e = false-true e
-any-one {A} p P (x ∷ xs) h e = go (p x) refl (any-one p P xs (h .1)) e
-  where
-    go : (b : Bool) → p x ≡ b → (any p xs ≡ true → (y : A) × (p y ≡ true) × P y) → (b || any p xs) ≡ true → (y : A) × (p y ≡ true) × P y
-    go true f r k = (x, f, h .0)
-    go false f r k = r k
 
 -- a connection of a legal model has its ends in R, so below the count of regions
 pub crosses-members : (m : Model) (i : Item) (r s : ℕ) → Legal m → crosses m i r s ≡ true

@@ -18,7 +18,7 @@ lt-or-ge (suc a) (suc b) = go (lt-or-ge a b)
     go (inl h) = inl (suc-le-suc h)
     go (inr h) = inr (suc-le-suc h)
 
-lex-antisym : (p q : List ℕ) → length p ≡ length q → Lex p q → Lex q p → p ≡ q
+pub lex-antisym : (p q : List ℕ) → length p ≡ length q → Lex p q → Lex q p → p ≡ q
 lex-antisym [] [] e a b = refl
 lex-antisym [] (y ∷ q) e a b = absurd (omega arith)
 lex-antisym (x ∷ p) [] e a b = absurd (omega arith)

@@ -67,17 +67,17 @@ pub record Answers (g : Graph) (m : Model) : Type 0 where
       → Events g number k xs entry a exit → KeptSays (Hears m (item (kind-number k) number)) xs entry exit a
 
 -- each contract is the same equation for its call
-routes-outcome : {g : Graph} {l kind number : ℕ} {entry exit : List ℕ} {a : Routed} → Routes g l kind number entry a exit
+pub routes-outcome : {g : Graph} {l kind number : ℕ} {entry exit : List ℕ} {a : Routed} → Routes g l kind number entry a exit
     → _≡_ {A = Outcome Routed} (routed a exit) (route-outcome (meaning g) l kind number entry)
 routes-outcome (by-route κs was out a e) = e
 
-finds-outcome : {g : Graph} {l : ℕ} {k : Kind} {xs entry exit : List ℕ} {a : Kept} → Finds g l k xs entry a exit
+pub finds-outcome : {g : Graph} {l : ℕ} {k : Kind} {xs entry exit : List ℕ} {a : Kept} → Finds g l k xs entry a exit
     → _≡_ {A = Outcome Kept} (kept a exit) (find-outcome (meaning g) k l xs entry)
 finds-outcome (by-bundle-find κs xs was out a e) = e
 finds-outcome (by-resolve κs xs was out a e) = e
 finds-outcome (by-service-find κs xs was out a e) = e
 
-events-outcome : {g : Graph} {number : ℕ} {k : Kind} {xs entry exit : List ℕ} {a : Kept} → Events g number k xs entry a exit
+pub events-outcome : {g : Graph} {number : ℕ} {k : Kind} {xs entry exit : List ℕ} {a : Kept} → Events g number k xs entry a exit
     → _≡_ {A = Outcome Kept} (kept a exit) (event-outcome (meaning g) k xs number entry)
 events-outcome (by-bundle-event κs xs was out a e) = e
 events-outcome (by-service-event κs xs was out a e) = e

@@ -13,6 +13,7 @@ use Rattle.region_graph.specs.Model.{Model, Part, NumberedPart, Legal, nothing}
 use Rattle.region_graph.specs.Calls.{first-no, run}
 use Rattle.region_graph.proofs.Lists.{all-map}
 use Rattle.region_routes.specs.Table.{graph-g}
+use Rattle.region_archive.specs.Bounds.{part-bound, bundle-bound, connection-bound}
 use Rattle.region_archive.specs.Bytes.{big, each, counted}
 use Rattle.region_archive.specs.Image.{part-bytes, body, image}
 use Rattle.region_archive.specs.File.{length-field, front-questions}
@@ -60,14 +61,14 @@ one-image m n h g e = body-same m n [] [] h g (sym (image-body m) ∙ ap (drop 5
 list-length : (xs : List ℕ) → length (counted (big 4) xs) ≡ 1 + length xs * 4
 list-length xs = omega (arith, each-length (big 4) 4 (big-length 4) xs)
 
--- a legal part takes at most 65 bytes
-part-most : (p : Part) → NumberedPart p → length (part-bytes (big 4) p) ≤ 65
+-- a legal part is within its bound
+part-most : (p : Part) → NumberedPart p → length (part-bytes (big 4) p) ≤ part-bound
 part-most p h = part-length p (part-listed-of p h)
 
 -- the most bytes that a record of a section takes
 abbrev record-limit : Section → ℕ
-record-limit Section.Bundles = 73
-record-limit Section.Connections = 199
+record-limit Section.Bundles = bundle-bound
+record-limit Section.Connections = connection-bound
 
 -- a legal element's record takes no more
 record-most : (k : Section) (rs : List ℕ) (x : Elem k) → LegalElem k rs x → length (record-bytes k x) ≤ record-limit k
@@ -96,7 +97,7 @@ section-most k m h =
     let r = legal-rows m h .1 k in
     omega (arith, each-most (LegalElem k (m .regions)) (record-bytes k) (record-limit k) (record-most k (m .regions)) (elements k m) (r .each), mul-le-mul-right (record-limit k) (r .few))
 
--- the longest image has 14248 bytes
+-- no image is longer than document 01 says
 pub image-bound : (m : Model) → Legal m → length (image m) ≤ 14248
 image-bound m h = omega (arith, image-size m, body-size m, legal-rows m h .0 .few, section-most Section.Bundles m h, section-most Section.Connections m h)
 

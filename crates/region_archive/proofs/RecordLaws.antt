@@ -9,6 +9,7 @@ use Rattle.region_graph.specs.Size.{regions, most-listed}
 use Rattle.region_graph.specs.Lists.{All}
 use Rattle.region_graph.specs.Model.{Part, Word, Numbered, NumberedPart}
 use Rattle.region_graph.proofs.Lists.{member-all}
+use Rattle.region_archive.specs.Bounds.{part-bound}
 use Rattle.region_archive.specs.Bytes.{big, each, counted}
 use Rattle.region_archive.specs.Image.{part-bytes}
 use Rattle.region_archive.specs.Rows.{Parsed, Answer}
@@ -124,17 +125,17 @@ module _ (rs : List ℕ) (small : All (λ r. r < regions) rs) where
           (same-element s x y (d .0), d .1)
 
 -- how long the fields of a record can be
-pub part-length : (p : Part) → ListedPart p → length (part-bytes (big 4) p) ≤ 65
+pub part-length : (p : Part) → ListedPart p → length (part-bytes (big 4) p) ≤ part-bound
 part-length (Part.listed xs) h = omega (arith, h .few, each-length (big 4) 4 (big-length 4) xs)
 part-length Part.everything h = omega arith
 
-field-length : (s : Section) (k : ℕ) (f : Fields) → FieldGood s k f → length (field-bytes s k f) ≤ 65
+field-length : (s : Section) (k : ℕ) (f : Fields) → FieldGood s k f → length (field-bytes s k f) ≤ part-bound
 field-length Section.Bundles zero f h = omega arith
 field-length Section.Connections zero f h = omega arith
 field-length s (suc zero) f h = omega arith
 field-length s (suc (suc k)) f h = part-length (part-at f k) h
 
-fields-length : (s : Section) (n : ℕ) (f : Fields) → GoodTo (FieldGood s) n f → length (bytes-to (field-bytes s) n f) ≤ n * 65
+fields-length : (s : Section) (n : ℕ) (f : Fields) → GoodTo (FieldGood s) n f → length (bytes-to (field-bytes s) n f) ≤ n * part-bound
 fields-length s zero f h = omega arith
 fields-length s (suc n) f h = rw length-append (omega (arith, field-length s n f (h .1), fields-length s n f (h .0)))
 

@@ -5,6 +5,7 @@ pub mod File
 pub mod Promise
 pub mod Decimal
 pub mod Listing
+pub mod Bounds
 pub mod Rows
 pub mod Entries
 pub mod Sections

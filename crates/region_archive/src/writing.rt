@@ -4,6 +4,7 @@ ghost use Prim.Native.Nat.{_+_, _≤_};
 ghost use lib.ListN.{length};
 ghost use Rattle.region_graph.specs.Size.{regions};
 ghost use Rattle.region_graph.specs.Record.{Valid, meaning, «numbers-of», «part-in»};
+ghost use Rattle.region_archive.specs.Bounds.{«part-bound», «fields-bound», «section-bound»};
 ghost use Rattle.region_archive.specs.Bytes.{big, counted, sized};
 ghost use Rattle.region_archive.specs.Image.{«part-bytes»};
 ghost use Rattle.region_archive.specs.Rows.{Wrote};
@@ -30,7 +31,7 @@ use region_graph::size::REGIONS;
 // How many bytes a part takes.
 fn part_size(part: Numbers) -> usize
     requires { ⌜ PartFits part ⌝ }
-    ensures { λ r. ⌜ (r ≡ length (part-bytes (big 4) (part-in part))) × (r ≤ 65) ⌝ }
+    ensures { λ r. ⌜ (r ≡ length (part-bytes (big 4) (part-in part))) × (r ≤ part-bound) ⌝ }
 {
     if part.count == EVERYTHING {
         return 1;
@@ -42,7 +43,7 @@ fn part_size(part: Numbers) -> usize
 fn field_size(section: Section, field: usize, entry: Entry) -> usize
     requires { ⌜ EntryFits entry ⌝ }
     requires { ⌜ field + 1 ≤ field-count section ⌝ }
-    ensures { λ r. ⌜ (r ≡ length (field-bytes section field (fields-in entry))) × (r ≤ 65) ⌝ }
+    ensures { λ r. ⌜ (r ≡ length (field-bytes section field (fields-in entry))) × (r ≤ part-bound) ⌝ }
 {
     match field {
         0 => first_width(section),
@@ -57,7 +58,7 @@ fn field_size(section: Section, field: usize, entry: Entry) -> usize
 // How many bytes the fields of a record take.
 fn fields_size(section: Section, entry: Entry) -> usize
     requires { ⌜ EntryFits entry ⌝ }
-    ensures { λ r. ⌜ (r ≡ length (fields-bytes section (fields-in entry))) × (r ≤ 325) ⌝ }
+    ensures { λ r. ⌜ (r ≡ length (fields-bytes section (fields-in entry))) × (r ≤ fields-bound) ⌝ }
 {
     let total = fields(section);
     let mut size: usize = 0;
@@ -72,7 +73,7 @@ fn fields_size(section: Section, entry: Entry) -> usize
 // How many bytes a section takes.
 fn section_size(graph: Graph, section: Section) -> usize
     requires { ⌜ Valid graph ⌝ }
-    ensures { λ r. ⌜ (r ≡ length (section-bytes section (meaning graph))) × (r ≤ 20929) ⌝ }
+    ensures { λ r. ⌜ (r ≡ length (section-bytes section (meaning graph))) × (r ≤ section-bound) ⌝ }
 {
     let bundles = graph.bundle_places();
     let connections = graph.connection_places();

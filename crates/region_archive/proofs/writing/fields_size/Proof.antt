@@ -3,6 +3,7 @@ use Prim.Native.Nat.{ℕ, _*_, _-_, _≤_}
 use native.Mathlib.Omega.{arith}
 use borrow.Author.Needs.{needs}
 use lib.ListN.{length, length-append}
+use Rattle.region_archive.specs.Bounds.{part-bound}
 use Rattle.region_archive.specs.Entries.{bytes-to, field-bytes, fields-in}
 use Rattle.region_archive.proofs.Pieces.{bytes-next}
 use Rattle.region_archive.proofs.Sizes.{few-fields}
@@ -11,7 +12,7 @@ use Rattle.region_archive.proofs.writing.fields_size.Tie as tie
 
 abbrev Inv-loop : tie.InvT-loop
 Inv-loop section entry total size₀ field₀ size field =
-    (field ≤ total) × (size ≡ length (bytes-to (field-bytes section) field (fields-in entry))) × (size ≤ field * 65)
+    (field ≤ total) × (size ≡ length (bytes-to (field-bytes section) field (fields-in entry))) × (size ≤ field * part-bound)
 
 abbrev μ-loop : tie.MeasureT-loop
 μ-loop section entry total size₀ field₀ size field = total - field

@@ -144,6 +144,10 @@ static uint32_t disconnect(region_graph *to) { return region_disconnect(to, 7, 9
 static uint32_t connect_listed(region_graph *to) {
     return region_connect(to, 7, 9, listed, LISTED, false, listed, LISTED, false, listed, LISTED);
 }
+static uint32_t remove_region(region_graph *to) { return region_remove(to, 9); }
+static uint32_t add_region(region_graph *to) { return region_add(to, 9); }
+static int64_t refused_add(void) { return region_add(&graph, 9); }
+static int64_t refused_install(void) { return install(&graph); }
 static int64_t read_longest(void) { return region_read(&graph, longest.bytes, longest.length); }
 static int64_t write_longest(void) { return region_write(&graph, bytes, sizeof bytes); }
 static int64_t query_g(void) { return archive_query(g.bytes, g.length, 10, REGION_KIND_PACKAGE, 1); }
@@ -206,8 +210,11 @@ int main(int count, char **arguments) {
     full_graph(false);
     queries("_listed", HIDDEN_ITEM);
     provide(32);
+    best("refused_add", "", refused_add);
+    best("refused_install", "", refused_install);
     best_pair("uninstall", uninstall, "install", install);
     best_pair("disconnect", disconnect, "connect", connect_listed);
+    best_pair("remove", remove_region, "add", add_region);
     best("read_longest", "", read_longest);
     best("write_longest", "", write_longest);
     best("query_g", "", query_g);

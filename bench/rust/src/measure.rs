@@ -94,6 +94,9 @@ fn queries(filters: &str, graph: &Graph, hidden: u32) {
 fn changes(graph: &Graph) {
     let filter = filter(&LISTED);
     let numbers = provided(32);
+    let mut full = graph.clone();
+    best("refused_add", || number(full.add_region(black_box(9))));
+    best("refused_install", || number(full.install(0, black_box(ASKER + 32), &numbers, &numbers)));
     best_pair(
         graph,
         ("uninstall", |g| g.uninstall(black_box(ASKER + 32))),
@@ -104,6 +107,7 @@ fn changes(graph: &Graph) {
         ("disconnect", |g| g.disconnect(black_box(7), 9)),
         ("connect", |g| g.connect(black_box(7), 9, &filter)),
     );
+    best_pair(graph, ("remove", |g| g.remove_region(black_box(9))), ("add", |g| g.add_region(black_box(9))));
 }
 
 fn archives(g: &[u8], longest: &[u8]) {
@@ -120,6 +124,11 @@ fn archives(g: &[u8], longest: &[u8]) {
 
 fn answer(given: Result<i64, Refusal>) -> i64 {
     given.unwrap_or_else(|refusal| -(refusal as i64))
+}
+
+/// What a changing call returns.
+fn number(done: Result<(), Refusal>) -> i64 {
+    done.map_or_else(|refusal| refusal as i64, |()| 0)
 }
 
 /// Prints the best average of the rounds.

@@ -3,9 +3,6 @@ pub mod Bytes
 pub mod Image
 pub mod File
 pub mod Promise
-pub mod Decimal
-pub mod Listing
 pub mod Rows
 pub mod Entries
 pub mod Sections
-pub mod Counts

@@ -8,9 +8,9 @@ use lib.ListN.{length, drop, length-append}
 use borrow.Author.Tests.{le-leb, lt-leb}
 use Rattle.region_graph.specs.Refusals.{no-place}
 use Rattle.region_graph.specs.Model.{Model}
+use Rattle.text_lines.specs.Written.{Wrote}
 use Rattle.region_archive.specs.Bytes.{big, counted}
 use Rattle.region_archive.specs.Image.{version, body, image}
-use Rattle.region_archive.specs.Rows.{Wrote}
 use Rattle.region_archive.specs.Entries.{section-bytes}
 use Rattle.region_archive.specs.Promise.{wrote, write-outcome}
 use Rattle.region_archive.specs.declared.entries.Section.the-variants as Section

@@ -29,7 +29,3 @@ pub mod FileReads
 pub mod QueryLaws
 pub mod Inverse
 pub mod WholeList
-pub mod DecimalLaws
-pub mod Collecting
-pub mod ListingLaws
-pub mod Printed

@@ -3,10 +3,7 @@ pub mod Bytes
 pub mod Image
 pub mod File
 pub mod Promise
-pub mod Decimal
-pub mod Listing
 pub mod Bounds
 pub mod Rows
 pub mod Entries
 pub mod Sections
-pub mod Counts

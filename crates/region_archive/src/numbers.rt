@@ -2,8 +2,9 @@
 ghost use mathlib.Core.Path.{_≡_};
 ghost use Prim.Native.Nat.{_+_, _<_, _≤_, _^_};
 ghost use lib.ListN.{length};
+ghost use Rattle.text_lines.specs.Written.{Wrote};
 ghost use Rattle.region_archive.specs.Bytes.{big};
-ghost use Rattle.region_archive.specs.Rows.{Wrote, Parsed, Answer};
+ghost use Rattle.region_archive.specs.Rows.{Parsed, Answer};
 
 // What stands at a place: whether it is a number, the place after it, and the number.
 pub struct NumberAt {

@@ -3,10 +3,11 @@ use Prim.Native.Nat.{ℕ, suc, _+_, _-_, _/_, _^_, _≤_}
 use native.Mathlib.Nat.{div-one}
 use native.Mathlib.Omega.{arith}
 use borrow.Author.Needs.{needs}
+use Rattle.text_lines.specs.Written.{Wrote}
+use Rattle.text_lines.proofs.Writes.{wrote-none, wrote-length}
 use Rattle.region_archive.specs.Bytes.{big}
-use Rattle.region_archive.specs.Rows.{Wrote}
 use Rattle.region_archive.proofs.Pieces.{div-next}
-use Rattle.region_archive.proofs.Writes.{wrote-none, wrote-length, wrote-higher}
+use Rattle.region_archive.proofs.Writes.{wrote-higher}
 use Rattle.region_archive.proofs.numbers.put_number.Statement.{statement}
 use Rattle.region_archive.proofs.numbers.put_number.Tie as tie
 

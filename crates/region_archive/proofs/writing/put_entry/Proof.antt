@@ -4,11 +4,11 @@ use Prim.Native.Nat.{ℕ, _+_, _-_, _≤_}
 use native.Mathlib.Omega.{arith}
 use borrow.Author.Needs.{needs}
 use lib.ListN.{length}
+use Rattle.text_lines.specs.Written.{Wrote}
+use Rattle.text_lines.proofs.Writes.{wrote-start, wrote-then, wrote-is, wrote-length, wrote-room}
 use Rattle.region_archive.specs.Bytes.{big, sized}
-use Rattle.region_archive.specs.Rows.{Wrote}
 use Rattle.region_archive.specs.Entries.{bytes-to, field-bytes, fields-bytes, field-count, fields-in}
 use Rattle.region_archive.proofs.Pieces.{bytes-next, bytes-within}
-use Rattle.region_archive.proofs.Writes.{wrote-start, wrote-then, wrote-is, wrote-length, wrote-room}
 use Rattle.region_archive.proofs.writing.put_entry.Statement.{statement}
 use Rattle.region_archive.proofs.writing.put_entry.Tie as tie
 

@@ -4,13 +4,13 @@ use mathlib.Core.List.{List}
 use Prim.Native.Nat.{ℕ, _+_, _≤_}
 use native.Mathlib.Omega.{arith}
 use lib.ListN.{length}
+use Rattle.region_graph.proofs.Lists.{all-at}
+use Rattle.text_lines.proofs.Writes.{wrote-is, wrote-length}
 use Rattle.region_archive.specs.Bytes.{big}
 use Rattle.region_archive.specs.Entries.{PartFits, fields-in, first-width}
-use Rattle.region_graph.proofs.Lists.{all-at}
 use Rattle.region_archive.proofs.Pieces.{big-length}
 use Rattle.region_archive.proofs.Records.{first-field, second-field, part-field}
 use Rattle.region_archive.proofs.Sizes.{few-fields}
-use Rattle.region_archive.proofs.Writes.{wrote-is, wrote-length}
 use Rattle.region_archive.proofs.writing.put_field.Statement.{statement}
 use Rattle.region_archive.proofs.writing.put_field.Tie as tie
 

@@ -4,11 +4,12 @@ use native.Mathlib.Omega.{arith}
 use borrow.Author.Needs.{needs}
 use lib.ListN.{length, take}
 use Rattle.region_graph.specs.Record.{numbers-of}
+use Rattle.text_lines.specs.Written.{Wrote}
+use Rattle.text_lines.proofs.Writes.{wrote-start, wrote-then, wrote-length, wrote-room}
 use Rattle.region_archive.specs.Bytes.{big, each, counted}
-use Rattle.region_archive.specs.Rows.{Wrote}
 use Rattle.region_archive.proofs.Pieces.{each-next, each-within}
 use Rattle.region_archive.proofs.Sizes.{numbers-length}
-use Rattle.region_archive.proofs.Writes.{wrote-start, wrote-then, wrote-length, wrote-room, wrote-counted}
+use Rattle.region_archive.proofs.Writes.{wrote-counted}
 use Rattle.region_archive.proofs.writing.put_list.Statement.{statement}
 use Rattle.region_archive.proofs.writing.put_list.Tie as tie
 

@@ -2,11 +2,11 @@ use mathlib.Core.Path.{sym, ap}
 use native.Mathlib.Omega.{arith}
 use lib.ListN.{length}
 use Rattle.region_graph.specs.Model.{Part}
+use Rattle.text_lines.proofs.Writes.{wrote-is, wrote-length}
 use Rattle.region_archive.specs.Bytes.{big}
 use Rattle.region_archive.specs.Image.{part-bytes}
 use Rattle.region_archive.proofs.Fits.{part-list}
 use Rattle.region_archive.proofs.Sizes.{part-all, part-listed}
-use Rattle.region_archive.proofs.Writes.{wrote-is, wrote-length}
 use Rattle.region_archive.proofs.writing.put_part.Statement.{statement}
 use Rattle.region_archive.proofs.writing.put_part.Tie as tie
 

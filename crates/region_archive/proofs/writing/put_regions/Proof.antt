@@ -5,11 +5,12 @@ use borrow.Author.Needs.{needs}
 use lib.ListN.{length}
 use Rattle.region_graph.specs.Size.{regions}
 use Rattle.region_graph.specs.Record.{meaning}
+use Rattle.text_lines.specs.Written.{Wrote}
+use Rattle.text_lines.proofs.Writes.{wrote-start, wrote-then, wrote-is, wrote-length, wrote-room}
 use Rattle.region_archive.specs.Bytes.{big, each, counted}
-use Rattle.region_archive.specs.Rows.{Wrote}
 use Rattle.region_archive.proofs.Pieces.{each-snoc}
 use Rattle.region_archive.proofs.Members.{met, met-took, met-left, met-all, met-byte}
-use Rattle.region_archive.proofs.Writes.{wrote-start, wrote-then, wrote-is, wrote-length, wrote-room, wrote-counted}
+use Rattle.region_archive.proofs.Writes.{wrote-counted}
 use Rattle.region_archive.proofs.writing.put_regions.Statement.{statement}
 use Rattle.region_archive.proofs.writing.put_regions.Tie as tie
 

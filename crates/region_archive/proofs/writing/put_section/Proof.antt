@@ -8,13 +8,14 @@ use lib.ListN.{length, take}
 use lib.Seq.{take-all}
 use Rattle.region_graph.specs.Model.{Model}
 use Rattle.region_graph.specs.Record.{meaning}
+use Rattle.text_lines.specs.Written.{Wrote}
+use Rattle.text_lines.proofs.Writes.{wrote-start, wrote-then, wrote-is, wrote-length, wrote-room}
 use Rattle.region_archive.specs.Bytes.{each}
-use Rattle.region_archive.specs.Rows.{Wrote}
 use Rattle.region_archive.specs.Entries.{record-bytes, section-bytes, elements, EntryIs}
 use Rattle.region_archive.proofs.Records.{entry-record}
 use Rattle.region_archive.proofs.Sizes.{few-elements, section-next, section-within}
 use Rattle.region_archive.proofs.Placed.{element-at, placed-model, Placed, placed-elements, placed-count, bundle-inside, bundle-fit, bundle-element, connection-inside, connection-fit, connection-element}
-use Rattle.region_archive.proofs.Writes.{wrote-start, wrote-then, wrote-is, wrote-length, wrote-room, wrote-counted}
+use Rattle.region_archive.proofs.Writes.{wrote-counted}
 use Rattle.region_archive.proofs.writing.put_section.Statement.{statement}
 use Rattle.region_archive.proofs.writing.put_section.Tie as tie
 

@@ -5,11 +5,11 @@ use Prim.Native.Nat.{ℕ, _+_}
 use native.Mathlib.Omega.{arith}
 use lib.ListN.{length}
 use Rattle.region_graph.specs.Record.{meaning}
+use Rattle.text_lines.proofs.Writes.{wrote-is, wrote-then, wrote-length}
 use Rattle.region_archive.specs.Bytes.{big, counted}
 use Rattle.region_archive.specs.Image.{version, body}
 use Rattle.region_archive.specs.Entries.{section-bytes}
 use Rattle.region_archive.specs.declared.entries.Section.the-variants as Section
-use Rattle.region_archive.proofs.Writes.{wrote-is, wrote-then, wrote-length}
 use Rattle.region_archive.proofs.Images.{body-size, image-size, image-pieces, regions-size, wrote-image, no-image}
 use Rattle.region_archive.proofs.writing.write.Statement.{statement}
 use Rattle.region_archive.proofs.writing.write.Tie as tie

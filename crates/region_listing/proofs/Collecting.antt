@@ -1,0 +1,174 @@
+-- Laws of the different numbers of a list, and of a collection that gathers them.
+use mathlib.Core.Path.{_≡_, refl, sym, ap, _∙_}
+use mathlib.Core.Bool.{Bool, true, false, _||_, or-true, or-false, or-assoc}
+use mathlib.Core.List.{List, [], _∷_, _++_}
+use Prim.Native.Nat.{ℕ, _+_, _≤_, _<_}
+use native.Mathlib.Numerals.{add-one}
+use native.Mathlib.Omega.{arith}
+use borrow.Author.Tests.{eqb-true}
+use lib.Dec.{eqb}
+use lib.ListN.{length, getD, take, set, length-append, length-set}
+use lib.Seq.{take-suc, take-length, length-take-le}
+use Rattle.region_graph.specs.Size.{most-provided}
+use Rattle.region_graph.specs.Lists.{pick, member}
+use Rattle.region_graph.specs.Model.{Model, Bundle, Legal, LegalBundle}
+use Rattle.region_graph.specs.Items.{provided}
+use Rattle.region_graph.specs.Record.{no-bundle}
+use Rattle.region_graph.proofs.Lists.{false-true, pick-yes, pick-no, any-append, eqb-sym}
+use Rattle.region_routes.specs.Hooks.{kind-number}
+use Rattle.region_routes.specs.declared.Kind.{Kind}
+use Rattle.region_routes.specs.declared.Kind.the-variants as Kind
+use Rattle.region_archive.specs.Bytes.{each}
+use Rattle.region_archive.proofs.Pieces.{each-next, each-within, each-most}
+use Rattle.region_archive.proofs.Answers.{take-set}
+use Rattle.region_listing.specs.Listing.{joined, joined-all, different, held}
+use Rattle.region_listing.specs.Counts.{most-different}
+
+or-fst : (a b : Bool) → (a || b) ≡ false → a ≡ false
+or-fst true b e = e
+or-fst false b e = refl
+
+or-snd : (a b : Bool) → (a || b) ≡ false → b ≡ false
+or-snd true b e = false-true (sym e)
+or-snd false b e = e
+
+-- two lists join one after the other
+pub joined-append : (s xs ys : List ℕ) → joined-all s (xs ++ ys) ≡ joined-all (joined-all s xs) ys
+joined-append s [] ys = refl
+joined-append s (x ∷ xs) ys = joined-append (joined s x) xs ys
+
+joined-length : (s : List ℕ) (n : ℕ) → length (joined s n) ≤ length s + 1
+joined-length s n = go (member n s)
+  where
+    go : (b : Bool) → length (pick b s (s ++ (n ∷ []))) ≤ length s + 1
+    go true = omega arith
+    go false = omega (arith, length-append s (n ∷ []))
+
+-- no more are different than there are
+pub joined-few : (s xs : List ℕ) → length (joined-all s xs) ≤ length s + length xs
+joined-few s [] = omega arith
+joined-few s (x ∷ xs) = omega (arith, joined-few (joined s x) xs, joined-length s x)
+
+-- the numbers `ls` up to place i have joined those at the start
+pub record Joining (start ls items : List ℕ) (n i : ℕ) : Type 0 where
+  pub size : length items ≡ most-different
+  pub few : n ≤ most-different
+  pub room : length start + length ls ≤ most-different
+  pub inside : i ≤ length ls
+  pub those : take n items ≡ joined-all start (take i ls)
+
+module _ {start ls items : List ℕ} {n i : ℕ} (j : Joining start ls items n i) (h : i < length ls) where
+  -- there is a place for the next number
+  pub joining-room : n < most-different
+  joining-room =
+      omega (
+        arith,
+        j .size,
+        j .few,
+        j .room,
+        ap length (j .those),
+        length-take-le n items (omega (arith, j .size, j .few)),
+        joined-few start (take i ls),
+        length-take-le i ls (omega arith),
+      )
+
+  module _ {x : ℕ} (f : x ≡ getD ls i 0) where
+    next : joined-all start (take (i + 1) ls) ≡ joined (take n items) x
+    next =
+        ap (joined-all start) (ap (λ (k : ℕ). take k ls) (add-one i) ∙ take-suc ls i 0 h) ∙ joined-append start (take i ls) (getD ls i 0 ∷ [])
+        ∙ ap (λ (l : List ℕ). joined l (getD ls i 0)) (sym (j .those)) ∙ ap (joined (take n items)) (sym f)
+
+    -- the next number is there already
+    pub joining-left : member x (take n items) ≡ true → Joining start ls items n (i + 1)
+    joining-left e =
+        record {
+          size = j .size;
+          few = j .few;
+          room = j .room;
+          inside = omega arith;
+          those = sym (next ∙ pick-yes (take n items) (take n items ++ (x ∷ [])) e);
+        }
+
+    -- or it is not
+    pub joining-took : member x (take n items) ≡ false → Joining start ls (set items n x) (n + 1) (i + 1)
+    joining-took e =
+        record {
+          size = length-set items n x ∙ j .size;
+          few = omega (arith, joining-room);
+          room = j .room;
+          inside = omega arith;
+          those =
+              take-set items n x (omega (arith, j .size, joining-room)) ∙ sym (next ∙ pick-no (take n items) (take n items ++ (x ∷ [])) e);
+        }
+
+-- one bundle more
+pub held-next : (k : Kind) (bs : List Bundle) (i : ℕ) → i < length bs
+    → held k (take (i + 1) bs) ≡ joined-all (held k (take i bs)) (provided (kind-number k) (getD bs i no-bundle))
+unfolding held
+held-next k bs i h =
+    ap different (each-next (provided (kind-number k)) bs i no-bundle h)
+    ∙ joined-append [] (each (provided (kind-number k)) (take i bs)) (provided (kind-number k) (getD bs i no-bundle))
+
+-- a bundle brings few numbers of a kind
+pub provided-few : (rs : List ℕ) (b : Bundle) → LegalBundle rs b → (k : Kind) → length (provided (kind-number k) b) ≤ most-provided
+provided-few rs b l Kind.Bundle = omega arith
+provided-few rs b l Kind.Package = l .packages .few
+provided-few rs b l Kind.Service = l .services .few
+
+-- the places hold what the bundles before one and that bundle bring
+pub held-room : (m : Model) → Legal m → (k : Kind) (i : ℕ) → i < length (m .bundles)
+    → length (held k (take i (m .bundles))) + length (provided (kind-number k) (getD (m .bundles) i no-bundle)) ≤ most-different
+unfolding held
+held-room m l k i h =
+    let f = provided (kind-number k) in
+    let bs = m .bundles in
+    omega (
+      arith,
+      joined-few [] (each f (take i bs)),
+      each-within f bs i (length bs) no-bundle h (omega arith),
+      ap (λ (xs : List Bundle). length (each f xs)) (take-length bs),
+      each-most (LegalBundle (m .regions)) f most-provided (λ b x. provided-few (m .regions) b x k) bs (l .bundles-legal .each),
+      l .bundles-legal .few,
+    )
+
+-- the different numbers of a list are those that it has
+joined-member : (n : ℕ) (s : List ℕ) (x : ℕ) → member n (joined s x) ≡ (member n s || eqb n x)
+joined-member n s x = go (member x s) refl (eqb n x) refl
+  where
+    go : (b : Bool) → member x s ≡ b → (t : Bool) → eqb n x ≡ t → member n (pick b s (s ++ (x ∷ []))) ≡ (member n s || t)
+    go true e true f = let h : n ≡ x = eqb-true n x f in (ap (λ (k : ℕ). member k s) h ∙ e) ∙ sym (or-true (member n s))
+    go true e false f = sym (or-false (member n s))
+    go false e t f = any-append (eqb n) s (x ∷ []) ∙ ap (λ (u : Bool). member n s || (u || false)) f ∙ ap (λ (u : Bool). member n s || u) (or-false t)
+
+joined-members : (n : ℕ) (s xs : List ℕ) → member n (joined-all s xs) ≡ (member n s || member n xs)
+joined-members n s [] = sym (or-false (member n s))
+joined-members n s (x ∷ xs) =
+    joined-members n (joined s x) xs ∙ ap (λ (b : Bool). b || member n xs) (joined-member n s x) ∙ or-assoc (member n s) (eqb n x) (member n xs)
+
+pub different-members : (n : ℕ) (xs : List ℕ) → member n (different xs) ≡ member n xs
+different-members n xs = joined-members n [] xs
+
+-- and each of them stands there once
+abbrev pub Once : List ℕ → Type 0
+Once [] = Unit {0}
+Once (x ∷ xs) = (member x xs ≡ false) × Once xs
+
+once-more : (s : List ℕ) (x : ℕ) → Once s → member x s ≡ false → Once (s ++ (x ∷ []))
+once-more [] x o e = (refl, tt)
+once-more (y ∷ s) x o e =
+    let f = or-fst (eqb x y) (member x s) e in
+    let g = or-snd (eqb x y) (member x s) e in (
+      any-append (eqb y) s (x ∷ []) ∙ ap (λ (b : Bool). b || (eqb y x || false)) (o .0) ∙ ap (λ (b : Bool). b || false) (eqb-sym y x ∙ f),
+      once-more s x (o .1) g,
+    )
+
+joined-once : (s xs : List ℕ) → Once s → Once (joined-all s xs)
+joined-once s [] o = o
+joined-once s (x ∷ xs) o = joined-once (joined s x) xs (go (member x s) refl)
+  where
+    go : (b : Bool) → member x s ≡ b → Once (pick b s (s ++ (x ∷ [])))
+    go true e = o
+    go false e = once-more s x o e
+
+pub different-once : (xs : List ℕ) → Once (different xs)
+different-once xs = joined-once [] xs tt

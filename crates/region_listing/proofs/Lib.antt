@@ -1,0 +1,4 @@
+-- Laws by subject, each over what stands above it.
+pub mod Collecting
+pub mod ListingLaws
+pub mod Printed

@@ -1,0 +1,35 @@
+use borrow.Author.Needs.{needs}
+use mathlib.Core.Path.{refl}
+use native.Mathlib.Omega.{arith}
+use Rattle.region_graph.specs.Record.{provided-of}
+use Rattle.region_listing.proofs.collection.provided_by.Statement.{statement}
+use Rattle.region_listing.proofs.collection.provided_by.Tie as tie
+
+enum-told : tie.Need-enum-told
+enum-told c = search needs
+
+array-write-items : tie.Need-array-write-items
+array-write-items c = search needs
+
+enum-told-2 : tie.Need-enum-told-2
+enum-told-2 c = search needs
+
+enum-told-3 : tie.Need-enum-told-3
+enum-told-3 c = search needs
+
+returns : tie.Need-returns
+unfolding provided-of
+returns c = rw (c .enum-told .given .1) (record { count = omega arith; size = refl }, refl)
+
+returns-2 : tie.Need-returns-2
+unfolding provided-of
+returns-2 c = rw (c .before .enum-told2 .given .1) (c .before .before .before .pre .packages, refl)
+
+returns-3 : tie.Need-returns-3
+unfolding provided-of
+returns-3 c = rw (c .before .enum-told3 .given .1) (c .before .before .before .pre .services, refl)
+
+pub provided-by-spec : {M : Type 1} → statement M
+provided-by-spec =
+    tie.close
+    (tie.spec enum-told array-write-items enum-told-2 enum-told-3 returns returns-2 returns-3)

@@ -1,0 +1,51 @@
+use borrow.Author.Needs.{needs}
+use mathlib.Core.Path.{ap, _∙_}
+use Prim.Native.Nat.{ℕ}
+use native.Mathlib.Omega.{arith}
+use lib.ListN.{length, length-replicate}
+use Rattle.region_listing.specs.Listing.{longest-text, store-text}
+use Rattle.region_listing.proofs.ListingLaws.{text-stored, refused-text, accepted-text}
+use Rattle.region_listing.proofs.listing.list_archive.Statement.{statement}
+use Rattle.region_listing.proofs.listing.list_archive.Tie as tie
+
+read-requires : tie.Need-read-requires
+read-requires c κs = search needs
+
+blank-requires : tie.Need-blank-requires
+blank-requires c κs = search needs
+
+slice-aggregate-put-refusal : tie.Need-slice-aggregate-put-refusal
+slice-aggregate-put-refusal c = search needs
+
+put-refusal-requires : tie.Need-put-refusal-requires
+put-refusal-requires c κs = search needs
+
+returns : tie.Need-returns
+returns c =
+    λ f. text-stored (c .before .before .before .before .before .blank .ensures) (c .before .put-refusal .ensures)
+    ∙ ap store-text (refused-text f (c .before .before .before .before .before .before .read .ensures .says f .number) (λ z. omega (arith, z, c .before .before .before .if1 .taken)))
+
+slice-aggregate-put-listing : tie.Need-slice-aggregate-put-listing
+slice-aggregate-put-listing c = search needs
+
+put-listing-requires : tie.Need-put-listing-requires
+put-listing-requires c κs =
+    (c .before .before .before .before .before .read .ensures .valid, omega (arith, ap length (c .before .before .before .before .blank .ensures), length-replicate {A = ℕ} longest-text 0))
+
+returns-2 : tie.Need-returns-2
+returns-2 c =
+    λ f. text-stored (c .before .before .before .before .before .before .blank .ensures) (c .before .put-listing .ensures)
+    ∙ ap store-text (accepted-text f (c .before .before .before .before .before .before .before .read .ensures .says f .number) (c .before .before .before .before .if1 .left) (c .before .before .before .before .before .before .before .read .ensures .says f .next))
+
+pub list-archive-spec : {M : Type 1} → statement M
+list-archive-spec =
+    tie.close
+    (tie.spec
+    read-requires
+    blank-requires
+    slice-aggregate-put-refusal
+    put-refusal-requires
+    returns
+    slice-aggregate-put-listing
+    put-listing-requires
+    returns-2)

@@ -1,0 +1,6 @@
+// The listing of an archive as text.
+mod collection;
+mod listing;
+
+pub use listing::Text;
+pub use listing::list_archive;

@@ -1,0 +1,3 @@
+-- Laws by subject, each over what stands above it.
+pub mod Writes
+pub mod DecimalLaws

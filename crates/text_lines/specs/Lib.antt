@@ -1,0 +1,3 @@
+-- What a reader must believe of text put into a buffer.
+pub mod Decimal
+pub mod Written

@@ -1,9 +1,13 @@
+pub mod Calling
 pub mod Changing
 pub mod Distinct
 pub mod Filling
 pub mod Given
 pub mod Learnt
+pub mod Lendable
 pub mod Names
 pub mod Outcomes
 pub mod Parameters
+pub mod Records
+pub mod Storing
 pub mod WholeList

@@ -4,3 +4,4 @@ pub use mathlib.Core.List.{[], _∷_}
 pub use mir.Syntax.{w8, w32}
 pub use denote.Builtin.{u8, u32}
 pub use Rattle.region_host.proofs.Parameters.{number, flag, words}
+pub use Rattle.region_host.proofs.Records.{graph, changed}

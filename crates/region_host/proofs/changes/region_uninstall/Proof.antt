@@ -1,8 +1,8 @@
--- `region_host::changes::region_uninstall` meets its contract: it changes the lent record by `region_graph::Graph::uninstall` (`Changing.antt`). Assumes nothing.
+-- `region_host::changes::region_uninstall` meets its contract: `region_graph::Graph::uninstall` of the lent record (`Changing.antt`). Assumes nothing.
 use Rattle.region_graph.proofs.Graph.uninstall as g
 use Rattle.region_graph.proofs.Graph.uninstall.Symbol as g-def
 use Rattle.region_graph.proofs.Graph.uninstall.Met as g-thm
-use Rattle.region_host.proofs.Names.{refl, [], _∷_, w32, number}
+use Rattle.region_host.proofs.Names.{refl, [], _∷_, w32, number, changed}
 use Rattle.region_host.proofs.Changing.{spec}
 use Rattle.region_host.proofs.changes.region_uninstall.Key as key
 use Rattle.region_host.proofs.changes.region_uninstall.Statement as stated
@@ -11,5 +11,6 @@ use Rattle.region_host.proofs.changes.region_uninstall.Code as code
 pub region-uninstall-spec : {M : Type 1} → stated.statement M
 unfolding code.routine
 region-uninstall-spec 𝓤 H 𝓜 𝓖 𝓡 =
-    spec 0 (number w32 ∷ []) 𝓤 H 𝓜 𝓖 𝓡 (g.clauses 𝓤 H (𝓖 .A) (𝓜 .mem) (𝓡 .run))
-    code.env key.name code.function (code.unfolded 𝓤 H 𝓜 𝓡) (λ κs. refl) g-def.name (λ κs. refl) g-def.routine code.calls-region-graph·Graph·uninstall (g-thm.met 𝓤 H 𝓜 𝓖 𝓡)
+    spec changed 0 (number w32 ∷ []) 𝓤 H 𝓜 𝓖 𝓡 (g.clauses 𝓤 H (𝓖 .A) (𝓜 .mem) (𝓡 .run))
+    code.env key.name code.function (code.unfolded 𝓤 H 𝓜 𝓡)
+    g-def.name (λ κs. (refl, refl)) g-def.routine code.calls-region-graph·Graph·uninstall (g-thm.met 𝓤 H 𝓜 𝓖 𝓡)

@@ -1,10 +1,10 @@
--- What the laws of the calls on a lent record ask of its type, and of the answer of a call that changes it. Both are plain data.
+-- What the laws of the calls on a lent record ask of the record's type, and of the answer of a call that changes it. Both are plain data.
 --     still R τ       the type R with one machine value, of the MIR type τ, that a function's exit sees as it was passed
---     Lendable        a type that can be lent: its MIR type, its machine value, that it owns only facts and is Copy, and that its value is of its MIR type
---     row, vals       the lent type as a signature has it, and its machine values
---     struct          a struct of plain data is lendable, by the laws that its module has
---     Answering T     the struct that a function answers which takes a T by value to the next one: the next T in its first field, and a `u32` in its second
---     answer, both    that struct as a signature has it, and its machine value of its fields'
+--     Lendable        a type that can be lent: its MIR type and its machine value; it owns only facts, is Copy, and its machine value is of its MIR type
+--     row, vals       that type as a signature has it, and its machine values
+--     struct          a struct of plain data can be lent, by the laws of its module
+--     Answering T     a struct that a call answers which changes a T: the next T in its first field, and a `u32` in its second. `make` puts the two together
+--     answer, both    that struct as a signature has it, and its machine value, of its fields'
 --     answer-is, answer-typed, next-typed, number-typed     what whoever holds an answer knows of its machine value and of its fields'
 -- The laws under a model assume `Given`. All else assumes nothing.
 use mathlib.Core.Path.{_≡_, sym, ap, subst}

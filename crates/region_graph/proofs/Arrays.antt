@@ -1,6 +1,6 @@
 -- Arrays whose first places hold a list: filling one, putting an element in the middle, and reading, for any element, store and size.
 use mathlib.Core.Path.{_≡_, refl, sym, ap, _∙_}
-use mathlib.Core.Bool.{Bool, true, false}
+use mathlib.Core.Bool.{Bool, true, false, not}
 use mathlib.Core.List.{List, [], _∷_, _++_, map, append-assoc}
 use Prim.Native.Nat.{ℕ, zero, suc, _+_, _-_, _≤_, _<_}
 use native.Mathlib.Numerals.{add-one}
@@ -12,7 +12,7 @@ use lib.ListN.{length, getD, take, drop, set, replicate, length-append, length-r
 use lib.Seq.{take-suc, drop-cons, set-at, append-snoc, take-at, drop-at, take-length, drop-length, take-take, take-set-le, set-split, getD-take, length-take-le, drop-append-add}
 use Rattle.region_graph.specs.Lists.{All, keep, any, member, position}
 use Rattle.region_graph.specs.Record.{places}
-use Rattle.region_graph.proofs.Lists.{all-at, any-here, any-later, any-end, keep-took, keep-left, map-append, any-found, any-missed}
+use Rattle.region_graph.proofs.Lists.{all-at, any-here, any-later, any-end, keep-took, keep-left, map-append, any-found, any-missed, any-fewer, any-as-many}
 
 module _ {A B : Type 0} (f : A → B) where
   pub map-take : (n : ℕ) (xs : List A) → map f (take n xs) ≡ take n (map f xs)
@@ -62,6 +62,13 @@ module _ {A B : Type 0} {store : A → B} {none : B} {size : ℕ} where
 
     pub filled-missed : (p : A → Bool) {k : ℕ} → k ≡ position p xs → count ≤ k → any p xs ≡ false
     filled-missed p e l = any-missed p xs (omega (arith, h .counted))
+
+    -- a filter that left as many elements as the count, and one that did not
+    pub filled-whole : (p : A → Bool) {k : ℕ} → k ≡ length (keep (λ x. not (p x)) xs) → k ≡ count → any p xs ≡ false
+    filled-whole p e l = any-as-many p xs (sym e ∙ l ∙ h .counted)
+
+    pub filled-fewer : (p : A → Bool) {k : ℕ} → k ≡ length (keep (λ x. not (p x)) xs) → (k ≡ count → ⊥) → any p xs ≡ true
+    filled-fewer p e l = any-fewer p xs (λ q. l (e ∙ q ∙ sym (h .counted)))
 
     -- the next place takes one element more
     pub filled-more : (x : A) → count < size → Filled store none size (set items count (store x)) (count + 1) (xs ++ (x ∷ []))

@@ -4,12 +4,12 @@ use mathlib.Core.Logic.{_⊎_, inl, inr}
 use mathlib.Core.Bool.{Bool, true, false, not, _&&_, _||_}
 use Prim.Native.Nat.{ℕ, zero, suc, _+_, _-_, _*_, _/_, _%_, _^_, _≤_, _<_, zero-le, suc-le-suc, min, max}
 use native.Mathlib.Nat.{mod-lt, pow-suc, div-lt-iff-lt-mul, zero-lt-suc, le-of-suc-le-suc, mul-div-cancel, mul-mod-left, not-suc-le-zero}
-use native.Mathlib.Nat.{one-mul, eq-or-lt-of-le, lt-of-lt-of-le, lt-of-le-of-lt}
+use native.Mathlib.Nat.{one-mul, div-one, pow-succ', div-div-eq-div-mul, eq-or-lt-of-le, lt-of-lt-of-le, lt-of-le-of-lt}
 use native.Mathlib.Omega.{arith}
 use lib.Dec.{eqb, ltb, lit≤}
 use lib.Arith.{digits-div, digits-mod, lt-one}
 use lib.Pow.{pow-pos, pow-mono, pow-lt}
-use lib.Bits.{bitAnd, bitOr, and-step, or-step, and-mask, and-le-l, or-lt, or-zero-r, or-shifted-r}
+use lib.Bits.{bitAnd, bitOr, and-step, or-step, and-le-l, or-lt, or-zero-r, or-shifted-r}
 use lib.Count.{trailingZeros, under}
 use borrow.Author.Tests.{ltb-true, lt-ltb, eqb-true, eqb-false}
 use Rattle.region_graph.specs.Size.{regions}
@@ -78,12 +78,12 @@ bit-other zero (suc n) f = bit-zero n
 bit-other (suc r) zero f = pow-even r
 bit-other (suc r) (suc n) f = ap (λ (x : ℕ). bit x n) (pow-half r) ∙ bit-other r n (λ e. f (ap suc e))
 
--- a number and a power of two have at most that power in common
-pub and-pow : (x r : ℕ) → bitAnd x (2 ^ r) ≡ bit x r * 2 ^ r
+-- a digit by a shift
+pub bit-shift : (x n : ℕ) → x / 2 ^ n % 2 ≡ bit x n
 unfolding bit
-and-pow x zero = omega (arith, and-mask x 1)
-and-pow x (suc r) =
-    omega (arith, and-step x (2 ^ suc r), ap (bitAnd (x / 2)) (pow-half r), pow-even r, and-pow (x / 2) r, ap (λ (m : ℕ). bit (x / 2) r * m) (pow-suc 2 r))
+bit-shift x zero = ap (λ (y : ℕ). y % 2) (div-one x)
+bit-shift x (suc n) =
+    ap (λ (y : ℕ). y % 2) (ap (λ (y : ℕ). x / y) (pow-succ' 2 n) ∙ sym (div-div-eq-div-mul x 2 (2 ^ n))) ∙ bit-shift (x / 2) n
 
 -- the complement at one digit more: that of the half, and the lowest digit turned
 comp-step : (w y : ℕ) → y < 2 ^ suc w → (2 ^ suc w - 1) - y ≡ ((2 ^ w - 1) - y / 2) * 2 + (1 - y % 2)

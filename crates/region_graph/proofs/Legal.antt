@@ -6,15 +6,15 @@ use Prim.Native.Nat.{ℕ, _+_, _≤_, _<_}
 use native.Mathlib.Omega.{arith}
 use lib.Dec.{eqb, ltb}
 use lib.ListN.{length}
-use borrow.Author.Tests.{leb-true, ltb-true, eqb-true, eqb-false, not-true}
+use borrow.Author.Tests.{leb-true, ltb-true, lt-ltb, eqb-true, eqb-false, ne-eqb, not-true}
 use Rattle.region_graph.specs.Size.{regions, most-bundles, most-connections, most-provided, most-listed}
 use Rattle.region_graph.specs.Refusals.{not-refused}
 use Rattle.region_graph.specs.Lists.{pick, keep, any, All, member, insert, ascends}
 use Rattle.region_graph.specs.Model.{Word, Sorted, Model, Bundle, Part, Connection, NumberedPart, LegalBundle, LegalConnection, Legal, nothing, bundle-before, connection-before}
-use Rattle.region_graph.specs.Calls.{Call, Question, first-no, questions, number, accepted, after, run, Words, PartWords, at-location, in-region, joins, touches, within, part-within, part-ascends}
+use Rattle.region_graph.specs.Calls.{Call, Question, first-no, end-questions, questions, number, accepted, after, run, Words, PartWords, is-region, at-location, in-region, joins, touches, within, part-within, part-ascends}
 use Rattle.region_graph.specs.Places.{ShortPart}
 use Rattle.region_graph.specs.Promise.{part}
-use Rattle.region_graph.proofs.Lists.{eqb-sym, and-fst, and-snd, false-true, pick-yes, keep-length, any-insert, insert-length, any-none, all-map, all-kept, all-insert, member-kept, and-yes}
+use Rattle.region_graph.proofs.Lists.{eqb-sym, and-fst, and-snd, false-true, pick-yes, keep-length, any-insert, insert-length, any-none, all-map, all-kept, all-insert, keep-all, member-all, member-kept, other-member, and-yes}
 use Rattle.region_graph.proofs.Ascending.{Strict, Rising, or-right, ascends-rising, ascends-keep, ascends-insert, strict-numbers, strict-bundles, strict-connections, numbers-differ, connections-differ}
 
 -- neither of two tests
@@ -45,6 +45,14 @@ first-no-stops (q ∷ qs) rs {k} e n = go (q .yes) (λ f. first-no-stops qs rs f
 pub first-no-goes-on : (qs rs : List Question) → All (λ q. q .yes ≡ true) qs → first-no (qs ++ rs) ≡ first-no rs
 first-no-goes-on [] rs h = refl
 first-no-goes-on (q ∷ qs) rs h = pick-yes (first-no (qs ++ rs)) (q .number) (h .0) ∙ first-no-goes-on qs rs (h .1)
+
+-- questions put in two steps, the later ones where the first give no refusal
+module _ (qs rs : List Question) (n : All (λ q. eqb (q .number) not-refused ≡ false) qs) {k : ℕ} (e : k ≡ first-no qs) where
+  pub first-step : (k ≡ not-refused → ⊥) → k ≡ first-no (qs ++ rs)
+  first-step u = sym (first-no-stops qs rs (sym e) (ne-eqb k not-refused u))
+
+  pub second-step : k ≡ not-refused → {j : ℕ} → j ≡ first-no rs → j ≡ first-no (qs ++ rs)
+  second-step z f = f ∙ sym (first-no-goes-on qs rs (all-yes qs n (sym e ∙ z)))
 
 -- what an accepted install has passed
 pub record Installable (m : Model) (b : Bundle) : Type 0 where
@@ -268,6 +276,81 @@ legal-after m c l w = go (eqb (number m c) not-refused) refl
 pub legal-run : (m : Model) (cs : List Call) → Legal m → All Words cs → Legal (run m cs)
 legal-run m [] l w = l
 legal-run m (c ∷ cs) l w = legal-run (after m c) cs (legal-after m c l (w .0)) (w .1)
+
+-- a region is added that is one and is not there
+pub add-idle : (m : Model) (r : ℕ) → (number m (Call.add-region r) ≡ not-refused → ⊥) → r < regions → member r (m .regions) ≡ true
+add-idle m r u h = go (member r (m .regions)) refl
+  where
+    go : (b : Bool) → member r (m .regions) ≡ b → b ≡ true
+    go true e = refl
+    go false e = absurd (u (rw (lt-ltb r regions h, e)))
+
+-- a bundle that is not there does not leave
+pub uninstall-idle : (m : Model) (n : ℕ) → (number m (Call.uninstall n) ≡ not-refused → ⊥) → accepted m (Call.uninstall n) ≡ m
+uninstall-idle m n u =
+    let h = absent (any (at-location n) (m .bundles)) refl in
+    λ i. record { regions = m .regions; bundles = keep-all (at-location n) (m .bundles) h i; connections = m .connections }
+  where
+    absent : (b : Bool) → any (at-location n) (m .bundles) ≡ b → All (λ b. at-location n b ≡ false) (m .bundles)
+    absent true e = absurd (u (rw e))
+    absent false e = any-none (at-location n) (m .bundles) e
+
+-- a legal model has nothing for a refused remove or disconnect to take away
+module _ (m : Model) (l : Legal m) where
+  region-below : (r : ℕ) → member r (m .regions) ≡ true → is-region r ≡ true
+  region-below r h = lt-ltb r regions (member-all (λ s. s < regions) r (m .regions) (l .regions-legal .each) h)
+
+  -- nothing is in a region that is not there, or touches it
+  none-in : (r : ℕ) → member r (m .regions) ≡ false → All (λ b. in-region r b ≡ false) (m .bundles)
+  none-in r k =
+      all-map (LegalBundle (m .regions)) (λ b. in-region r b ≡ false) (λ b h. other-member (b .region) r (m .regions) (h .region) k)
+      (m .bundles) (l .bundles-legal .each)
+
+  none-touches : (r : ℕ) → member r (m .regions) ≡ false → All (λ c. touches r c ≡ false) (m .connections)
+  none-touches r k =
+      all-map (LegalConnection (m .regions)) (λ c. touches r c ≡ false)
+      (λ c h. rw (other-member (c .source) r (m .regions) (h .source) k, other-member (c .target) r (m .regions) (h .target) k)) (m .connections)
+      (l .connections-legal .each)
+
+  -- a connection's ends pass the questions, so ends that are refused join nothing
+  ends-pass : (c : Connection) → LegalConnection (m .regions) c → first-no (end-questions (m .regions) (c .source) (c .target)) ≡ not-refused
+  ends-pass c h = rw (region-below (c .source) (h .source), region-below (c .target) (h .target), h .source, h .target, h .differ)
+
+  none-joins : (r s : ℕ) → (first-no (end-questions (m .regions) r s) ≡ not-refused → ⊥) → All (λ c. joins r s c ≡ false) (m .connections)
+  none-joins r s u =
+      all-map (LegalConnection (m .regions)) (λ c. joins r s c ≡ false) (λ c h. go c h (joins r s c) refl) (m .connections)
+      (l .connections-legal .each)
+    where
+      go : (c : Connection) → LegalConnection (m .regions) c → (b : Bool) → joins r s c ≡ b → b ≡ false
+      go c h true e =
+          let p : c .source ≡ r = eqb-true (c .source) r (and-fst (eqb (c .source) r) (eqb (c .target) s) e) in
+          let q : c .target ≡ s = eqb-true (c .target) s (and-snd (eqb (c .source) r) (eqb (c .target) s) e) in
+          absurd (u ((λ i. first-no (end-questions (m .regions) (sym p i) (sym q i))) ∙ ends-pass c h))
+      go c h false e = refl
+
+  pub remove-idle : (r : ℕ) → (number m (Call.remove-region r) ≡ not-refused → ⊥) → accepted m (Call.remove-region r) ≡ m
+  remove-idle r u =
+      let k = absent (member r (m .regions)) refl in
+      λ i. record {
+        regions = keep-all (eqb r) (m .regions) (any-none (eqb r) (m .regions) k) i;
+        bundles = keep-all (in-region r) (m .bundles) (none-in r k) i;
+        connections = keep-all (touches r) (m .connections) (none-touches r k) i;
+      }
+    where
+      absent : (b : Bool) → member r (m .regions) ≡ b → member r (m .regions) ≡ false
+      absent true e = absurd (u (rw (region-below r e, e)))
+      absent false e = e
+
+  pub disconnect-idle : (r s : ℕ) → (number m (Call.disconnect r s) ≡ not-refused → ⊥) → accepted m (Call.disconnect r s) ≡ m
+  disconnect-idle r s u =
+      let h = absent (any (joins r s) (m .connections)) refl in
+      λ i. record { regions = m .regions; bundles = m .bundles; connections = keep-all (joins r s) (m .connections) h i }
+    where
+      absent : (b : Bool) → any (joins r s) (m .connections) ≡ b → All (λ c. joins r s c ≡ false) (m .connections)
+      absent true e =
+          none-joins r s
+          (λ z. let h = all-yes (end-questions (m .regions) r s) (refl, (refl, (refl, tt))) z in u (rw (h .0, h .1 .0, h .1 .1 .0, e)))
+      absent false e = any-none (joins r s) (m .connections) e
 
 -- a part that was handed over as a flag and a list
 pub part-words : (all : Bool) (xs : List ℕ) → All Word xs → PartWords (part all xs)

@@ -243,6 +243,28 @@ module _ {A : Type 0} where
       go true h r k = false-true (sym k)
       go false h r k = (h, r k)
 
+-- the elements that pass leave: none, where none passes, and the count tells
+module _ {A : Type 0} (p : A → Bool) where
+  pub keep-all : (xs : List A) → All (λ x. p x ≡ false) xs → keep (λ x. not (p x)) xs ≡ xs
+  keep-all [] h = refl
+  keep-all (x ∷ xs) h = rw (h .0) (ap (λ (l : List A). x ∷ l) (keep-all xs (h .1)))
+
+  pub any-fewer : (xs : List A) → (length (keep (λ x. not (p x)) xs) ≡ length xs → ⊥) → any p xs ≡ true
+  any-fewer xs f = go (any p xs) refl
+    where
+      go : (b : Bool) → any p xs ≡ b → b ≡ true
+      go true e = refl
+      go false e = absurd (f (ap length (keep-all xs (any-none p xs e))))
+
+  pub any-as-many : (xs : List A) → length (keep (λ x. not (p x)) xs) ≡ length xs → any p xs ≡ false
+  any-as-many [] e = refl
+  any-as-many (x ∷ xs) e = go (p x) (any-as-many xs) e
+    where
+      go : (b : Bool) → (length (keep (λ y. not (p y)) xs) ≡ length xs → any p xs ≡ false)
+          → length (pick (not b) (x ∷ keep (λ y. not (p y)) xs) (keep (λ y. not (p y)) xs)) ≡ suc (length xs) → (b || any p xs) ≡ false
+      go true r k = absurd (omega (arith, keep-length (λ y. not (p y)) xs))
+      go false r k = r (omega arith)
+
 pub map-append : {A B : Type 0} (f : A → B) (xs ys : List A) → map f (xs ++ ys) ≡ map f xs ++ map f ys
 map-append f [] ys = refl
 map-append f (x ∷ xs) ys = ap (λ t. f x ∷ t) (map-append f xs ys)
@@ -255,6 +277,14 @@ member-all P n (x ∷ xs) h e = go (eqb n x) refl (member-all P n xs (h .1)) e
     go : (b : Bool) → eqb n x ≡ b → (member n xs ≡ true → P n) → (b || member n xs) ≡ true → P n
     go true f r k = subst P (sym (eqb-true n x f)) (h .0)
     go false f r k = r k
+
+-- a member is not a number that is none
+pub other-member : (n r : ℕ) (xs : List ℕ) → member n xs ≡ true → member r xs ≡ false → eqb n r ≡ false
+other-member n r xs h k = go (eqb n r) refl
+  where
+    go : (b : Bool) → eqb n r ≡ b → b ≡ false
+    go true e = false-true (sym k ∙ ap (λ (x : ℕ). member x xs) (sym (eqb-true n r e)) ∙ h)
+    go false e = refl
 
 -- the members of a list that are kept
 pub member-kept : (q : ℕ → Bool) (n : ℕ) (xs : List ℕ) → member n (keep q xs) ≡ (member n xs && q n)
@@ -309,12 +339,15 @@ distinct-length (x ∷ xs) ys d h =
     other : ℕ → Bool
     other y = not (eqb x y)
 
--- the numbers of a count
-pub member-count : (k a n : ℕ) → a ≤ n → n < a + k → member n (count-from a k) ≡ true
-member-count zero a n l h = absurd (omega arith)
-member-count (suc k) a n l h = go (eqb n a) refl (member-count k (suc a) n)
+-- the numbers from a on
+pub member-counted : (n a k : ℕ) → a ≤ n → member n (count-from a k) ≡ ltb n (a + k)
+member-counted n a zero h = sym (le-ltb n (a + 0) (omega arith))
+member-counted n a (suc k) h = go (eqb n a) refl (member-counted n (suc a) k)
   where
-    go : (b : Bool) → eqb n a ≡ b → (suc a ≤ n → n < suc a + k → member n (count-from (suc a) k) ≡ true)
-        → (b || member n (count-from (suc a) k)) ≡ true
-    go true e rest = refl
-    go false e rest = let d = eqb-false n a e in rest (omega arith) (omega arith)
+    go : (b : Bool) → eqb n a ≡ b → (suc a ≤ n → member n (count-from (suc a) k) ≡ ltb n (suc a + k))
+        → (b || member n (count-from (suc a) k)) ≡ ltb n (a + suc k)
+    go true e r = sym (lt-ltb n (a + suc k) (omega (arith, eqb-true n a e)))
+    go false e r = r (omega (arith, eqb-false n a e)) ∙ ap (ltb n) (omega arith)
+
+pub member-count : (k a n : ℕ) → a ≤ n → n < a + k → member n (count-from a k) ≡ true
+member-count k a n l h = member-counted n a k l ∙ lt-ltb n (a + k) h

@@ -1,18 +1,18 @@
 -- The record that stores a model and the model that a record means: each gives the other back.
 use mathlib.Core.Path.{_≡_, refl, sym, ap, _∙_, subst}
-use mathlib.Core.Bool.{Bool, true, false, not, _&&_, _||_, and-false, or-comm}
+use mathlib.Core.Bool.{Bool, true, false, not, _&&_, _||_, or-comm, or-true, or-false}
 use mathlib.Core.List.{List, [], _∷_, _++_, map}
 use Prim.Native.Nat.{ℕ, zero, suc, _+_, _-_, _≤_, _<_, _^_}
 use native.Mathlib.Omega.{arith}
 use lib.Bits.{bitAnd, bitOr}
 use lib.Dec.{eqb, ltb}
-use borrow.Author.Tests.{lt-ltb, ne-eqb}
+use borrow.Author.Tests.{lt-ltb, eqb-true, eqb-false, eq-eqb, ne-eqb}
 use lib.ListN.{length, getD, take, replicate, length-map, List·getD-map}
 use lib.Seq.{take-at, getD-take}
 use Rattle.region_graph.specs.Size.{regions, most-bundles, most-connections, most-listed, most-provided, all-sign}
 use Rattle.region_graph.specs.Refusals.{not-refused}
 use Rattle.region_graph.specs.Lists.{All, member, keep, insert, count-from}
-use Rattle.region_graph.specs.Sets.{has, one, members, set-of}
+use Rattle.region_graph.specs.Sets.{bit, has, one, members, set-of}
 use Rattle.region_graph.specs.Model.{Model, Bundle, Filter, Part, Connection, Legal, LegalBundle, LegalConnection, NumberedPart, nothing}
 use Rattle.region_graph.specs.Calls.{Call, number, after, accepted, Words}
 use Rattle.region_graph.specs.Record
@@ -27,7 +27,7 @@ use Rattle.region_graph.specs.declared.connections.Connections.{Connecti
 use Rattle.region_graph.specs.declared.Graph.{Graph}
 use Rattle.region_graph.specs.Promise.{Empty, Follows}
 use Rattle.region_graph.specs.declared.Changed.{Changed}
-use Rattle.region_graph.proofs.Lists.{all-map, all-at, keep-same, member-all, member-kept, any-insert, eqb-sym}
+use Rattle.region_graph.proofs.Lists.{pick-yes, pick-no, all-map, all-at, keep-same, member-kept, member-counted, any-insert, eqb-sym}
 use Rattle.region_graph.proofs.Ascending.{members-back}
 use Rattle.region_graph.proofs.Bits.{has-set, set-ext, set-join, set-leave}
 use Rattle.region_graph.proofs.Legal.{legal-accepted, legal-nothing}
@@ -208,6 +208,15 @@ pub filled-connections : {items : List StoredConnection} {count : ℕ} {cs : Lis
 unfolding store-connections
 filled-connections h = λ i. record { count = h .counted i; items = h .shape i }
 
+-- the count of a list that is stored
+pub bundles-count : {x : Bundles} (bs : List Bundle) → x ≡ store-bundles bs → x .count ≡ length bs
+unfolding store-bundles
+bundles-count bs e = ap (λ (y : Bundles). y .count) e
+
+pub connections-count : {x : Connections} (cs : List Connection) → x ≡ store-connections cs → x .count ≡ length cs
+unfolding store-connections
+connections-count cs e = ap (λ (y : Connections). y .count) e
+
 all-counted : (P : ℕ → Type 0) (a k : ℕ) → ((n : ℕ) → n < a + k → P n) → All P (count-from a k)
 all-counted P a zero f = tt
 all-counted P a (suc k) f = (f a (omega arith), all-counted P (suc a) k (λ n h. f n (omega arith)))
@@ -247,19 +256,22 @@ meaning-back m h = λ i. record { regions = regions-back m h i; bundles = bundle
 pub meaning-injective : (g h : Graph) → Valid g → Valid h → meaning g ≡ meaning h → g ≡ h
 meaning-injective g h v w e = v .stored ∙ ap store e ∙ sym (w .stored)
 
+-- the test of a set is that of its members
+pub has-member : (x r : ℕ) → has x r ≡ member r (members x)
+unfolding members
+has-member x r =
+    sym (member-kept (has x) r (count-from 0 regions) ∙ ap (λ (b : Bool). b && has x r) (member-counted r 0 regions (omega arith))
+    ∙ twice (ltb r regions) (eqb (bit x r) 1))
+  where
+    twice : (a b : Bool) → (a && (a && b)) ≡ (a && b)
+    twice true b = refl
+    twice false b = refl
+
 -- the parts of a valid record
 module _ (g : Graph) (v : Valid g) where
   pub regions-stored : g .regions ≡ set-of (λ r. member r (meaning g .regions))
   unfolding store
   regions-stored = ap (λ (k : Graph). k .regions) (v .stored)
-
-  -- the test of a set is the model's
-  pub has-region : (r : ℕ) → has (g .regions) r ≡ member r (meaning g .regions)
-  has-region r = ap (λ (x : ℕ). has x r) regions-stored ∙ has-set (λ s. member s (meaning g .regions)) r ∙ go (member r (meaning g .regions)) refl
-    where
-      go : (b : Bool) → member r (meaning g .regions) ≡ b → (ltb r regions && b) ≡ b
-      go true e = rw (lt-ltb r regions (member-all (λ s. s < regions) r (meaning g .regions) (v .good .regions-legal .each) e))
-      go false e = and-false (ltb r regions)
 
   pub bundles-stored : BundlesStored (g .bundles)
   unfolding store meaning
@@ -295,6 +307,17 @@ set-remove rs r e =
     ∙ set-ext (λ n. member n rs && not (eqb r n)) (λ n. member n (keep (λ s. not (eqb r s)) rs))
     (λ n h. sym (member-kept (λ s. not (eqb r s)) n rs))
 
+-- a set that has the region keeps its value, and so does every set for a number that is no region's
+pub set-kept : {x : ℕ} (rs : List ℕ) (r : ℕ) → (r < regions → member r rs ≡ true) → x ≡ set-of (λ n. member n rs) → bitOr x (one r) ≡ x
+set-kept rs r f e =
+    ap (λ (x : ℕ). bitOr x (one r)) e ∙ set-join (λ n. member n rs) r
+    ∙ set-ext (λ n. member n rs || eqb r n) (λ n. member n rs) (λ n h. had n h (eqb r n) refl) ∙ sym e
+  where
+    had : (n : ℕ) → n < regions → (b : Bool) → eqb r n ≡ b → (member n rs || b) ≡ member n rs
+    had n h true q =
+        or-true (member n rs) ∙ sym (ap (λ (k : ℕ). member k rs) (sym (eqb-true r n q)) ∙ f (omega (arith, eqb-true r n q)))
+    had n h false q = or-false (member n rs)
+
 -- the parts of a record that stores a model
 pub stored-graph : (m : Model) {x : ℕ} {bs : Bundles} {cs : Connections} → x ≡ set-of (λ r. member r (m .regions))
     → bs ≡ store-bundles (m .bundles) → cs ≡ store-connections (m .connections)
@@ -314,18 +337,44 @@ stores-means m h e = ap meaning e ∙ meaning-back m h
 pub stores-nothing : {g : Graph} → g ≡ store nothing → Empty g
 stores-nothing e = record { valid = stores-valid nothing legal-nothing e; sets = stores-means nothing legal-nothing e }
 
--- a refused call hands back the record that it got
-pub refused : (g : Graph) (c : Call) {k : ℕ} → Valid g → number (meaning g) c ≡ k → eqb k not-refused ≡ false
-    → Follows g c (record { graph = g; number = k })
-refused g c v e n = record { valid = v; number = sym e; next = sym (rw (e, n)); kept = λ f. refl }
+-- a call, its number, and the record that it hands back
+module _ (g : Graph) (c : Call) {h : Graph} {k : ℕ} (v : Valid g) (e : k ≡ number (meaning g) c) where
+  -- where it is refused, the record that it got
+  pub refused : (k ≡ not-refused → ⊥) → h ≡ g → Follows g c (record { graph = h; number = k })
+  refused u s =
+      record {
+        valid = subst Valid (sym s) v;
+        number = e;
+        next = ap meaning s ∙ sym (pick-no (accepted (meaning g) c) (meaning g) (ne-eqb (number (meaning g) c) not-refused (λ z. u (e ∙ z))));
+        kept = λ f. s;
+      }
 
--- an accepted call hands back the record that stores the model after it
-pub accepts : (g : Graph) (c : Call) {h : Graph} → Valid g → Words c → number (meaning g) c ≡ not-refused → h ≡ store (accepted (meaning g) c)
-    → Follows g c (record { graph = h; number = not-refused })
-accepts g c v w e s =
-    let m = accepted (meaning g) c in
-    let l : Legal m = legal-accepted (meaning g) c (v .good) w e in
-    record { valid = stores-valid m l s; number = sym e; next = stores-means m l s ∙ sym (rw e); kept = λ f. absurd (f refl) }
+  module _ (w : Words c) where
+    -- where it is accepted, the record that stores the model after it
+    pub accepts : k ≡ not-refused → h ≡ store (accepted (meaning g) c) → Follows g c (record { graph = h; number = k })
+    accepts z s =
+        let m = accepted (meaning g) c in
+        let l : Legal m = legal-accepted (meaning g) c (v .good) w (sym e ∙ z) in
+        record {
+          valid = stores-valid m l s;
+          number = e;
+          next = stores-means m l s ∙ sym (pick-yes m (meaning g) (eq-eqb (number (meaning g) c) not-refused (sym e ∙ z)));
+          kept = λ f. absurd (f z);
+        }
+
+    -- each of the two
+    pub outcome : (k ≡ not-refused → h ≡ store (accepted (meaning g) c)) → ((k ≡ not-refused → ⊥) → h ≡ g)
+        → Follows g c (record { graph = h; number = k })
+    outcome a r = go (eqb k not-refused) refl
+      where
+        go : (b : Bool) → eqb k not-refused ≡ b → Follows g c (record { graph = h; number = k })
+        go true q = let z = eqb-true k not-refused q in accepts z (a z)
+        go false q = let u = eqb-false k not-refused q in refused u (r u)
+
+    -- the change is made first, and does nothing where the call is refused
+    pub changes : ((number (meaning g) c ≡ not-refused → ⊥) → accepted (meaning g) c ≡ meaning g) → h ≡ store (accepted (meaning g) c)
+        → Follows g c (record { graph = h; number = k })
+    changes idle s = outcome (λ z. s) (λ u. s ∙ ap store (idle (λ z. u (e ∙ z))) ∙ sym (v .stored))
 
 -- the promises settle the outcome: two records that meet them are one
 pub settled : (g : Graph) (c : Call) (r s : Changed) → Follows g c r → Follows g c s → r ≡ s

@@ -67,47 +67,63 @@ filter-within f = within most-listed (f .bundles) && (part-within (f .packages) 
 abbrev pub filter-ascends : Filter → Bool
 filter-ascends f = ascends ltb (f .bundles) && (part-ascends (f .packages) && part-ascends (f .services))
 
--- the questions about a connection's two ends
-abbrev pub end-questions : Model → ℕ → ℕ → List Question
-end-questions m r s =
+-- the questions about a region that is to be new
+abbrev pub new-region-questions : List ℕ → ℕ → List Question
+new-region-questions rs r =
+    ask not-a-region (is-region r)
+    ∷ ask region-used (not (member r rs))
+    ∷ []
+
+-- about a region that is to be there
+abbrev pub region-questions : List ℕ → ℕ → List Question
+region-questions rs r =
+    ask not-a-region (is-region r)
+    ∷ ask no-such-region (member r rs)
+    ∷ []
+
+-- about a connection's two ends
+abbrev pub end-questions : List ℕ → ℕ → ℕ → List Question
+end-questions rs r s =
     ask not-a-region (is-region r && is-region s)
-    ∷ ask no-such-region (member r (m .regions) && member s (m .regions))
+    ∷ ask no-such-region (member r rs && member s rs)
     ∷ ask ends-equal (not (eqb r s))
+    ∷ []
+
+-- about a bundle's region and lists
+abbrev pub provided-questions : List ℕ → ℕ → List ℕ → List ℕ → List Question
+provided-questions rs r packages services =
+    region-questions rs r
+    ++ ask list-too-long (within most-provided packages && within most-provided services)
+    ∷ ask list-out-of-order (ascends ltb packages && ascends ltb services)
+    ∷ []
+
+-- about a place for a bundle
+abbrev pub bundle-questions : List Bundle → List Connection → ℕ → ℕ → List Question
+bundle-questions bs cs r l =
+    ask installed (not (any (at-location l) bs))
+    ∷ ask filtered (not (any (names r l) cs))
+    ∷ ask full (ltb (length bs) most-bundles)
+    ∷ []
+
+-- about a place for a connection, and its filter
+abbrev pub connection-questions : List Connection → Connection → List Question
+connection-questions cs c =
+    ask connected (not (any (joins (c .source) (c .target)) cs))
+    ∷ ask list-too-long (filter-within (c .filter))
+    ∷ ask list-out-of-order (filter-ascends (c .filter))
+    ∷ ask full (ltb (length cs) most-connections)
     ∷ []
 
 -- the questions that each call passes, by number
 abbrev pub questions : Model → Call → List Question
-questions m (add-region r) =
-    ask not-a-region (is-region r)
-    ∷ ask region-used (not (member r (m .regions)))
-    ∷ []
-questions m (remove-region r) =
-    ask not-a-region (is-region r)
-    ∷ ask no-such-region (member r (m .regions))
-    ∷ []
+questions m (add-region r) = new-region-questions (m .regions) r
+questions m (remove-region r) = region-questions (m .regions) r
 questions m (install b) =
-    ask not-a-region (is-region (b .region))
-    ∷ ask no-such-region (member (b .region) (m .regions))
-    ∷ ask list-too-long (within most-provided (b .packages) && within most-provided (b .services))
-    ∷ ask list-out-of-order (ascends ltb (b .packages) && ascends ltb (b .services))
-    ∷ ask installed (not (any (at-location (b .location)) (m .bundles)))
-    ∷ ask filtered (not (any (names (b .region) (b .location)) (m .connections)))
-    ∷ ask full (ltb (length (m .bundles)) most-bundles)
-    ∷ []
-questions m (uninstall l) =
-    ask not-installed (any (at-location l) (m .bundles))
-    ∷ []
-questions m (connect c) =
-    end-questions m (c .source) (c .target)
-    ++ ask connected (not (any (joins (c .source) (c .target)) (m .connections)))
-    ∷ ask list-too-long (filter-within (c .filter))
-    ∷ ask list-out-of-order (filter-ascends (c .filter))
-    ∷ ask full (ltb (length (m .connections)) most-connections)
-    ∷ []
-questions m (disconnect r s) =
-    end-questions m r s
-    ++ ask not-connected (any (joins r s) (m .connections))
-    ∷ []
+    provided-questions (m .regions) (b .region) (b .packages) (b .services)
+    ++ bundle-questions (m .bundles) (m .connections) (b .region) (b .location)
+questions m (uninstall l) = ask not-installed (any (at-location l) (m .bundles)) ∷ []
+questions m (connect c) = end-questions (m .regions) (c .source) (c .target) ++ connection-questions (m .connections) c
+questions m (disconnect r s) = end-questions (m .regions) r s ++ ask not-connected (any (joins r s) (m .connections)) ∷ []
 
 -- the number that a call returns: 0 when it is accepted
 abbrev pub number : Model → Call → ℕ

@@ -1,15 +1,20 @@
 // The six changing calls. Each hands back the next graph and a number; a refused one hands back the graph that it got.
+// Each copies the graph first and leaves by one exit, so that the compiler works in the record that a caller lends.
 ghost use mathlib.Core.Path.{_≡_};
-ghost use Rattle.region_graph.specs.Calls.{Call, number, «first-no», «end-questions»};
-ghost use Rattle.region_graph.specs.Record.{Valid, meaning};
+ghost use Rattle.region_graph.specs.Calls.{Call, «first-no», «new-region-questions», «region-questions», «end-questions», «provided-questions», «bundle-questions», «connection-questions»};
+ghost use Rattle.region_graph.specs.Sets.{members};
+ghost use Rattle.region_graph.specs.Record.{Valid, «bundles-of», «connections-of»};
+ghost use Rattle.region_graph.specs.Places.{BundlesStored, ConnectionsStored};
 ghost use Rattle.region_graph.specs.Promise.{Follows, bundle, connection};
 use crate::Changed;
 use crate::Graph;
 use crate::bundles::BundleTest;
+use crate::bundles::Bundles;
 use crate::bundles::StoredBundle;
 use crate::bundles::provided_ascending;
 use crate::bundles::provided_within;
 use crate::connections::ConnectionTest;
+use crate::connections::Connections;
 use crate::connections::StoredConnection;
 use crate::connections::filter_ascending;
 use crate::connections::filter_within;
@@ -36,206 +41,202 @@ use crate::region_set::one;
 use crate::size::MOST_BUNDLES;
 use crate::size::MOST_CONNECTIONS;
 
+// The number of an add.
+fn add_number(regions: u64, region: u32) -> u32
+    ensures { λ r. ⌜ r ≡ first-no (new-region-questions (members regions) region) ⌝ }
+{
+    if !is_region(region) {
+        return NOT_A_REGION;
+    }
+    if has(regions, region) {
+        return REGION_USED;
+    }
+    NOT_REFUSED
+}
+
+// The number of a remove, and that of an install's region.
+fn region_number(regions: u64, region: u32) -> u32
+    ensures { λ r. ⌜ r ≡ first-no (region-questions (members regions) region) ⌝ }
+{
+    if !is_region(region) {
+        return NOT_A_REGION;
+    }
+    if !has(regions, region) {
+        return NO_SUCH_REGION;
+    }
+    NOT_REFUSED
+}
+
+// The number that the region and the lists of an install give.
+fn provided_number(regions: u64, region: u32, packages: &[u32], services: &[u32]) -> u32
+    ensures { λ r. ⌜ r ≡ first-no (provided-questions (members regions) region (now (packages .entry)) (now (services .entry))) ⌝ }
+{
+    let number = region_number(regions, region);
+    if number != NOT_REFUSED {
+        return number;
+    }
+    if !provided_within(packages, services) {
+        return LIST_TOO_LONG;
+    }
+    if !provided_ascending(packages, services) {
+        return LIST_OUT_OF_ORDER;
+    }
+    NOT_REFUSED
+}
+
+// The number that the bundles and the connections give to an install.
+fn install_number(bundles: Bundles, connections: Connections, region: u32, location: u32) -> u32
+    requires { ⌜ BundlesStored bundles ⌝ }
+    requires { ⌜ ConnectionsStored connections ⌝ }
+    ensures { λ r. ⌜ r ≡ first-no (bundle-questions (bundles-of bundles) (connections-of connections) region location) ⌝ }
+{
+    if bundles.first(BundleTest::At(location)) < bundles.count {
+        return INSTALLED;
+    }
+    if connections.first(ConnectionTest::Naming(region, location)) < connections.count {
+        return FILTERED;
+    }
+    if MOST_BUNDLES <= bundles.count {
+        return FULL;
+    }
+    NOT_REFUSED
+}
+
+// The number that the two ends of a connection give.
+fn ends_number(regions: u64, source: u32, target: u32) -> u32
+    ensures { λ r. ⌜ r ≡ first-no (end-questions (members regions) source target) ⌝ }
+{
+    if !is_region(source) {
+        return NOT_A_REGION;
+    }
+    if !is_region(target) {
+        return NOT_A_REGION;
+    }
+    if !has(regions, source) {
+        return NO_SUCH_REGION;
+    }
+    if !has(regions, target) {
+        return NO_SUCH_REGION;
+    }
+    if source == target {
+        return ENDS_EQUAL;
+    }
+    NOT_REFUSED
+}
+
+// The number that the connections and the filter give to a connect.
+fn connect_number(
+    connections: Connections,
+    source: u32,
+    target: u32,
+    bundles: &[u32],
+    all_packages: bool,
+    packages: &[u32],
+    all_services: bool,
+    services: &[u32],
+) -> u32
+    requires { ⌜ ConnectionsStored connections ⌝ }
+    ensures { λ r. ⌜ r ≡ first-no (connection-questions (connections-of connections) (connection source target (now (bundles .entry)) «all_packages» (now (packages .entry)) «all_services» (now (services .entry)))) ⌝ }
+{
+    if connections.first(ConnectionTest::Joining(source, target)) < connections.count {
+        return CONNECTED;
+    }
+    if !filter_within(bundles, all_packages, packages, all_services, services) {
+        return LIST_TOO_LONG;
+    }
+    if !filter_ascending(bundles, all_packages, packages, all_services, services) {
+        return LIST_OUT_OF_ORDER;
+    }
+    if MOST_CONNECTIONS <= connections.count {
+        return FULL;
+    }
+    NOT_REFUSED
+}
+
 impl Graph {
+    // A region that is there, or a number that is none's, adds nothing.
     pub fn add_region(self, region: u32) -> Changed
         requires { ⌜ Valid self ⌝ }
         ensures { λ r. ⌜ Follows self (Call.add-region region) r ⌝ }
     {
-        if !is_region(region) {
-            return Changed {
-                graph: self,
-                number: NOT_A_REGION,
-            };
-        }
-        let regions = self.regions;
-        if has(regions, region) {
-            return Changed {
-                graph: self,
-                number: REGION_USED,
-            };
-        }
         let mut next = self;
+        let regions = self.regions;
         next.regions = regions | one(region);
+        let number = add_number(regions, region);
         Changed {
             graph: next,
-            number: NOT_REFUSED,
+            number,
         }
     }
 
-    // The region leaves with its bundles and every connection from or to it.
+    // The region leaves with its bundles and every connection from or to it; one that is not there has none of them.
     pub fn remove_region(self, region: u32) -> Changed
         requires { ⌜ Valid self ⌝ }
         ensures { λ r. ⌜ Follows self (Call.remove-region region) r ⌝ }
     {
-        if !is_region(region) {
-            return Changed {
-                graph: self,
-                number: NOT_A_REGION,
-            };
-        }
+        let mut next = self;
         let regions = self.regions;
-        if !has(regions, region) {
-            return Changed {
-                graph: self,
-                number: NO_SUCH_REGION,
-            };
-        }
         let bundles = self.bundles;
         let connections = self.connections;
-        let left = difference(regions, one(region));
+        next.regions = difference(regions, one(region));
         let outside = bundles.without(BundleTest::In(region));
+        next.bundles = outside;
         let apart = connections.without(ConnectionTest::Touching(region));
+        next.connections = apart;
+        let number = region_number(regions, region);
         Changed {
-            graph: Graph {
-                regions: left,
-                bundles: outside,
-                connections: apart,
-            },
-            number: NOT_REFUSED,
+            graph: next,
+            number,
         }
-    }
-
-    // The number of an install.
-    fn install_number(self, region: u32, location: u32, packages: &[u32], services: &[u32]) -> u32
-        requires { ⌜ Valid self ⌝ }
-        ensures { λ r. ⌜ r ≡ number (meaning self) (Call.install (bundle region location (now (packages .entry)) (now (services .entry)))) ⌝ }
-    {
-        if !is_region(region) {
-            return NOT_A_REGION;
-        }
-        let regions = self.regions;
-        if !has(regions, region) {
-            return NO_SUCH_REGION;
-        }
-        if !provided_within(packages, services) {
-            return LIST_TOO_LONG;
-        }
-        if !provided_ascending(packages, services) {
-            return LIST_OUT_OF_ORDER;
-        }
-        let bundles = self.bundles;
-        let count = bundles.count;
-        if bundles.first(BundleTest::At(location)) < count {
-            return INSTALLED;
-        }
-        let connections = self.connections;
-        if connections.first(ConnectionTest::Naming(region, location)) < connections.count {
-            return FILTERED;
-        }
-        if MOST_BUNDLES <= count {
-            return FULL;
-        }
-        NOT_REFUSED
     }
 
     pub fn install(self, region: u32, location: u32, packages: &[u32], services: &[u32]) -> Changed
         requires { ⌜ Valid self ⌝ }
         ensures { λ r. ⌜ Follows self (Call.install (bundle region location (now (packages .entry)) (now (services .entry)))) r ⌝ }
     {
-        let number = self.install_number(region, location, packages, services);
-        if number != NOT_REFUSED {
-            return Changed {
-                graph: self,
-                number,
-            };
-        }
-        let provided = provided_copied(packages);
-        let published = provided_copied(services);
-        let b = StoredBundle {
-            location,
-            region,
-            packages: provided,
-            services: published,
-        };
-        let bundles = self.bundles;
-        let place = bundles.first(BundleTest::After(location));
-        let more = bundles.with(place, b);
         let mut next = self;
-        next.bundles = more;
+        let bundles = self.bundles;
+        let connections = self.connections;
+        let mut number = provided_number(self.regions, region, packages, services);
+        if number == NOT_REFUSED {
+            number = install_number(bundles, connections, region, location);
+        }
+        if number == NOT_REFUSED {
+            let provided = provided_copied(packages);
+            let published = provided_copied(services);
+            let b = StoredBundle {
+                location,
+                region,
+                packages: provided,
+                services: published,
+            };
+            let place = bundles.first(BundleTest::After(location));
+            let more = bundles.with(place, b);
+            next.bundles = more;
+        }
         Changed {
             graph: next,
-            number: NOT_REFUSED,
+            number,
         }
     }
 
-    // The bundle leaves; filters do not change.
+    // The bundle leaves; filters do not change. Where no bundle is at the location, none leaves.
     pub fn uninstall(self, location: u32) -> Changed
         requires { ⌜ Valid self ⌝ }
         ensures { λ r. ⌜ Follows self (Call.uninstall location) r ⌝ }
     {
-        let bundles = self.bundles;
-        if bundles.count <= bundles.first(BundleTest::At(location)) {
-            return Changed {
-                graph: self,
-                number: NOT_INSTALLED,
-            };
-        }
-        let left = bundles.without(BundleTest::At(location));
         let mut next = self;
+        let bundles = self.bundles;
+        let left = bundles.without(BundleTest::At(location));
         next.bundles = left;
+        let mut number = NOT_REFUSED;
+        if left.count == bundles.count {
+            number = NOT_INSTALLED;
+        }
         Changed {
             graph: next,
-            number: NOT_REFUSED,
+            number,
         }
-    }
-
-    // The number that the two ends of a connection give.
-    fn ends_number(self, source: u32, target: u32) -> u32
-        requires { ⌜ Valid self ⌝ }
-        ensures { λ r. ⌜ r ≡ first-no (end-questions (meaning self) source target) ⌝ }
-    {
-        if !is_region(source) {
-            return NOT_A_REGION;
-        }
-        if !is_region(target) {
-            return NOT_A_REGION;
-        }
-        let regions = self.regions;
-        if !has(regions, source) {
-            return NO_SUCH_REGION;
-        }
-        if !has(regions, target) {
-            return NO_SUCH_REGION;
-        }
-        if source == target {
-            return ENDS_EQUAL;
-        }
-        NOT_REFUSED
-    }
-
-    // The number of a connect.
-    fn connect_number(
-        self,
-        source: u32,
-        target: u32,
-        bundles: &[u32],
-        all_packages: bool,
-        packages: &[u32],
-        all_services: bool,
-        services: &[u32],
-    ) -> u32
-        requires { ⌜ Valid self ⌝ }
-        ensures { λ r. ⌜ r ≡ number (meaning self) (Call.connect (connection source target (now (bundles .entry)) «all_packages» (now (packages .entry)) «all_services» (now (services .entry)))) ⌝ }
-    {
-        let number = self.ends_number(source, target);
-        if number != NOT_REFUSED {
-            return number;
-        }
-        let connections = self.connections;
-        let count = connections.count;
-        if connections.first(ConnectionTest::Joining(source, target)) < count {
-            return CONNECTED;
-        }
-        if !filter_within(bundles, all_packages, packages, all_services, services) {
-            return LIST_TOO_LONG;
-        }
-        if !filter_ascending(bundles, all_packages, packages, all_services, services) {
-            return LIST_OUT_OF_ORDER;
-        }
-        if MOST_CONNECTIONS <= count {
-            return FULL;
-        }
-        NOT_REFUSED
     }
 
     // A filter's package and service parts each come as a flag for "all" and a list, which counts where the flag is not set.
@@ -252,66 +253,60 @@ impl Graph {
         requires { ⌜ Valid self ⌝ }
         ensures { λ r. ⌜ Follows self (Call.connect (connection source target (now (bundles .entry)) «all_packages» (now (packages .entry)) «all_services» (now (services .entry)))) r ⌝ }
     {
-        let number = self.connect_number(
-            source,
-            target,
-            bundles,
-            all_packages,
-            packages,
-            all_services,
-            services,
-        );
-        if number != NOT_REFUSED {
-            return Changed {
-                graph: self,
-                number,
-            };
-        }
-        let named = copied(bundles);
-        let passed = part_copied(all_packages, packages);
-        let offered = part_copied(all_services, services);
-        let c = StoredConnection {
-            source,
-            target,
-            bundles: named,
-            packages: passed,
-            services: offered,
-        };
-        let connections = self.connections;
-        let place = connections.first(ConnectionTest::After(source, target));
-        let more = connections.with(place, c);
         let mut next = self;
-        next.connections = more;
+        let connections = self.connections;
+        let mut number = ends_number(self.regions, source, target);
+        if number == NOT_REFUSED {
+            number = connect_number(
+                connections,
+                source,
+                target,
+                bundles,
+                all_packages,
+                packages,
+                all_services,
+                services,
+            );
+        }
+        if number == NOT_REFUSED {
+            let named = copied(bundles);
+            let passed = part_copied(all_packages, packages);
+            let offered = part_copied(all_services, services);
+            let c = StoredConnection {
+                source,
+                target,
+                bundles: named,
+                packages: passed,
+                services: offered,
+            };
+            let place = connections.first(ConnectionTest::After(source, target));
+            let more = connections.with(place, c);
+            next.connections = more;
+        }
         Changed {
             graph: next,
-            number: NOT_REFUSED,
+            number,
         }
     }
 
+    // The connection leaves; between ends that are refused there is none.
     pub fn disconnect(self, source: u32, target: u32) -> Changed
         requires { ⌜ Valid self ⌝ }
         ensures { λ r. ⌜ Follows self (Call.disconnect source target) r ⌝ }
     {
-        let number = self.ends_number(source, target);
-        if number != NOT_REFUSED {
-            return Changed {
-                graph: self,
-                number,
-            };
-        }
-        let connections = self.connections;
-        if connections.count <= connections.first(ConnectionTest::Joining(source, target)) {
-            return Changed {
-                graph: self,
-                number: NOT_CONNECTED,
-            };
-        }
-        let left = connections.without(ConnectionTest::Joining(source, target));
         let mut next = self;
+        let connections = self.connections;
+        let left = connections.without(ConnectionTest::Joining(source, target));
         next.connections = left;
+        let mut number = ends_number(self.regions, source, target);
+        if number == NOT_REFUSED {
+            if left.count == connections.count {
+                number = NOT_CONNECTED;
+            }
+        }
         Changed {
             graph: next,
-            number: NOT_REFUSED,
+            number,
         }
     }
 }

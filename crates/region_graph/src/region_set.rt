@@ -50,7 +50,10 @@ pub fn one(region: u32) -> u64
 pub fn has(set: u64, region: u32) -> bool
     ensures { λ r. ⌜ r ≡ Sets.has set region ⌝ }
 {
-    set & one(region) != 0
+    if !is_region(region) {
+        return false;
+    }
+    (set >> region) % 2 == 1
 }
 
 // The members of a set that are not in the other.

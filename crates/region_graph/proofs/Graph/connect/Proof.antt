@@ -1,48 +1,71 @@
-use borrow.Author.Needs.{needs}
 use mathlib.Core.Path.{_≡_, refl, sym, ap, _∙_}
-use mathlib.Core.Bool.{true, false, not, _&&_}
-use native.Mathlib.Omega.{arith}
-use lib.Dec.{eqb, ltb}
-use borrow.Author.Tests.{not-true, not-false, eq-eqb, ne-eqb, le-ltb, lt-ltb}
-use mathlib.Core.List.{List, _∷_, _++_}
-use mathlib.Core.Bool.{Bool}
-use Prim.Native.Nat.{ℕ}
-use lib.ListN.{length, take, drop}
-use Rattle.region_graph.specs.Lists.{position, All}
-use Rattle.region_graph.specs.Model.{Part, Word, connection-before}
-use Rattle.region_graph.specs.Calls.{Call, accepted}
+use mathlib.Core.Logic.{⊎-elim}
+use mathlib.Core.List.{_∷_, _++_}
+use lib.ListN.{take, drop}
+use borrow.Author.Needs.{needs}
+use Rattle.region_graph.specs.Model.{Connection, Word, connection-before}
+use Rattle.region_graph.specs.Calls.{Call, number, accepted, end-questions, connection-questions}
 use Rattle.region_graph.specs.Record.{meaning, store-connection, store-connections, connection-in}
 use Rattle.region_graph.specs.Places.{ShortConnection, connection-meets}
 use Rattle.region_graph.specs.Promise.{connection}
 use Rattle.region_graph.specs.declared.connections.ConnectionTest.the-variants.{After}
 use Rattle.region_graph.proofs.Lists.{all-of, position-le, insert-at}
-use Rattle.region_graph.proofs.Legal.{Connectable, connectable, part-words, part-short}
+use Rattle.region_graph.proofs.Legal.{first-step, second-step, Connectable, connectable, part-words, part-short}
 use Rattle.region_graph.proofs.Storing.{stored-as, connection-back, regions-stored, bundles-stored, connections-stored, stored-graph, refused, accepts}
 use Rattle.region_graph.proofs.Graph.connect.Statement.{statement}
 use Rattle.region_graph.proofs.Graph.connect.Tie as tie
 
+-- the connection that is handed in
+abbrev given : tie.Start → Connection
+given s =
+    let a = s .args in
+    connection (a .source) (a .target) (a .bundles .now) (a .all-packages) (a .packages .now) (a .all-services) (a .services .now)
+
+-- the call's start
+abbrev start : tie.Joined1 → tie.Start
+start c = c .before .before .before .before .before .before
+
+-- the number of the two steps is the call's
+asked : (c : tie.Joined1) → c .if1 .number ≡ number (meaning (start c .args .self)) (Call.connect (given (start c)))
+unfolding meaning
+asked c =
+    let s = start c in
+    let m = meaning (s .args .self) in
+    let x = given s in
+    let qs = end-questions (m .regions) (x .source) (x .target) in
+    let rs = connection-questions (m .connections) x in
+    let e = c .before .ends-number .ensures in
+    ⊎-elim (λ w. second-step qs rs (refl, (refl, (refl, tt))) e (w .0 .taken) (w .2 ∙ w .1 .ensures))
+    (λ w. w .1 ∙ first-step qs rs (refl, (refl, (refl, tt))) e (w .0 .left)) (c .if1 .came)
+
 -- a connect that was not refused has passed the questions
-passed : (c : tie.Else1) → (let a = c .before .before .before .before .before .args in Connectable (meaning (a .self)) (connection (a .source) (a .target) (a .bundles .now) (a .all-packages) (a .packages .now) (a .all-services) (a .services .now)))
-passed c =
-    let a = c .before .before .before .before .before .args in
-    connectable (meaning (a .self)) (connection (a .source) (a .target) (a .bundles .now) (a .all-packages) (a .packages .now) (a .all-services) (a .services .now))
-    (sym (c .before .connect-number .ensures) ∙ c .if1 .left)
+passed : (c : tie.Then2) → (let s = start (c .before) in Connectable (meaning (s .args .self)) (given s))
+passed c = let s = start (c .before) in connectable (meaning (s .args .self)) (given s) (sym (asked (c .before)) ∙ c .if2 .taken)
 
 -- and its lists are short
-short : (c : tie.Else1) → (let a = c .before .before .before .before .before .args in ShortConnection (connection (a .source) (a .target) (a .bundles .now) (a .all-packages) (a .packages .now) (a .all-services) (a .services .now)))
+short : (c : tie.Then2) → ShortConnection (given (start (c .before)))
 short c =
-    let a = c .before .before .before .before .before .args in
-    let x = connection (a .source) (a .target) (a .bundles .now) (a .all-packages) (a .packages .now) (a .all-services) (a .services .now) in
+    let x = given (start (c .before)) in
     let o = passed c in
-    record { bundles = o .bundles-few; packages = part-short (x .filter .packages) (o .packages-within); services = part-short (x .filter .services) (o .services-within) }
+    record {
+      bundles = o .bundles-few;
+      packages = part-short (x .filter .packages) (o .packages-within);
+      services = part-short (x .filter .services) (o .services-within);
+    }
 
 -- the new place stores the connection
 stores : (c : tie.After-part-copied2)
-    → (let a = c .before .before .before .before .before .before .before .before .args in
-    record { source = a .source; target = a .target; bundles = c .before .before .copied .result; packages = c .before .part-copied .result; services = c .part-copied2 .result }
-    ≡ store-connection (connection (a .source) (a .target) (a .bundles .now) (a .all-packages) (a .packages .now) (a .all-services) (a .services .now)))
+    → (let s = start (c .before .before .before .before) in let a = s .args in
+    record {
+      source = a .source;
+      target = a .target;
+      bundles = c .before .before .copied .result;
+      packages = c .before .part-copied .result;
+      services = c .part-copied2 .result;
+    }
+    ≡ store-connection (given s))
 stores c =
-    let a = c .before .before .before .before .before .before .before .before .args in
+    let a = start (c .before .before .before .before) .args in
     λ i. record {
       source = a .source;
       target = a .target;
@@ -52,14 +75,7 @@ stores c =
     }
 
 connect-number-requires : tie.Need-connect-number-requires
-connect-number-requires c κs = search needs
-
-returns : tie.Need-returns
-returns c =
-    let s = c .before .before .before .before .before in
-    let a = s .args in
-    refused (a .self) (Call.connect (connection (a .source) (a .target) (a .bundles .now) (a .all-packages) (a .packages .now) (a .all-services) (a .services .now))) (s .pre)
-    (sym (c .before .connect-number .ensures)) (ne-eqb _ _ (c .if1 .taken))
+connect-number-requires c κs = let s = c .before .before .before .before .before .before in connections-stored (s .args .self) (s .pre)
 
 copied-requires : tie.Need-copied-requires
 copied-requires c κs = passed c .bundles-few
@@ -71,50 +87,57 @@ part-copied-requires-2 : tie.Need-part-copied-requires-2
 part-copied-requires-2 c κs = passed (c .before .before) .services-within
 
 first-requires : tie.Need-first-requires
-first-requires c κs = connections-stored (c .before .before .before .before .before .before .before .before .before .args .self) (c .before .before .before .before .before .before .before .before .before .pre)
+first-requires c κs = let s = start (c .before .before .before .before) in connections-stored (s .args .self) (s .pre)
 
 with-requires : tie.Need-with-requires
 unfolding meaning
 with-requires c κs =
-    let s = c .before .before .before .before .before .before .before .before .before .before in
-    let a = s .args in
-    let o = passed (c .before .before .before .before .before) in
-    let x = connection (a .source) (a .target) (a .bundles .now) (a .all-packages) (a .packages .now) (a .all-services) (a .services .now) in (
+    let s = start (c .before .before .before .before .before) in
+    let a = s .args in (
       connections-stored (a .self) (s .pre),
       (
-        stored-as store-connection connection-in ShortConnection connection-back x (stores (c .before .before)) (short (c .before .before .before .before .before)),
-        (rw (c .first .ensures) (position-le (connection-meets (After (a .source) (a .target))) (meaning (a .self) .connections)), o .room),
+        stored-as store-connection connection-in ShortConnection connection-back (given s) (stores (c .before)) (short (c .before .before .before .before)),
+        (
+          rw (c .first .ensures) (position-le (connection-meets (After (a .source) (a .target))) (meaning (a .self) .connections)),
+          passed (c .before .before .before .before) .room,
+        ),
       ),
     )
 
-returns-2 : tie.Need-returns-2
+returns : tie.Need-returns
 unfolding meaning
-returns-2 c =
-    let s = c .before .before .before .before .before .before .before .before .before .before .before in
+returns c =
+    let s = start (c .before .before .before .before .before .before) in
     let a = s .args in
+    let known = c .before .before .before .before .before .before .before .before .before in
     let g = a .self in
-    let x = connection (a .source) (a .target) (a .bundles .now) (a .all-packages) (a .packages .now) (a .all-services) (a .services .now) in
-    accepts g (Call.connect x) (s .pre) (
-      all-of Word 0 (a .bundles .now) (λ i h. c .before .before .before .before .before .before .before .before .before .before .shared-slice-known .given i .fits),
-      part-words (a .all-packages) (a .packages .now) (all-of Word 0 (a .packages .now) (λ i h. c .before .before .before .before .before .before .before .before .before .shared-slice-known2 .given i .fits)),
-      part-words (a .all-services) (a .services .now) (all-of Word 0 (a .services .now) (λ i h. c .before .before .before .before .before .before .before .before .shared-slice-known3 .given i .fits)),
+    let x = given s in
+    accepts g (Call.connect x) (s .pre) (asked (c .before .before .before .before .before .before)) (
+      all-of Word 0 (a .bundles .now) (λ i h. known .before .before .shared-slice-known .given i .fits),
+      part-words (a .all-packages) (a .packages .now) (all-of Word 0 (a .packages .now) (λ i h. known .before .shared-slice-known2 .given i .fits)),
+      part-words (a .all-services) (a .services .now) (all-of Word 0 (a .services .now) (λ i h. known .shared-slice-known3 .given i .fits)),
     )
-    (sym (c .before .before .before .before .before .before .before .connect-number .ensures) ∙ c .before .before .before .before .before .before .if1 .left)
+    (c .before .before .before .before .before .if2 .taken)
     (stored-graph (accepted (meaning g) (Call.connect x)) (regions-stored g (s .pre)) (bundles-stored g (s .pre) .stored)
     (c .with .ensures
     ∙ ap store-connections ((λ i. take (c .before .first .ensures i) (meaning g .connections)
-    ++ ((ap connection-in (stores (c .before .before .before)) ∙ connection-back x (short (c .before .before .before .before .before .before))) i ∷ drop (c .before .first .ensures i) (meaning g .connections)))
+    ++ ((ap connection-in (stores (c .before .before)) ∙ connection-back x (short (c .before .before .before .before .before))) i
+    ∷ drop (c .before .first .ensures i) (meaning g .connections)))
     ∙ sym (insert-at connection-before x (meaning g .connections)))))
+
+returns-2 : tie.Need-returns-2
+returns-2 c = let s = start (c .before) in refused (s .args .self) (Call.connect (given s)) (s .pre) (asked (c .before)) (c .if2 .left) refl
 
 pub connect-spec : {M : Type 1} → statement M
 connect-spec =
     tie.close
     (tie.spec
+    (λ c κs. search needs)
     connect-number-requires
-    returns
     copied-requires
     part-copied-requires
     part-copied-requires-2
     first-requires
     with-requires
+    returns
     returns-2)

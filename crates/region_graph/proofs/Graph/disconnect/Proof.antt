@@ -1,78 +1,91 @@
+use mathlib.Core.Path.{_≡_, refl, sym, _∙_}
+use mathlib.Core.Bool.{true, not}
+use Prim.Native.Nat.{ℕ}
+use lib.ListN.{length, drop}
 use borrow.Author.Needs.{needs}
-use mathlib.Core.Path.{_≡_, refl, sym, ap, _∙_}
-use mathlib.Core.Bool.{true, false, not, _&&_}
-use native.Mathlib.Omega.{arith}
-use lib.Dec.{eqb, ltb}
-use lib.ListN.{drop}
-use borrow.Author.Tests.{not-true, not-false, eq-eqb, ne-eqb, le-ltb, lt-ltb}
-use Rattle.region_graph.specs.Lists.{All}
-use Rattle.region_graph.specs.Calls.{Call, accepted, questions, end-questions}
+use Rattle.region_graph.specs.Lists.{keep, All}
+use Rattle.region_graph.specs.Calls.{Call, number, accepted, questions, end-questions, joins}
 use Rattle.region_graph.specs.Record.{meaning}
-use Rattle.region_graph.specs.Places.{connection-meets}
-use Rattle.region_graph.specs.declared.connections.ConnectionTest.the-variants.{Joining}
-use Rattle.region_graph.proofs.Arrays.{filled-found, filled-missed}
-use Rattle.region_graph.proofs.Legal.{all-yes, first-no-stops}
-use Rattle.region_graph.proofs.Storing.{connections-filled, regions-stored, bundles-stored, connections-stored, stored-graph, refused, accepts}
+use Rattle.region_graph.specs.Promise.{Follows}
+use Rattle.region_graph.proofs.Arrays.{filled-whole, filled-fewer}
+use Rattle.region_graph.proofs.Legal.{all-yes, first-step, disconnect-idle}
+use Rattle.region_graph.proofs.Storing.{connections-filled, connections-count, regions-stored, bundles-stored, connections-stored, stored-graph, changes}
 use Rattle.region_graph.proofs.Graph.disconnect.Statement.{statement}
 use Rattle.region_graph.proofs.Graph.disconnect.Tie as tie
 
--- the ends have passed their questions
-ends : (c : tie.Else1) → (let a = c .before .before .args in All (λ q. q .yes ≡ true) (end-questions (meaning (a .self)) (a .source) (a .target)))
-ends c =
-    let a = c .before .before .args in
-    all-yes (end-questions (meaning (a .self)) (a .source) (a .target)) (refl, (refl, (refl, tt))) (sym (c .before .ends-number .ensures) ∙ c .if1 .left)
+-- whatever the number, the connection has left
+left : (c : tie.After-without) {k : ℕ}
+    → (let a = c .before .before .args in k ≡ number (meaning (a .self)) (Call.disconnect (a .source) (a .target))
+    → Follows (a .self) (Call.disconnect (a .source) (a .target))
+    (record { graph = record { regions = a .self .regions; bundles = a .self .bundles; connections = c .without .result }; number = k }))
+unfolding meaning
+left c e =
+    let s = c .before .before in
+    let g = s .args .self in
+    let o = Call.disconnect (s .args .source) (s .args .target) in
+    changes g o (s .pre) e tt (disconnect-idle (meaning g) (s .pre .good) (s .args .source) (s .args .target))
+    (stored-graph (accepted (meaning g) o) (regions-stored g (s .pre)) (bundles-stored g (s .pre) .stored) (c .without .ensures))
 
-ends-number-requires : tie.Need-ends-number-requires
-ends-number-requires c κs = search needs
+-- how many connections are left
+count : (c : tie.After-without)
+    → (let a = c .before .before .args in
+    c .without .result .count ≡ length (keep (λ x. not (joins (a .source) (a .target) x)) (meaning (a .self) .connections)))
+unfolding meaning
+count c =
+    let a = c .before .before .args in
+    connections-count (keep (λ x. not (joins (a .source) (a .target) x)) (meaning (a .self) .connections)) (c .without .ensures)
+
+-- the ends have passed their questions
+ends : (c : tie.Then1)
+    → (let a = c .before .before .before .before .args in All (λ q. q .yes ≡ true) (end-questions (meaning (a .self) .regions) (a .source) (a .target)))
+unfolding meaning
+ends c =
+    let a = c .before .before .before .before .args in
+    all-yes (end-questions (meaning (a .self) .regions) (a .source) (a .target)) (refl, (refl, (refl, tt)))
+    (sym (c .before .ends-number .ensures) ∙ c .if1 .taken)
+
+without-requires : tie.Need-without-requires
+without-requires c κs = connections-stored (c .before .args .self) (c .before .pre)
 
 returns : tie.Need-returns
+unfolding meaning
 returns c =
-    let s = c .before .before in
+    let s = c .before .before .before .before .before .before .before in
     let a = s .args in
-    refused (a .self) (Call.disconnect (a .source) (a .target)) (s .pre)
-    (first-no-stops (end-questions (meaning (a .self)) (a .source) (a .target)) (drop 3 (questions (meaning (a .self)) (Call.disconnect (a .source) (a .target))))
-    (sym (c .before .ends-number .ensures)) (ne-eqb _ _ (c .if1 .taken)))
-    (ne-eqb _ _ (c .if1 .taken))
-
-first-requires : tie.Need-first-requires
-first-requires c κs = connections-stored (c .before .before .before .args .self) (c .before .before .before .pre)
+    let h = ends (c .before .before .before) in
+    left (c .before .before .before .before .before)
+    (rw (
+      h .0,
+      h .1 .0,
+      h .1 .1 .0,
+      filled-whole (connections-filled (a .self .connections) (connections-stored (a .self) (s .pre))) (joins (a .source) (a .target))
+          (count (c .before .before .before .before .before)) (c .if2 .taken),
+    ))
 
 returns-2 : tie.Need-returns-2
 unfolding meaning
 returns-2 c =
-    let s = c .before .before .before .before .before .before in
+    let s = c .before .before .before .before .before .before .before in
     let a = s .args in
-    let h = ends (c .before .before .before .before) in
-    refused (a .self) (Call.disconnect (a .source) (a .target)) (s .pre)
-    (rw (
+    let h = ends (c .before .before .before) in
+    left (c .before .before .before .before .before)
+    (c .before .before .before .if1 .taken
+    ∙ rw (
       h .0,
       h .1 .0,
       h .1 .1 .0,
-      filled-missed (connections-filled (a .self .connections) (connections-stored (a .self) (s .pre))) (connection-meets (Joining (a .source) (a .target)))
-          (c .before .before .first .ensures) (c .if2 .taken),
-    )) refl
-
-without-requires : tie.Need-without-requires
-without-requires c κs = connections-stored (c .before .before .before .before .before .before .args .self) (c .before .before .before .before .before .before .pre)
+      filled-fewer (connections-filled (a .self .connections) (connections-stored (a .self) (s .pre))) (joins (a .source) (a .target))
+          (count (c .before .before .before .before .before)) (c .if2 .left),
+    ))
 
 returns-3 : tie.Need-returns-3
 unfolding meaning
 returns-3 c =
-    let s = c .before .before .before .before .before .before .before in
-    let a = s .args in
-    let h = ends (c .before .before .before .before .before) in
-    accepts (a .self) (Call.disconnect (a .source) (a .target)) (s .pre) tt
-    (rw (
-      h .0,
-      h .1 .0,
-      h .1 .1 .0,
-      filled-found (connections-filled (a .self .connections) (connections-stored (a .self) (s .pre))) (connection-meets (Joining (a .source) (a .target)))
-          (c .before .before .before .first .ensures) (c .before .if2 .left),
-    ))
-    (stored-graph (accepted (meaning (a .self)) (Call.disconnect (a .source) (a .target)))
-    (regions-stored (a .self) (s .pre)) (bundles-stored (a .self) (s .pre) .stored) (c .without .ensures))
+    let a = c .before .before .before .before .args in
+    left (c .before .before)
+    (first-step (end-questions (meaning (a .self) .regions) (a .source) (a .target))
+    (drop 3 (questions (meaning (a .self)) (Call.disconnect (a .source) (a .target)))) (refl, (refl, (refl, tt)))
+    (c .before .ends-number .ensures) (c .if1 .left))
 
 pub disconnect-spec : {M : Type 1} → statement M
-disconnect-spec =
-    tie.close
-    (tie.spec ends-number-requires returns first-requires returns-2 without-requires returns-3)
+disconnect-spec = tie.close (tie.spec without-requires (λ c κs. search needs) returns returns-2 returns-3)

@@ -1,48 +1,57 @@
-use borrow.Author.Needs.{needs}
 use mathlib.Core.Path.{_≡_, refl, sym, ap, _∙_}
-use mathlib.Core.Bool.{true, false, not, _&&_}
-use native.Mathlib.Omega.{arith}
-use lib.Dec.{eqb, ltb}
-use borrow.Author.Tests.{not-true, not-false, eq-eqb, ne-eqb, le-ltb, lt-ltb}
+use mathlib.Core.Logic.{⊎-elim}
 use mathlib.Core.List.{_∷_, _++_}
-use lib.ListN.{length, take, drop}
-use Rattle.region_graph.specs.Lists.{position}
-use Rattle.region_graph.specs.Model.{Word, bundle-before}
-use Rattle.region_graph.specs.Calls.{Call, accepted}
+use lib.ListN.{take, drop}
+use borrow.Author.Needs.{needs}
+use Rattle.region_graph.specs.Model.{Bundle, Word, bundle-before}
+use Rattle.region_graph.specs.Calls.{Call, number, accepted, provided-questions, bundle-questions}
 use Rattle.region_graph.specs.Record.{meaning, store-bundle, store-bundles, bundle-in}
 use Rattle.region_graph.specs.Places.{ShortBundle, bundle-meets}
 use Rattle.region_graph.specs.Promise.{bundle}
 use Rattle.region_graph.specs.declared.bundles.BundleTest.the-variants.{After}
 use Rattle.region_graph.proofs.Lists.{all-of, position-le, insert-at}
-use Rattle.region_graph.proofs.Legal.{Installable, installable}
+use Rattle.region_graph.proofs.Legal.{first-step, second-step, Installable, installable}
 use Rattle.region_graph.proofs.Storing.{stored-as, bundle-back, regions-stored, bundles-stored, connections-stored, stored-graph, refused, accepts}
 use Rattle.region_graph.proofs.Graph.install.Statement.{statement}
 use Rattle.region_graph.proofs.Graph.install.Tie as tie
 
+-- the bundle that is handed in
+abbrev given : tie.Start → Bundle
+given s = let a = s .args in bundle (a .region) (a .location) (a .packages .now) (a .services .now)
+
+-- the call's start
+abbrev start : tie.Joined1 → tie.Start
+start c = c .before .before .before .before .before .before
+
+-- the number of the two steps is the call's
+asked : (c : tie.Joined1) → c .if1 .number ≡ number (meaning (start c .args .self)) (Call.install (given (start c)))
+unfolding meaning
+asked c =
+    let s = start c in
+    let m = meaning (s .args .self) in
+    let b = given s in
+    let qs = provided-questions (m .regions) (b .region) (b .packages) (b .services) in
+    let rs = bundle-questions (m .bundles) (m .connections) (b .region) (b .location) in
+    let e = c .before .provided-number .ensures in
+    ⊎-elim (λ w. second-step qs rs (refl, (refl, (refl, (refl, tt)))) e (w .0 .taken) (w .2 ∙ w .1 .ensures))
+    (λ w. w .1 ∙ first-step qs rs (refl, (refl, (refl, (refl, tt)))) e (w .0 .left)) (c .if1 .came)
+
 -- an install that was not refused has passed the questions
-passed : (c : tie.Else1) → (let a = c .before .before .before .before .args in Installable (meaning (a .self)) (bundle (a .region) (a .location) (a .packages .now) (a .services .now)))
-passed c =
-    let a = c .before .before .before .before .args in
-    installable (meaning (a .self)) (bundle (a .region) (a .location) (a .packages .now) (a .services .now)) (sym (c .before .install-number .ensures) ∙ c .if1 .left)
+passed : (c : tie.Then2) → (let s = start (c .before) in Installable (meaning (s .args .self)) (given s))
+passed c = let s = start (c .before) in installable (meaning (s .args .self)) (given s) (sym (asked (c .before)) ∙ c .if2 .taken)
 
 -- the new place stores the bundle
 stores : (c : tie.After-provided-copied2)
-    → (let a = c .before .before .before .before .before .before .args in
+    → (let s = start (c .before .before .before) in let a = s .args in
     record { location = a .location; region = a .region; packages = c .before .provided-copied .result; services = c .provided-copied2 .result }
-    ≡ store-bundle (bundle (a .region) (a .location) (a .packages .now) (a .services .now)))
+    ≡ store-bundle (given s))
 stores c =
-    let a = c .before .before .before .before .before .before .args in
+    let a = start (c .before .before .before) .args in
     λ i. record { location = a .location; region = a .region; packages = c .before .provided-copied .ensures i; services = c .provided-copied2 .ensures i }
 
 install-number-requires : tie.Need-install-number-requires
-install-number-requires c κs = search needs
-
-returns : tie.Need-returns
-returns c =
-    let s = c .before .before .before .before in
-    let a = s .args in
-    refused (a .self) (Call.install (bundle (a .region) (a .location) (a .packages .now) (a .services .now))) (s .pre)
-    (sym (c .before .install-number .ensures)) (ne-eqb _ _ (c .if1 .taken))
+install-number-requires c κs =
+    let s = c .before .before .before .before .before .before in (bundles-stored (s .args .self) (s .pre), connections-stored (s .args .self) (s .pre))
 
 provided-copied-requires : tie.Need-provided-copied-requires
 provided-copied-requires c κs = passed c .few-packages
@@ -51,50 +60,53 @@ provided-copied-requires-2 : tie.Need-provided-copied-requires-2
 provided-copied-requires-2 c κs = passed (c .before) .few-services
 
 first-requires : tie.Need-first-requires
-first-requires c κs = bundles-stored (c .before .before .before .before .before .before .before .args .self) (c .before .before .before .before .before .before .before .pre)
+first-requires c κs = let s = start (c .before .before .before) in bundles-stored (s .args .self) (s .pre)
 
 with-requires : tie.Need-with-requires
 unfolding meaning
 with-requires c κs =
-    let s = c .before .before .before .before .before .before .before .before in
-    let a = s .args in
-    let o = passed (c .before .before .before .before) in (
-      bundles-stored (a .self) (s .pre),
+    let s = start (c .before .before .before .before) in
+    let o = passed (c .before .before .before) in (
+      bundles-stored (s .args .self) (s .pre),
       (
-        stored-as store-bundle bundle-in ShortBundle (λ b h. bundle-back b) (bundle (a .region) (a .location) (a .packages .now) (a .services .now)) (stores (c .before .before))
+        stored-as store-bundle bundle-in ShortBundle (λ b h. bundle-back b) (given s) (stores (c .before))
             (record { packages = o .few-packages; services = o .few-services }),
-        (rw (c .first .ensures) (position-le (bundle-meets (After (a .location))) (meaning (a .self) .bundles)), o .room),
+        (rw (c .first .ensures) (position-le (bundle-meets (After (s .args .location))) (meaning (s .args .self) .bundles)), o .room),
       ),
     )
 
-returns-2 : tie.Need-returns-2
+returns : tie.Need-returns
 unfolding meaning
-returns-2 c =
-    let s = c .before .before .before .before .before .before .before .before .before in
-    let a = s .args in
-    let g = a .self in
-    let b = bundle (a .region) (a .location) (a .packages .now) (a .services .now) in
-    accepts g (Call.install b) (s .pre) (
+returns c =
+    let s = start (c .before .before .before .before .before) in
+    let known = c .before .before .before .before .before .before .before .before .before in
+    let g = s .args .self in
+    let b = given s in
+    accepts g (Call.install b) (s .pre) (asked (c .before .before .before .before .before)) (
       s .fits .location .fits,
-      all-of Word 0 (a .packages .now) (λ i h. c .before .before .before .before .before .before .before .before .shared-slice-known .given i .fits),
-      all-of Word 0 (a .services .now) (λ i h. c .before .before .before .before .before .before .before .shared-slice-known2 .given i .fits),
+      all-of Word 0 (b .packages) (λ i h. known .before .shared-slice-known .given i .fits),
+      all-of Word 0 (b .services) (λ i h. known .shared-slice-known2 .given i .fits),
     )
-    (sym (c .before .before .before .before .before .before .install-number .ensures) ∙ c .before .before .before .before .before .if1 .left)
+    (c .before .before .before .before .if2 .taken)
     (stored-graph (accepted (meaning g) (Call.install b)) (regions-stored g (s .pre))
     (c .with .ensures
     ∙ ap store-bundles ((λ i. take (c .before .first .ensures i) (meaning g .bundles)
-    ++ ((ap bundle-in (stores (c .before .before .before)) ∙ bundle-back b) i ∷ drop (c .before .first .ensures i) (meaning g .bundles)))
+    ++ ((ap bundle-in (stores (c .before .before)) ∙ bundle-back b) i ∷ drop (c .before .first .ensures i) (meaning g .bundles)))
     ∙ sym (insert-at bundle-before b (meaning g .bundles))))
     (connections-stored g (s .pre) .stored))
+
+returns-2 : tie.Need-returns-2
+returns-2 c = let s = start (c .before) in refused (s .args .self) (Call.install (given s)) (s .pre) (asked (c .before)) (c .if2 .left) refl
 
 pub install-spec : {M : Type 1} → statement M
 install-spec =
     tie.close
     (tie.spec
+    (λ c κs. search needs)
     install-number-requires
-    returns
     provided-copied-requires
     provided-copied-requires-2
     first-requires
     with-requires
+    returns
     returns-2)

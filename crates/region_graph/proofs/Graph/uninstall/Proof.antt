@@ -1,41 +1,57 @@
-use borrow.Author.Needs.{needs}
-use mathlib.Core.Path.{_≡_, refl, sym, ap, _∙_}
-use mathlib.Core.Bool.{true, false, not, _&&_}
-use native.Mathlib.Omega.{arith}
-use lib.Dec.{eqb, ltb}
-use borrow.Author.Tests.{not-true, not-false, eq-eqb, ne-eqb, le-ltb, lt-ltb}
-use Rattle.region_graph.specs.Calls.{Call, accepted}
+use mathlib.Core.Path.{_≡_}
+use mathlib.Core.Bool.{not}
+use Prim.Native.Nat.{ℕ}
+use lib.ListN.{length}
+use Rattle.region_graph.specs.Lists.{keep}
+use Rattle.region_graph.specs.Calls.{Call, number, accepted, at-location}
 use Rattle.region_graph.specs.Record.{meaning}
-use Rattle.region_graph.specs.Places.{bundle-meets}
-use Rattle.region_graph.specs.declared.bundles.BundleTest.the-variants.{At}
-use Rattle.region_graph.proofs.Arrays.{filled-found, filled-missed}
-use Rattle.region_graph.proofs.Storing.{bundles-filled, regions-stored, bundles-stored, connections-stored, stored-graph, refused, accepts}
+use Rattle.region_graph.specs.Promise.{Follows}
+use Rattle.region_graph.proofs.Arrays.{filled-whole, filled-fewer}
+use Rattle.region_graph.proofs.Legal.{uninstall-idle}
+use Rattle.region_graph.proofs.Storing.{bundles-filled, bundles-count, regions-stored, bundles-stored, connections-stored, stored-graph, changes}
 use Rattle.region_graph.proofs.Graph.uninstall.Statement.{statement}
 use Rattle.region_graph.proofs.Graph.uninstall.Tie as tie
 
-first-requires : tie.Need-first-requires
-first-requires c κs = bundles-stored (c .before .args .self) (c .before .pre)
+-- whatever the number, the bundle has left
+left : (c : tie.After-without) {k : ℕ}
+    → (let a = c .before .before .args in k ≡ number (meaning (a .self)) (Call.uninstall (a .location))
+    → Follows (a .self) (Call.uninstall (a .location))
+    (record { graph = record { regions = a .self .regions; bundles = c .without .result; connections = a .self .connections }; number = k }))
+unfolding meaning
+left c e =
+    let s = c .before .before in
+    let g = s .args .self in
+    let o = Call.uninstall (s .args .location) in
+    changes g o (s .pre) e tt (uninstall-idle (meaning g) (s .args .location))
+    (stored-graph (accepted (meaning g) o) (regions-stored g (s .pre)) (c .without .ensures) (connections-stored g (s .pre) .stored))
+
+-- how many bundles are left
+count : (c : tie.After-without)
+    → (let a = c .before .before .args in
+    c .without .result .count ≡ length (keep (λ b. not (at-location (a .location) b)) (meaning (a .self) .bundles)))
+unfolding meaning
+count c = let a = c .before .before .args in bundles-count (keep (λ b. not (at-location (a .location) b)) (meaning (a .self) .bundles)) (c .without .ensures)
+
+without-requires : tie.Need-without-requires
+without-requires c κs = bundles-stored (c .before .args .self) (c .before .pre)
 
 returns : tie.Need-returns
 unfolding meaning
 returns c =
-    let s = c .before .before .before .before in
+    let s = c .before .before .before .before .before in
     let g = s .args .self in
-    refused g (Call.uninstall (s .args .location)) (s .pre)
-    (rw (filled-missed (bundles-filled (g .bundles) (bundles-stored g (s .pre))) (bundle-meets (At (s .args .location))) (c .before .before .first .ensures) (c .if1 .taken))) refl
-
-without-requires : tie.Need-without-requires
-without-requires c κs = bundles-stored (c .before .before .before .before .args .self) (c .before .before .before .before .pre)
+    left (c .before .before .before)
+    (rw (filled-whole (bundles-filled (g .bundles) (bundles-stored g (s .pre))) (at-location (s .args .location))
+    (count (c .before .before .before)) (c .if1 .taken)))
 
 returns-2 : tie.Need-returns-2
 unfolding meaning
 returns-2 c =
     let s = c .before .before .before .before .before in
     let g = s .args .self in
-    accepts g (Call.uninstall (s .args .location)) (s .pre) tt
-    (rw (filled-found (bundles-filled (g .bundles) (bundles-stored g (s .pre))) (bundle-meets (At (s .args .location))) (c .before .before .before .first .ensures) (c .before .if1 .left)))
-    (stored-graph (accepted (meaning g) (Call.uninstall (s .args .location)))
-    (regions-stored g (s .pre)) (c .without .ensures) (connections-stored g (s .pre) .stored))
+    left (c .before .before .before)
+    (rw (filled-fewer (bundles-filled (g .bundles) (bundles-stored g (s .pre))) (at-location (s .args .location))
+    (count (c .before .before .before)) (c .if1 .left)))
 
 pub uninstall-spec : {M : Type 1} → statement M
-uninstall-spec = tie.close (tie.spec first-requires returns without-requires returns-2)
+uninstall-spec = tie.close (tie.spec without-requires returns returns-2)

@@ -81,7 +81,7 @@ returns c =
     let h = filled (a .before) in
     let m = meaning (s .args .graph) in
     let l : a .before .bundle-count .result ≤ a .loop .i = omega arith in
-    gathered-end bundle-in (offer (kind-number (s .args .kind))) (bundles-each (meaning (s .args .graph) .bundles)) h most-provided l (omega (arith, a .loop .inv .2)) (offers-few m (s .pre .good) (kind-number (s .args .kind))) (a .loop .inv .3)
+    gathered-end bundle-in (offer (kind-number (s .args .kind))) (bundles-each (meaning (s .args .graph) .bundles)) h most-provided l (omega arith) (a .loop .inv .2) (offers-few m (s .pre .good) (kind-number (s .args .kind))) (a .loop .inv .3)
 
 pub offers-spec : {M : Type 1} → statement M
 offers-spec =

@@ -84,7 +84,7 @@ returns c =
     let h = filled (a .before) in
     let m = meaning (s .args .graph) in
     let l : a .before .connection-count .result ≤ a .loop .i = omega arith in
-    gathered-end connection-in (passage (kind-number (s .args .kind))) (connections-each (meaning (s .args .graph) .connections) (short-connections (s .pre .good))) h most-listed l (omega (arith, a .loop .inv .2)) (passages-few m (s .pre .good) (kind-number (s .args .kind))) (a .loop .inv .3)
+    gathered-end connection-in (passage (kind-number (s .args .kind))) (connections-each (meaning (s .args .graph) .connections) (short-connections (s .pre .good))) h most-listed l (omega arith) (a .loop .inv .2) (passages-few m (s .pre .good) (kind-number (s .args .kind))) (a .loop .inv .3)
 
 pub passages-spec : {M : Type 1} → statement M
 passages-spec =

@@ -200,7 +200,7 @@ module _ (m : Model) (h : Legal m) where
       all-map (LegalBundle (m .regions)) (λ b. length (offer k b) ≤ most-provided) (λ b l. rw length-map (few-provided k b l)) (m .bundles) (h .bundles-legal .each)
 
   -- the place of a location in the table of the bundles is its region
-  pub place-offers : (l : ℕ) → place-at (offers 0 (m .bundles)) l ≡ place-of (m .bundles) l
+  place-offers : (l : ℕ) → place-at (offers 0 (m .bundles)) l ≡ place-of (m .bundles) l
   place-offers l = go (m .bundles) (h .bundles-legal .each)
     where
       go : (bs : List Bundle) → All (LegalBundle (m .regions)) bs → place-at (offers 0 bs) l ≡ place-of bs l
@@ -287,6 +287,10 @@ module _ (m : Model) (h : Legal m) where
 
     pub connection-ends : (getD items i e .source < regions) × (getD items i e .target < regions)
     connection-ends = rw (filled-at f i e no-connection l) (source-inside connection-legal, target-inside connection-legal)
+
+-- the places in the table of the bundles are the regions of the locations
+pub place-table : {m : Model} → Legal m → {es : List ℕ} → es ≡ offers 0 (m .bundles) → (l : ℕ) → place-at es l ≡ place-of (m .bundles) l
+place-table {m} h e l = ap (λ (es : List ℕ). place-at es l) e ∙ place-offers m h l
 
 -- each listener has a place where each is installed
 pub placed-installed : (m : Model) {place : ℕ → Place} → ((l : ℕ) → place l ≡ place-of (m .bundles) l) → (ls : List ℕ)

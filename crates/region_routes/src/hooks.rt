@@ -15,6 +15,7 @@ use crate::Kind;
 use crate::search::seers;
 use crate::search::seers_by;
 use crate::tables::EVERY_NUMBER;
+use crate::tables::MOST_ENTRIES;
 use crate::tables::chained;
 use crate::tables::offers;
 use crate::tables::passages;
@@ -78,15 +79,13 @@ fn keep_many(graph: Graph, kind: Kind, region: u32, candidates: &[u32], out: &mu
     requires { ⌜ (region < regions) × (length (now candidates) ≤ length (now out)) ⌝ }
     ensures { λ r. ⌜ kept (Kept.Wrote r) (now (out .exit)) ≡ kept-outcome (keep (λ n. sees (meaning graph) (item (kind-number kind) n) region) (now (candidates .entry))) (now (out .entry)) ⌝ }
 {
-    let given = offers(graph, kind);
-    let offered = given.items;
-    let given_count = given.count;
-    let passed = passages(graph, kind);
-    let passing = passed.items;
-    let passed_count = passed.count;
+    let mut offered = [0u64; MOST_ENTRIES];
+    let given = offers(&mut offered, graph, kind);
+    let mut passing = [0u64; MOST_ENTRIES];
+    let passed = passages(&mut passing, graph, kind);
     keep_seen(
-        &offered[..given_count],
-        &passing[..passed_count],
+        &offered[..given],
+        &passing[..passed],
         region,
         candidates,
         out,
@@ -191,9 +190,8 @@ fn event(graph: Graph, kind: Kind, listeners: &[u32], number: u32, out: &mut [u3
     requires { ⌜ Valid graph ⌝ }
     ensures { λ r. ⌜ kept r (now (out .exit)) ≡ event-outcome (meaning graph) kind (now (listeners .entry)) number (now (out .entry)) ⌝ }
 {
-    let table = offers(graph, Kind::Bundle);
-    let bundles = table.items;
-    let count = table.count;
+    let mut bundles = [0u64; MOST_ENTRIES];
+    let count = offers(&mut bundles, graph, Kind::Bundle);
     let links = chained(&bundles[..count]);
     if !all_installed(&bundles[..count], &links, listeners) {
         return Kept::Refused(NOT_INSTALLED);

@@ -38,11 +38,6 @@ const CHAINS: usize = 256;
 // The starts of the chains, and a place for each entry.
 const LINKS: usize = CHAINS + MOST_ENTRIES;
 
-pub struct Table {
-    pub count: usize,
-    pub items: [u64; MOST_ENTRIES],
-}
-
 pub fn wide(number: u32) -> u64
     ensures { λ r. ⌜ (r ≡ number) × (r < Tables.every) ⌝ }
 {
@@ -152,40 +147,40 @@ fn append_passage(out: &mut [u64], at: usize, c: StoredConnection, kind: Kind) -
     }
 }
 
-// What the bundles of a graph bring to their regions.
-pub fn offers(graph: Graph, kind: Kind) -> Table
+// Puts what the bundles of a graph bring to their regions, and gives the count.
+pub fn offers(items: &mut [u64], graph: Graph, kind: Kind) -> usize
     requires { ⌜ Valid graph ⌝ }
-    ensures { λ r. ⌜ Tables.Holding (Tables.offers (kind-number kind) (meaning graph .bundles)) (r .items) (r .count) ⌝ }
+    requires { ⌜ length (now items) ≡ Tables.most-entries ⌝ }
+    ensures { λ r. ⌜ Tables.Holding (Tables.offers (kind-number kind) (meaning graph .bundles)) (now (items .exit)) r ⌝ }
 {
     let bundles = graph.bundle_places();
     let count = graph.bundle_count();
-    let mut items = [0u64; MOST_ENTRIES];
     let mut n: usize = 0;
     let mut i: usize = 0;
     while i < count {
         let b = bundles[i];
         i += 1;
-        n = append_offer(&mut items, n, b, kind);
+        n = append_offer(items, n, b, kind);
     }
-    Table { count: n, items }
+    n
 }
 
-// What the connections of a graph pass.
-pub fn passages(graph: Graph, kind: Kind) -> Table
+// Puts what the connections of a graph pass, and gives the count.
+pub fn passages(items: &mut [u64], graph: Graph, kind: Kind) -> usize
     requires { ⌜ Valid graph ⌝ }
-    ensures { λ r. ⌜ Tables.Holding (Tables.passages (kind-number kind) (meaning graph .connections)) (r .items) (r .count) ⌝ }
+    requires { ⌜ length (now items) ≡ Tables.most-entries ⌝ }
+    ensures { λ r. ⌜ Tables.Holding (Tables.passages (kind-number kind) (meaning graph .connections)) (now (items .exit)) r ⌝ }
 {
     let connections = graph.connection_places();
     let count = graph.connection_count();
-    let mut items = [0u64; MOST_ENTRIES];
     let mut n: usize = 0;
     let mut i: usize = 0;
     while i < count {
         let c = connections[i];
         i += 1;
-        n = append_passage(&mut items, n, c, kind);
+        n = append_passage(items, n, c, kind);
     }
-    Table { count: n, items }
+    n
 }
 
 // The chain of a number.

@@ -29,7 +29,7 @@ use Rattle.region_graph.proofs.Storing.{connections-stored, connections
 -- lists
 
 -- some element of one more passes
-any-more : {A : Type 0} (p : A → Bool) (xs : List A) (i : ℕ) (d : A) → i < length xs
+pub any-more : {A : Type 0} (p : A → Bool) (xs : List A) (i : ℕ) (d : A) → i < length xs
     → any p (take (i + 1) xs) ≡ (any p (take i xs) || p (getD xs i d))
 any-more p xs i d h =
     rw (add-one, take-suc xs i d h)
@@ -55,6 +55,17 @@ counted-set f g a (suc k) zero n v l e w h =
     rw (w, s, counted-same f g (suc a) k (λ m b. h m (λ q. omega arith)))
 counted-set f g a (suc k) (suc j) n v l e w h =
     rw (h a (λ q. omega arith), counted-set f g (suc a) k j n v (omega arith) (omega arith) w h)
+
+-- for each region a set of regions, by a test: as one region more comes into one of the sets
+pub sets-more : (f g : ℕ → ℕ → Bool) (r : ℕ) {sets : List ℕ} {s x : ℕ} → sets ≡ map (λ m. set-of (λ n. f n m)) (count-from 0 regions) → x ≡ one r
+    → s < regions → ((n : ℕ) → g n s ≡ (f n s || eqb r n)) → ((n m : ℕ) → (m ≡ s → ⊥) → g n m ≡ f n m)
+    → set sets s (bitOr (getD sets s 0) x) ≡ map (λ m. set-of (λ n. g n m)) (count-from 0 regions)
+sets-more f g r {sets} {s} {x} p t l own other =
+    ap (λ (ls : List ℕ). set ls s (bitOr (getD sets s 0) x)) p
+    ∙ counted-set (λ m. set-of (λ n. f n m)) (λ m. set-of (λ n. g n m)) 0 regions s s (bitOr (getD sets s 0) x) l (omega arith)
+    (ap₂ bitOr (ap (λ (ls : List ℕ). getD ls s 0) p ∙ counted-at (λ m. set-of (λ n. f n m)) 0 regions s s 0 l (omega arith)) t
+    ∙ set-join (λ n. f n s) r ∙ set-ext (λ n. f n s || eqb r n) (λ n. g n s) (λ n k. sym (own n)))
+    (λ m k. set-ext (λ n. f n m) (λ n. g n m) (λ n b. sym (other n m k)))
 
 -- items
 
@@ -175,12 +186,14 @@ module _ {A : Type 0} (source target : A → ℕ) (passes : A → Bool) where
     unfolding led
     led-took {sets} {s} {x} p f t l e =
         let c = getD xs i d in
-        ap (λ (ls : List ℕ). set ls s (bitOr (getD sets s 0) x)) p
-        ∙ counted-set (before (take i xs)) (before (take (i + 1) xs)) 0 regions s s (bitOr (getD sets s 0) x) l (omega arith)
-        (ap₂ bitOr (ap (λ (ls : List ℕ). getD ls s 0) p ∙ counted-at (before (take i xs)) 0 regions s s 0 l (omega arith)) t
-        ∙ set-took (leads s) xs i d h (source c)
-        (λ n. rw (e, eq-eqb (target c) s (sym f)) (and-true (eqb (source c) n && true) ∙ and-true (eqb (source c) n))))
-        (λ s′ k. set-left (leads s′) xs i d h (λ n. rw (ne-eqb (target c) s′ (λ q. k (sym q ∙ sym f)), and-false (eqb (source c) n))))
+        let had : ℕ → ℕ → Bool = λ r m. any (λ x. leads m x r) (take i xs) in
+        sets-more had (λ r m. any (λ x. leads m x r) (take (i + 1) xs)) (source c) p t l
+        (λ n.
+        any-more (λ x. leads s x n) xs i d h
+        ∙ ap (λ (t : Bool). had n s || t) (rw (e, eq-eqb (target c) s (sym f)) (and-true (eqb (source c) n && true) ∙ and-true (eqb (source c) n))))
+        (λ n m k.
+        any-more (λ x. leads m x n) xs i d h
+        ∙ ap (λ (t : Bool). had n m || t) (rw (ne-eqb (target c) m (λ q. k (sym q ∙ sym f)), and-false (eqb (source c) n))) ∙ or-false (had n m))
 
     -- an element that does not adds nothing
     pub led-left : passes (getD xs i d) ≡ false → led (take i xs) ≡ led (take (i + 1) xs)

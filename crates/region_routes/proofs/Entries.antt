@@ -1,6 +1,6 @@
 -- Tables: how a loop fills one, what an entry says, and what a table says of the model whose table it is.
 use mathlib.Core.Path.{_≡_, refl, sym, ap, ap₂, _∙_}
-use mathlib.Core.Bool.{Bool, true, false, _&&_, _||_, and-false}
+use mathlib.Core.Bool.{Bool, true, false, _&&_, _||_, and-true, and-false, or-true, or-false, or-assoc}
 use mathlib.Core.List.{List, [], _∷_, _++_, map, append-assoc, append-nil}
 use Prim.Native.Nat.{ℕ, zero, suc, _+_, _*_, _-_, _≤_, _<_, _^_}
 use native.Mathlib.Numerals.{add-one}
@@ -8,12 +8,13 @@ use native.Mathlib.Omega.{arith}
 use lib.Dec.{eqb}
 use lib.ListN.{length, getD, take, drop, set, replicate, length-append, length-map, drop-of-length-le}
 use lib.Seq.{take-suc, take-suc-set, length-take-le, drop-cons, take-at, take-all}
-use borrow.Author.Tests.{ne-eqb}
+use lib.Bits.{bitOr}
+use borrow.Author.Tests.{eq-eqb, ne-eqb}
 use Rattle.region_graph.specs.Size.{regions, most-bundles, most-connections, most-provided, most-listed}
 use Rattle.region_graph.specs.Lists.{pick, any, All, member, count-from}
-use Rattle.region_graph.specs.Sets.{set-of}
+use Rattle.region_graph.specs.Sets.{one, set-of}
 use Rattle.region_graph.specs.Model.{Model, Bundle, Filter, Part, Connection, Word, NumberedPart, Legal, LegalBundle, LegalFilter, LegalConnection}
-use Rattle.region_graph.specs.Items.{provided, part-of, part-passes, provides, passes}
+use Rattle.region_graph.specs.Items.{provided, part-of, part-passes, provides, passes, crosses}
 use Rattle.region_graph.specs.Record.{store-bundle, store-connection, bundle-in, connection-in, no-bundle, no-connection}
 use Rattle.region_graph.specs.Places.{ShortBundle, ShortConnection, BundleStored, ConnectionStored}
 use Rattle.region_graph.specs.Promise.{place-of, holder-set, predecessor-sets}
@@ -22,12 +23,13 @@ use Rattle.region_graph.specs.declared.Place.the-variants.{Within, Nowhere}
 use Rattle.region_graph.specs.declared.bundles.StoredBundle.{StoredBundle}
 use Rattle.region_graph.specs.declared.connections.StoredConnection.{StoredConnection}
 use Rattle.region_graph.proofs.Lists.{any-append, all-at, all-map, member-all, map-append, eqb-sym}
-use Rattle.region_graph.proofs.Bits.{set-below-lt}
+use Rattle.region_graph.proofs.Bits.{set-below-lt, set-none}
+use Rattle.region_graph.proofs.Views.{any-more, sets-more}
 use Rattle.region_graph.proofs.Arrays.{Filled, filled-at, filled-inside, filled-means}
 use Rattle.region_graph.proofs.Storing.{map-back, stored-as, bundle-back, connection-back, short-bundle, short-connection}
 use Rattle.region_routes.specs.Hooks.{item, installed, all-installed}
 use Rattle.region_routes.specs.Search.{RegionSets}
-use Rattle.region_routes.specs.Tables.{width, every, entry, number-in, place-in, ends, source-in, target-in, gather, passed, offer, passage, offers, passages, Appended, Holding, of-number, held-in, led-in, place-at, all-placed, Tables}
+use Rattle.region_routes.specs.Tables.{width, every, entry, number-in, place-in, ends, source-in, target-in, most-entries, gather, passed, offer, passage, offers, passages, Appended, Holding, held-in, leads-in, leads-also, led-by, place-at, all-placed, Tables}
 use Rattle.region_routes.proofs.SetLaws.{counted-sets}
 
 -- what is put at the end of what stands in a buffer
@@ -108,12 +110,21 @@ module _ {A B : Type 0} {store : A → B} {none : B} {size : ℕ} (out : B → A
         (omega (arith, (rw filled-read at a) .counted, gather-few f w xs g i, all-at (λ x. length (f x) ≤ w) xs i d (filled-inside h i l) g))
 
   -- at the end
-  pub gathered-end : {before after : List ℕ} {i n : ℕ} (w : ℕ) → count ≤ i → i * w ≤ length after → All (λ x. length (f x) ≤ w) xs
-      → Appended before 0 (gather f (take i (map out (take count items)))) after n → Holding (gather f xs) after n
-  gathered-end {i = i} w l r g a = record {
-    room = omega (arith, (rw filled-read at a) .counted, gather-few f w xs g i);
+  pub gathered-end : {before after : List ℕ} {i n : ℕ} (w : ℕ) → count ≤ i → i * w ≤ most-entries → length after ≡ most-entries
+      → All (λ x. length (f x) ≤ w) xs → Appended before 0 (gather f (take i (map out (take count items)))) after n → Holding (gather f xs) after n
+  gathered-end {i = i} w l r e g a = record {
+    few = omega (arith, (rw filled-read at a) .counted, gather-few f w xs g i);
+    room = omega (arith, e, (rw filled-read at a) .counted, gather-few f w xs g i);
     table = (rw filled-read at a) .kept ∙ ap (gather f) (take-all i xs (omega (arith, h .counted)));
   }
+
+-- the part of an array that holds a table
+module _ {xs items : List ℕ} {count : ℕ} (h : Holding xs items count) where
+  pub holding-long : count ≡ length (take count items)
+  holding-long = sym (length-take-le count items (h .room))
+
+  pub holding-few : length (take count items) ≤ most-entries
+  holding-few = omega (arith, h .few, holding-long)
 
 -- what an entry says
 
@@ -137,6 +148,16 @@ module _ {a b : ℕ} (h : a < regions) (k : b < regions) where
 both : (a b c : Bool) → ((a && b) || (a && c)) ≡ (a && (b || c))
 both true b c = refl
 both false b c = refl
+
+any-either : (a p q : ℕ → Bool) (xs : List ℕ) → (any (λ x. a x && p x) xs || any (λ x. a x && q x) xs) ≡ any (λ x. a x && (p x || q x)) xs
+any-either a p q [] = refl
+any-either a p q (x ∷ xs) = step (a x) (p x) (q x) (any (λ x. a x && p x) xs) (any (λ x. a x && q x) xs) (any-either a p q xs)
+  where
+    step : (a p q t u : Bool) {v : Bool} → (t || u) ≡ v → (((a && p) || t) || ((a && q) || u)) ≡ ((a && (p || q)) || v)
+    step true true q t u e = refl
+    step true false true t u e = or-true t
+    step true false false t u e = e
+    step false p q t u e = e
 
 any-fixed : (a : Bool) (p : ℕ → Bool) (xs : List ℕ) → any (λ x. a && p x) xs ≡ (a && any p xs)
 any-fixed a p [] = sym (and-false a)
@@ -179,7 +200,7 @@ module _ (m : Model) (h : Legal m) where
       all-map (LegalBundle (m .regions)) (λ b. length (offer k b) ≤ most-provided) (λ b l. rw length-map (few-provided k b l)) (m .bundles) (h .bundles-legal .each)
 
   -- the place of a location in the table of the bundles is its region
-  pub place-offers : (l : ℕ) → place-at (offers 0 (m .bundles)) l ≡ place-of (m .bundles) l
+  place-offers : (l : ℕ) → place-at (offers 0 (m .bundles)) l ≡ place-of (m .bundles) l
   place-offers l = go (m .bundles) (h .bundles-legal .each)
     where
       go : (bs : List Bundle) → All (LegalBundle (m .regions)) bs → place-at (offers 0 bs) l ≡ place-of bs l
@@ -213,27 +234,30 @@ module _ (m : Model) (h : Legal m) where
 
   -- the numbers and the two ends of a connection's entries
   passage-says : (k n r s : ℕ) (c : Connection) → LegalConnection (m .regions) c
-      → any (λ e. (eqb (source-in e) r && eqb (target-in e) s) && of-number n e) (passage k c)
+      → any (λ e. (eqb (source-in e) r && eqb (target-in e) s) && (eqb (number-in e) every || eqb (number-in e) n)) (passage k c)
       ≡ ((eqb (c .source) r && eqb (c .target) s) && passes (item k n) (c .filter))
   passage-says k n r s c l =
       let a = source-inside l in
       let b = target-inside l in
       let xs = passed (part-of k (c .filter)) in
-      any-map (λ x. entry x (ends (c .source) (c .target))) (λ e. (eqb (source-in e) r && eqb (target-in e) s) && of-number n e) xs
+      any-map (λ x. entry x (ends (c .source) (c .target))) (λ e. (eqb (source-in e) r && eqb (target-in e) s) && (eqb (number-in e) every || eqb (number-in e) n)) xs
       ∙ ap (λ (p : ℕ → Bool). any p xs)
       (λ j x. (eqb (entry-source a b x j) r && eqb (entry-target a b x j) s) && (eqb (entry-of a b x j) every || eqb (entry-of a b x j) n))
       ∙ any-fixed (eqb (c .source) r && eqb (c .target) s) (λ x. eqb x every || eqb x n) xs
       ∙ ap (λ (t : Bool). (eqb (c .source) r && eqb (c .target) s) && t) (part-says n (part-of k (c .filter)) (part-legal k (c .filter) (l .filter)))
 
-  -- the table leads where a connection that passes the item leads
-  pub led-passages : (k n : ℕ) → led-in (passages k (m .connections)) n ≡ predecessor-sets m (item k n)
-  unfolding led-in predecessor-sets
-  led-passages k n =
-      ap (λ (f : ℕ → ℕ → Bool). map (λ s. set-of (f s)) (count-from 0 regions))
-      (λ j s r.
-      (any-gather (passage k) (λ e. (eqb (source-in e) r && eqb (target-in e) s) && of-number n e) (m .connections)
-      ∙ any-each (passage k) (LegalConnection (m .regions)) (λ c. any (λ e. (eqb (source-in e) r && eqb (target-in e) s) && of-number n e) (passage k c))
-      (λ c. (eqb (c .source) r && eqb (c .target) s) && passes (item k n) (c .filter)) (passage-says k n r s) (m .connections) (h .connections-legal .each)) j)
+  -- an entry for all or for the number leads where a connection that passes the item leads
+  crosses-passages : (k n r s : ℕ) → leads-also (leads-in (passages k (m .connections)) every) (passages k (m .connections)) n r s ≡ crosses m (item k n) r s
+  crosses-passages k n r s =
+      let test : ℕ → Bool = λ e. (eqb (source-in e) r && eqb (target-in e) s) && (eqb (number-in e) every || eqb (number-in e) n) in
+      any-either (λ e. eqb (source-in e) r && eqb (target-in e) s) (λ e. eqb (number-in e) every) (λ e. eqb (number-in e) n) (passages k (m .connections))
+      ∙ any-gather (passage k) test (m .connections)
+      ∙ any-each (passage k) (LegalConnection (m .regions)) (λ c. any test (passage k c))
+      (λ c. (eqb (c .source) r && eqb (c .target) s) && passes (item k n) (c .filter)) (passage-says k n r s) (m .connections) (h .connections-legal .each)
+
+  pub led-passages : (k n : ℕ) → led-by (leads-also (leads-in (passages k (m .connections)) every) (passages k (m .connections)) n) ≡ predecessor-sets m (item k n)
+  unfolding led-by predecessor-sets
+  led-passages k n = ap led-by (λ j r s. crosses-passages k n r s j)
 
   few-passed : (p : Part) → NumberedPart p → length (passed p) ≤ most-listed
   few-passed (Part.listed xs) l = l .few
@@ -264,6 +288,10 @@ module _ (m : Model) (h : Legal m) where
     pub connection-ends : (getD items i e .source < regions) × (getD items i e .target < regions)
     connection-ends = rw (filled-at f i e no-connection l) (source-inside connection-legal, target-inside connection-legal)
 
+-- the places in the table of the bundles are the regions of the locations
+pub place-table : {m : Model} → Legal m → {es : List ℕ} → es ≡ offers 0 (m .bundles) → (l : ℕ) → place-at es l ≡ place-of (m .bundles) l
+place-table {m} h e l = ap (λ (es : List ℕ). place-at es l) e ∙ place-offers m h l
+
 -- each listener has a place where each is installed
 pub placed-installed : (m : Model) {place : ℕ → Place} → ((l : ℕ) → place l ≡ place-of (m .bundles) l) → (ls : List ℕ)
     → all-placed place ls ≡ all-installed m ls
@@ -289,12 +317,56 @@ module _ {m : Model} {kind : ℕ} {offered passing : List ℕ} (t : Tables m kin
   pub held-table : held-in offered n ≡ holder-set m (item kind n)
   held-table = ap (λ (es : List ℕ). held-in es n) (t .offered-is) ∙ held-offers m (t .legal) kind n
 
-  pub led-table : led-in passing n ≡ predecessor-sets m (item kind n)
-  led-table = ap (λ (es : List ℕ). led-in es n) (t .passing-is) ∙ led-passages m (t .legal) kind n
+  pub led-table : led-by (leads-also (leads-in passing every) passing n) ≡ predecessor-sets m (item kind n)
+  led-table = ap (λ (es : List ℕ). led-by (leads-also (leads-in es every) es n)) (t .passing-is) ∙ led-passages m (t .legal) kind n
 
 pub held-small : (es : List ℕ) (n : ℕ) → held-in es n < 2 ^ regions
 held-small es n = set-below-lt regions (λ r. any (λ e. eqb (place-in e) r && eqb (number-in e) n) es)
 
-pub led-sets : (es : List ℕ) (n : ℕ) → RegionSets (led-in es n)
-unfolding led-in
-led-sets es n = counted-sets (λ s r. any (λ e. (eqb (source-in e) r && eqb (target-in e) s) && of-number n e) es)
+pub led-sets : (leads : ℕ → ℕ → Bool) → RegionSets (led-by leads)
+unfolding led-by
+led-sets leads = counted-sets (λ s r. leads r s)
+
+-- no region leads anywhere
+pub led-none : replicate regions 0 ≡ led-by (λ r s. false)
+unfolding led-by
+led-none = rw set-none
+
+-- the sets of predecessors: those given, and as one entry more comes in
+pub led-start : (leads : ℕ → ℕ → Bool) (n : ℕ) → led-by leads ≡ led-by (leads-also leads [] n)
+led-start leads n = ap led-by (λ j r s. sym (or-false (leads r s)) j)
+
+module _ (leads : ℕ → ℕ → Bool) (es : List ℕ) (n i : ℕ) (h : i < length es) where
+  leads-more : (b : Bool) → eqb (number-in (getD es i 0)) n ≡ b → (r s : ℕ)
+      → leads-also leads (take (i + 1) es) n r s
+      ≡ (leads-also leads (take i es) n r s || ((eqb (source-in (getD es i 0)) r && eqb (target-in (getD es i 0)) s) && b))
+  leads-more b q r s =
+      ap (λ (t : Bool). leads r s || t) (any-more (λ e. (eqb (source-in e) r && eqb (target-in e) s) && eqb (number-in e) n) es i 0 h)
+      ∙ rw q (sym (or-assoc (leads r s) (leads-in (take i es) n r s) ((eqb (source-in (getD es i 0)) r && eqb (target-in (getD es i 0)) s) && b)))
+
+  -- an entry of the number adds its source to those that lead to its target
+  pub led-entry : {sets : List ℕ} {x : ℕ} → eqb (number-in (getD es i 0)) n ≡ true → sets ≡ led-by (leads-also leads (take i es) n)
+      → x ≡ one (source-in (getD es i 0)) → (let s = target-in (getD es i 0) in
+      s < regions → set sets s (bitOr (getD sets s 0) x) ≡ led-by (leads-also leads (take (i + 1) es) n))
+  unfolding led-by
+  led-entry q p t l =
+      let e = getD es i 0 in
+      sets-more (leads-also leads (take i es) n) (leads-also leads (take (i + 1) es) n) (source-in e) p t l
+      (λ r.
+      leads-more true q r (target-in e)
+      ∙ ap (λ (b : Bool). leads-also leads (take i es) n r (target-in e) || b)
+      (rw (eq-eqb (target-in e) (target-in e) refl) (and-true (eqb (source-in e) r && true) ∙ and-true (eqb (source-in e) r))))
+      (λ r s k.
+      leads-more true q r s
+      ∙ ap (λ (b : Bool). leads-also leads (take i es) n r s || b) (rw (ne-eqb (target-in e) s (λ j. k (sym j)), and-false (eqb (source-in e) r)))
+      ∙ or-false (leads-also leads (take i es) n r s))
+
+  -- an entry of another number adds nothing
+  pub led-other : eqb (number-in (getD es i 0)) n ≡ false → led-by (leads-also leads (take i es) n) ≡ led-by (leads-also leads (take (i + 1) es) n)
+  led-other q = ap led-by (λ j r s. sym (nothing r s) j)
+    where
+      nothing : (r s : ℕ) → leads-also leads (take (i + 1) es) n r s ≡ leads-also leads (take i es) n r s
+      nothing r s =
+          leads-more false q r s
+          ∙ ap (λ (b : Bool). leads-also leads (take i es) n r s || b) (and-false (eqb (source-in (getD es i 0)) r && eqb (target-in (getD es i 0)) s))
+          ∙ or-false (leads-also leads (take i es) n r s)

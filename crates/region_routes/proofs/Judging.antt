@@ -31,7 +31,7 @@ use Rattle.region_routes.specs.declared.Routed.the-variants.{Count}
 use Rattle.region_routes.proofs.Choosing.{crosses-inside, by-best, by-none, found-is}
 use Rattle.region_routes.proofs.Layers.{trail, shallower}
 use Rattle.region_routes.proofs.RouteLaws.{lt-or-ge, carry, carry-best}
-use Rattle.region_routes.proofs.SetLaws.{counted-sets}
+use Rattle.region_routes.proofs.SetLaws.{counted-sets, not-in-empty}
 
 -- the members of a set by a test
 set-in : (p : ℕ → Bool) (n : ℕ) → In (set-of p) n → p n ≡ true
@@ -142,6 +142,23 @@ module _ {cross : ℕ → ℕ → Bool} {ends : ℕ → Bool} {pred : List ℕ} 
           let n : length (w .path) - 1 ≡ d = omega (arith, w .counted) in
           rw e (λ j. routed (Count (sym n j)) (w .exit-is j))
 
+-- a search from no holder reaches nothing
+none-searched : (pred : List ℕ) → Searched pred 0 [] 0 0
+none-searched pred = record {
+  layered = record {
+    base = λ n k. absurd (not-in-empty n k);
+    holds = λ n k. absurd (not-in-empty n k);
+    back = λ j n l k. absurd (omega arith);
+    closed = λ j n s l k t. absurd (omega arith);
+    apart = λ j k n a b t u. absurd (omega arith);
+  };
+  low = omega arith;
+  small = omega arith;
+  into = λ j n l k. absurd (not-in-empty n k);
+  from = λ n k. absurd (not-in-empty n k);
+  shut = λ n s k t. absurd (not-in-empty s t);
+}
+
 module _ (m : Model) (i : Item) (h : Legal m) where
   -- the predecessor sets are the connections that pass the item, the holder set the regions that hold it
   conn-crosses : (r s : ℕ) → Conn (predecessor-sets m i) r s → Crosses m i r s
@@ -193,6 +210,10 @@ module _ (m : Model) (i : Item) (h : Legal m) where
           → _≡_ {A = Outcome Routed} (routed (Count d) exit) (shown (chosen m i r) entry)
       unfolding chosen
       walked-chosen = walked-by tied f r l
+
+  -- where nobody holds an item, nobody sees it
+  pub none-sees : holder-set m i ≡ 0 → 0 ≡ set-of (sees m i)
+  none-sees e = reached-sees {sets = []} {deep = 0} (rw e (none-searched (predecessor-sets m i)))
 
 -- listeners stand in the set of the regions that see the item exactly where they see it
 pub stands-sees : (m : Model) (i : Item) → Legal m → (l : ℕ)

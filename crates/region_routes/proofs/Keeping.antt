@@ -7,9 +7,13 @@ use native.Mathlib.Numerals.{add-one}
 use native.Mathlib.Omega.{arith}
 use lib.ListN.{length, getD, take, drop, set, length-append, length-set, drop-of-length-le}
 use lib.Seq.{set-at, append-snoc, drop-cons, take-all}
+use borrow.Author.Tests.{lt-ltb}
+use Rattle.region_graph.specs.Size.{regions}
 use Rattle.region_graph.specs.Lists.{keep}
+use Rattle.region_graph.specs.Sets.{has, set-of}
 use Rattle.region_graph.specs.declared.Place.{Place}
 use Rattle.region_graph.proofs.Lists.{keep-took, keep-left}
+use Rattle.region_graph.proofs.Bits.{has-set}
 use Rattle.region_routes.specs.Hooks.{Outcome, kept, written, kept-outcome, installed}
 use Rattle.region_routes.specs.Tables.{all-placed}
 use Rattle.region_routes.specs.declared.Kept.{Kept}
@@ -59,6 +63,10 @@ module _ {p : ℕ → Bool} {xs : List ℕ} {entry : List ℕ} where
   keeping-end {i} {n} {out} k h =
       let e = take-all i xs h in
       λ j. kept (Wrote ((k .counted ∙ ap (λ (t : List ℕ). length (keep p t)) e) j)) ((k .exit-is ∙ ap (λ (t : List ℕ). written (keep p t) entry) e) j)
+
+-- whether a region is in the set of those that pass a test
+pub has-by : (p : ℕ → Bool) (r : ℕ) {set : ℕ} {b : Bool} → set ≡ set-of p → r < regions → has set r ≡ b → p r ≡ b
+has-by p r e l t = sym (ap (λ (x : ℕ). has x r) e ∙ has-set p r ∙ rw (lt-ltb r regions l)) ∙ t
 
 -- the listeners from the i-th on
 module _ (place : ℕ → Place) (xs : List ℕ) (i : ℕ) (h : i < length xs) (e : all-placed place xs ≡ all-placed place (drop i xs)) where

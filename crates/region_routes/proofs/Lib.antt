@@ -7,6 +7,7 @@ pub mod SearchLoops
 pub mod Walking
 pub mod Judging
 pub mod Entries
+pub mod Chaining
 pub mod Keeping
 pub mod Answering
 pub mod Claims

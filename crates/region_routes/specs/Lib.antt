@@ -7,3 +7,4 @@ pub mod Table
 pub mod Net
 pub mod Search
 pub mod Tables
+pub mod Chains

@@ -5,7 +5,7 @@ use mathlib.Core.List.{List, [], _∷_, _++_, map}
 use Prim.Native.Nat.{ℕ, _+_, _*_, _/_, _%_, _≤_}
 use lib.Dec.{eqb}
 use lib.ListN.{length, take}
-use Rattle.region_graph.specs.Size.{regions}
+use Rattle.region_graph.specs.Size.{regions, most-connections, most-listed}
 use Rattle.region_graph.specs.Lists.{pick, any, count-from}
 use Rattle.region_graph.specs.Sets.{set-of}
 use Rattle.region_graph.specs.Model.{Model, Bundle, Part, Connection, Legal}
@@ -40,6 +40,10 @@ source-in e = place-in e / regions
 abbrev pub target-in : ℕ → ℕ
 target-in e = place-in e % regions
 
+-- the connections pass no more; the bundles bring no more
+abbrev pub most-entries : ℕ
+most-entries = most-connections * most-listed
+
 -- the entries of each element, one after the other
 abbrev pub gather : {A : Type 0} → (A → List ℕ) → List A → List ℕ
 gather f [] = []
@@ -71,19 +75,23 @@ pub record Appended (before : List ℕ) (at : ℕ) (xs after : List ℕ) (next :
 
 -- the first `count` places hold the table
 pub record Holding (xs items : List ℕ) (count : ℕ) : Type 0 where
+  pub few : count ≤ most-entries
   pub room : count ≤ length items
   pub table : take count items ≡ xs
 
--- an entry is of a number: it has that number, or stands for all
-abbrev pub of-number : ℕ → ℕ → Bool
-of-number n e = eqb (number-in e) every || eqb (number-in e) n
-
--- the regions that entries name for a number, and for each region those from which entries lead to it
+-- the regions that the entries of a number name, and whether one of them leads from a region to another
 abbrev pub held-in : List ℕ → ℕ → ℕ
 held-in es n = set-of (λ r. any (λ e. eqb (place-in e) r && eqb (number-in e) n) es)
 
-unfoldable pub led-in : List ℕ → ℕ → List ℕ
-led-in es n = map (λ s. set-of (λ r. any (λ e. (eqb (source-in e) r && eqb (target-in e) s) && of-number n e) es)) (count-from 0 regions)
+abbrev pub leads-in : List ℕ → ℕ → ℕ → ℕ → Bool
+leads-in es n r s = any (λ e. (eqb (source-in e) r && eqb (target-in e) s) && eqb (number-in e) n) es
+
+abbrev pub leads-also : (ℕ → ℕ → Bool) → List ℕ → ℕ → ℕ → ℕ → Bool
+leads-also leads es n r s = leads r s || leads-in es n r s
+
+-- for each region the set of the regions from which one is led to it
+unfoldable pub led-by : (ℕ → ℕ → Bool) → List ℕ
+led-by leads = map (λ s. set-of (λ r. leads r s)) (count-from 0 regions)
 
 -- the place of the first entry that has the number
 abbrev pub place-at : List ℕ → ℕ → Place

@@ -8,20 +8,30 @@ ghost use Rattle.region_graph.specs.Model.{Model};
 ghost use Rattle.region_graph.specs.Record.{Valid, meaning};
 ghost use Rattle.region_routes.specs.Chosen.{sees};
 ghost use Rattle.region_routes.specs.Hooks.{«kind-number», item, kept, «kept-outcome», «find-outcome», «event-outcome», «stands-in»};
-ghost use Rattle.region_routes.specs.Tables.{Tables, «place-at», «all-placed»};
+ghost use Rattle.region_routes.specs.Tables.{Tables, «most-entries», «place-at», «all-placed»};
+ghost use Rattle.region_routes.specs.Chains.{Chained};
 use crate::Kept;
 use crate::Kind;
 use crate::search::seers;
 use crate::search::seers_by;
+use crate::tables::EVERY_NUMBER;
+use crate::tables::MOST_ENTRIES;
+use crate::tables::chained;
 use crate::tables::offers;
 use crate::tables::passages;
 use crate::tables::place_of;
+use crate::tables::predecessors;
+use crate::tables::wide;
 use region_graph::Graph;
 use region_graph::Item;
 use region_graph::Place;
 use region_graph::refusals::NO_PLACE;
 use region_graph::refusals::NOT_INSTALLED;
 use region_graph::region_set::has;
+use region_graph::size::REGIONS;
+
+// Below so many candidates tables cost more than a search for each.
+const FEW: usize = 4;
 
 fn kind_number(kind: Kind) -> u32
     ensures { λ r. ⌜ r ≡ kind-number kind ⌝ }
@@ -33,7 +43,7 @@ fn kind_number(kind: Kind) -> u32
     }
 }
 
-// Writes the candidates of a kind that a region sees, by the tables of the kind.
+// Writes the candidates of a kind that a region sees, by the tables of the kind, which are chained first.
 fn keep_seen(
     offered: &[u64],
     passing: &[u64],
@@ -41,15 +51,60 @@ fn keep_seen(
     candidates: &[u32],
     out: &mut [u32],
 ) -> usize
+    requires { ⌜ (length (now offered) ≤ most-entries) × (length (now passing) ≤ most-entries) ⌝ }
     requires { ⌜ (region < regions) × (length (now candidates) ≤ length (now out)) ⌝ }
     ensures { λ r. ⌜ ((m : Model) (kind : ℕ) → Tables m kind (now (offered .entry)) (now (passing .entry)) → kept (Kept.Wrote r) (now (out .exit)) ≡ kept-outcome (keep (λ n. sees m (item kind n) region) (now (candidates .entry))) (now (out .entry))) ⌝ }
 {
+    let offer_links = chained(offered);
+    let pass_links = chained(passing);
+    let none = [0u64; REGIONS];
+    let always = predecessors(passing, &pass_links, EVERY_NUMBER, none);
     let mut n: usize = 0;
     let mut i: usize = 0;
     while i < candidates.len() {
         let number = candidates[i];
         i += 1;
-        let set = seers_by(offered, passing, number);
+        let set = seers_by(offered, &offer_links, passing, &pass_links, always, number);
+        if has(set, region) {
+            out[n] = number;
+            n += 1;
+        }
+    }
+    n
+}
+
+// Writes the candidates of a kind that a region sees: makes the tables of the kind.
+fn keep_many(graph: Graph, kind: Kind, region: u32, candidates: &[u32], out: &mut [u32]) -> usize
+    requires { ⌜ Valid graph ⌝ }
+    requires { ⌜ (region < regions) × (length (now candidates) ≤ length (now out)) ⌝ }
+    ensures { λ r. ⌜ kept (Kept.Wrote r) (now (out .exit)) ≡ kept-outcome (keep (λ n. sees (meaning graph) (item (kind-number kind) n) region) (now (candidates .entry))) (now (out .entry)) ⌝ }
+{
+    let mut offered = [0u64; MOST_ENTRIES];
+    let given = offers(&mut offered, graph, kind);
+    let mut passing = [0u64; MOST_ENTRIES];
+    let passed = passages(&mut passing, graph, kind);
+    keep_seen(
+        &offered[..given],
+        &passing[..passed],
+        region,
+        candidates,
+        out,
+    )
+}
+
+// Writes the candidates of a kind that a region sees: asks the graph about each, and makes no tables.
+fn keep_few(graph: Graph, kind: Kind, region: u32, candidates: &[u32], out: &mut [u32]) -> usize
+    requires { ⌜ Valid graph ⌝ }
+    requires { ⌜ (region < regions) × (length (now candidates) ≤ length (now out)) ⌝ }
+    ensures { λ r. ⌜ kept (Kept.Wrote r) (now (out .exit)) ≡ kept-outcome (keep (λ n. sees (meaning graph) (item (kind-number kind) n) region) (now (candidates .entry))) (now (out .entry)) ⌝ }
+{
+    let kind = kind_number(kind);
+    let mut n: usize = 0;
+    let mut i: usize = 0;
+    while i < candidates.len() {
+        let number = candidates[i];
+        i += 1;
+        let set = seers(graph, Item { kind, number });
         if has(set, region) {
             out[n] = number;
             n += 1;
@@ -70,29 +125,22 @@ pub fn find(graph: Graph, kind: Kind, location: u32, candidates: &[u32], out: &m
     if out.len() < candidates.len() {
         return Kept::Refused(NO_PLACE);
     }
-    let given = offers(graph, kind);
-    let offered = given.items;
-    let given_count = given.count;
-    let passed = passages(graph, kind);
-    let passing = passed.items;
-    let passed_count = passed.count;
-    let n = keep_seen(
-        &offered[..given_count],
-        &passing[..passed_count],
-        region,
-        candidates,
-        out,
-    );
+    if candidates.len() < FEW {
+        let n = keep_few(graph, kind, region, candidates, out);
+        return Kept::Wrote(n);
+    }
+    let n = keep_many(graph, kind, region, candidates, out);
     Kept::Wrote(n)
 }
 
 // Whether every listener has a place in the table of the bundles.
-fn all_installed(bundles: &[u64], listeners: &[u32]) -> bool
+fn all_installed(bundles: &[u64], links: &[u16], listeners: &[u32]) -> bool
+    requires { ⌜ Chained (now bundles) (now links) ⌝ }
     ensures { λ r. ⌜ r ≡ all-placed (place-at (now (bundles .entry))) (now (listeners .entry)) ⌝ }
 {
     let mut i: usize = 0;
     while i < listeners.len() {
-        let place = place_of(bundles, listeners[i]);
+        let place = place_of(bundles, links, wide(listeners[i]));
         i += 1;
         if let Place::Nowhere = place {
             return false;
@@ -102,10 +150,11 @@ fn all_installed(bundles: &[u64], listeners: &[u32]) -> bool
 }
 
 // Whether a listener's region is in a set.
-fn stands_in(bundles: &[u64], listener: u32, set: u64) -> bool
+fn stands_in(bundles: &[u64], links: &[u16], listener: u32, set: u64) -> bool
+    requires { ⌜ Chained (now bundles) (now links) ⌝ }
     ensures { λ r. ⌜ r ≡ stands-in set (place-at (now (bundles .entry)) listener) ⌝ }
 {
-    let place = place_of(bundles, listener);
+    let place = place_of(bundles, links, wide(listener));
     let Place::Within(region) = place else {
         return false;
     };
@@ -113,7 +162,14 @@ fn stands_in(bundles: &[u64], listener: u32, set: u64) -> bool
 }
 
 // Writes the listeners whose regions are in a set.
-fn keep_standing(bundles: &[u64], set: u64, listeners: &[u32], out: &mut [u32]) -> usize
+fn keep_standing(
+    bundles: &[u64],
+    links: &[u16],
+    set: u64,
+    listeners: &[u32],
+    out: &mut [u32],
+) -> usize
+    requires { ⌜ Chained (now bundles) (now links) ⌝ }
     requires { ⌜ length (now listeners) ≤ length (now out) ⌝ }
     ensures { λ r. ⌜ kept (Kept.Wrote r) (now (out .exit)) ≡ kept-outcome (keep (λ l. stands-in set (place-at (now (bundles .entry)) l)) (now (listeners .entry))) (now (out .entry)) ⌝ }
 {
@@ -122,7 +178,7 @@ fn keep_standing(bundles: &[u64], set: u64, listeners: &[u32], out: &mut [u32]) 
     while i < listeners.len() {
         let listener = listeners[i];
         i += 1;
-        if stands_in(bundles, listener, set) {
+        if stands_in(bundles, links, listener, set) {
             out[n] = listener;
             n += 1;
         }
@@ -134,10 +190,10 @@ fn event(graph: Graph, kind: Kind, listeners: &[u32], number: u32, out: &mut [u3
     requires { ⌜ Valid graph ⌝ }
     ensures { λ r. ⌜ kept r (now (out .exit)) ≡ event-outcome (meaning graph) kind (now (listeners .entry)) number (now (out .entry)) ⌝ }
 {
-    let table = offers(graph, Kind::Bundle);
-    let bundles = table.items;
-    let count = table.count;
-    if !all_installed(&bundles[..count], listeners) {
+    let mut bundles = [0u64; MOST_ENTRIES];
+    let count = offers(&mut bundles, graph, Kind::Bundle);
+    let links = chained(&bundles[..count]);
+    if !all_installed(&bundles[..count], &links, listeners) {
         return Kept::Refused(NOT_INSTALLED);
     }
     if out.len() < listeners.len() {
@@ -145,7 +201,7 @@ fn event(graph: Graph, kind: Kind, listeners: &[u32], number: u32, out: &mut [u3
     }
     let kind = kind_number(kind);
     let set = seers(graph, Item { kind, number });
-    let written = keep_standing(&bundles[..count], set, listeners, out);
+    let written = keep_standing(&bundles[..count], &links, set, listeners, out);
     Kept::Wrote(written)
 }
 

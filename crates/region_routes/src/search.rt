@@ -8,10 +8,12 @@ ghost use Rattle.region_graph.specs.Record.{Valid, meaning};
 ghost use Rattle.region_graph.specs.Sets.{«set-of»};
 ghost use Rattle.region_routes.specs.Chosen.{sees};
 ghost use Rattle.region_routes.specs.Hooks.{item};
-ghost use Rattle.region_routes.specs.Tables.{Tables};
+ghost use Rattle.region_routes.specs.Tables.{Tables, every, «leads-in», «led-by»};
+ghost use Rattle.region_routes.specs.Chains.{Chained};
 ghost use Rattle.region_routes.specs.Search.{RegionSets, SetOfRegions, Layer, Searched, Reached, Found};
 use crate::tables::holders;
 use crate::tables::predecessors;
+use crate::tables::wide;
 use region_graph::Graph;
 use region_graph::Item;
 use region_graph::region_set::difference;
@@ -112,12 +114,26 @@ pub fn seers(graph: Graph, item: Item) -> u64
     found.reached
 }
 
-// The regions that see an item, by the tables of its kind.
-pub fn seers_by(offered: &[u64], passing: &[u64], number: u32) -> u64
+// The regions that see an item, by the chained tables of its kind and the predecessors that the entries for all numbers give.
+pub fn seers_by(
+    offered: &[u64],
+    offer_links: &[u16],
+    passing: &[u64],
+    pass_links: &[u16],
+    always: [u64; REGIONS],
+    number: u32,
+) -> u64
+    requires { ⌜ Chained (now offered) (now «offer_links») ⌝ }
+    requires { ⌜ Chained (now passing) (now «pass_links») ⌝ }
+    requires { ⌜ always ≡ led-by (leads-in (now passing) every) ⌝ }
     ensures { λ r. ⌜ ((m : Model) (kind : ℕ) → Tables m kind (now (offered .entry)) (now (passing .entry)) → r ≡ set-of (sees m (item kind number))) ⌝ }
 {
-    let pred = predecessors(passing, number);
-    let held = holders(offered, number);
+    let sought = wide(number);
+    let held = holders(offered, offer_links, sought);
+    if held == 0 {
+        return 0;
+    }
+    let pred = predecessors(passing, pass_links, sought, always);
     let layers = search(&pred, held);
     layers.reached
 }

@@ -1,13 +1,15 @@
 // Tables of the items of one kind, made once for a query and lent: slices of numbers are not copied, as a graph is.
 ghost use mathlib.Core.Path.{_≡_};
+ghost use mathlib.Core.Bool.{Bool};
 ghost use mathlib.Core.List.{[], _∷_, map};
-ghost use Prim.Native.Nat.{_+_, _<_, _≤_};
-ghost use lib.ListN.{length};
+ghost use Prim.Native.Nat.{ℕ, _+_, _<_, _≤_};
+ghost use lib.ListN.{length, getD};
 ghost use Rattle.region_graph.specs.Size.{regions};
 ghost use Rattle.region_graph.specs.Record.{Valid, meaning, «numbers-of», «provided-of», «bundle-in», «connection-in», «part-in»};
 ghost use Rattle.region_graph.specs.Places.{NumbersStored, ProvidedStored, BundleStored, PartStored, ConnectionStored};
 ghost use Rattle.region_routes.specs.Hooks.{«kind-number»};
 ghost use Rattle.region_routes.specs.Tables;
+ghost use Rattle.region_routes.specs.Chains;
 use crate::Kind;
 use region_graph::Graph;
 use region_graph::Numbers;
@@ -25,20 +27,27 @@ use region_graph::size::REGIONS;
 const WIDTH: u64 = 65536;
 
 // The number of an entry that stands for all numbers: no item has it.
-const EVERY_NUMBER: u64 = 4294967296;
+pub const EVERY_NUMBER: u64 = 4294967296;
 
 // What the connections pass at most; the bundles bring no more.
-const MOST_ENTRIES: usize = MOST_CONNECTIONS * MOST_LISTED;
+pub const MOST_ENTRIES: usize = MOST_CONNECTIONS * MOST_LISTED;
 
-pub struct Table {
-    pub count: usize,
-    pub items: [u64; MOST_ENTRIES],
-}
+// Entries are in a chain by their number's remainder.
+const CHAINS: usize = 256;
 
-fn wide(number: u32) -> u64
+// The starts of the chains, and a place for each entry.
+const LINKS: usize = CHAINS + MOST_ENTRIES;
+
+pub fn wide(number: u32) -> u64
     ensures { λ r. ⌜ (r ≡ number) × (r < Tables.every) ⌝ }
 {
     number as u64
+}
+
+fn place(number: u16) -> usize
+    ensures { λ r. ⌜ r ≡ number ⌝ }
+{
+    number as usize
 }
 
 // Puts one entry at a place, and gives the next place.
@@ -138,78 +147,120 @@ fn append_passage(out: &mut [u64], at: usize, c: StoredConnection, kind: Kind) -
     }
 }
 
-// What the bundles of a graph bring to their regions.
-pub fn offers(graph: Graph, kind: Kind) -> Table
+// Puts what the bundles of a graph bring to their regions, and gives the count.
+pub fn offers(items: &mut [u64], graph: Graph, kind: Kind) -> usize
     requires { ⌜ Valid graph ⌝ }
-    ensures { λ r. ⌜ Tables.Holding (Tables.offers (kind-number kind) (meaning graph .bundles)) (r .items) (r .count) ⌝ }
+    requires { ⌜ length (now items) ≡ Tables.most-entries ⌝ }
+    ensures { λ r. ⌜ Tables.Holding (Tables.offers (kind-number kind) (meaning graph .bundles)) (now (items .exit)) r ⌝ }
 {
     let bundles = graph.bundle_places();
     let count = graph.bundle_count();
-    let mut items = [0u64; MOST_ENTRIES];
     let mut n: usize = 0;
     let mut i: usize = 0;
     while i < count {
         let b = bundles[i];
         i += 1;
-        n = append_offer(&mut items, n, b, kind);
+        n = append_offer(items, n, b, kind);
     }
-    Table { count: n, items }
+    n
 }
 
-// What the connections of a graph pass.
-pub fn passages(graph: Graph, kind: Kind) -> Table
+// Puts what the connections of a graph pass, and gives the count.
+pub fn passages(items: &mut [u64], graph: Graph, kind: Kind) -> usize
     requires { ⌜ Valid graph ⌝ }
-    ensures { λ r. ⌜ Tables.Holding (Tables.passages (kind-number kind) (meaning graph .connections)) (r .items) (r .count) ⌝ }
+    requires { ⌜ length (now items) ≡ Tables.most-entries ⌝ }
+    ensures { λ r. ⌜ Tables.Holding (Tables.passages (kind-number kind) (meaning graph .connections)) (now (items .exit)) r ⌝ }
 {
     let connections = graph.connection_places();
     let count = graph.connection_count();
-    let mut items = [0u64; MOST_ENTRIES];
     let mut n: usize = 0;
     let mut i: usize = 0;
     while i < count {
         let c = connections[i];
         i += 1;
-        n = append_passage(&mut items, n, c, kind);
+        n = append_passage(items, n, c, kind);
     }
-    Table { count: n, items }
+    n
+}
+
+// The chain of a number.
+fn chain_of(number: u64) -> usize
+    ensures { λ r. ⌜ (r ≡ Chains.chain number) × (r < Chains.chains) ⌝ }
+{
+    (number % (CHAINS as u64)) as usize
+}
+
+// The chains of a table: for each the place of its first entry, and after those for each entry the place of the next one of its chain.
+// The table's length ends a chain.
+pub fn chained(table: &[u64]) -> [u16; LINKS]
+    requires { ⌜ length (now table) ≤ Tables.most-entries ⌝ }
+    ensures { λ r. ⌜ Chains.Chained (now (table .entry)) r ⌝ }
+{
+    let end = table.len() as u16;
+    let mut links = [end; LINKS];
+    let mut i = table.len();
+    while 0 < i {
+        i -= 1;
+        let c = chain_of(table[i] / WIDTH);
+        let next = links[c];
+        let at = CHAINS + i;
+        links[at] = next;
+        links[c] = i as u16;
+    }
+    links
+}
+
+// The first place of the chain of a number.
+fn first_of(links: &[u16], number: u64) -> usize
+    requires { ⌜ Chains.chains ≤ length (now links) ⌝ }
+    ensures { λ r. ⌜ r ≡ getD (now (links .entry)) (Chains.chain number) 0 ⌝ }
+{
+    let c = chain_of(number);
+    place(links[c])
+}
+
+// The place after one in its chain.
+fn next_of(links: &[u16], i: usize) -> usize
+    requires { ⌜ Chains.chains + i < length (now links) ⌝ }
+    ensures { λ r. ⌜ r ≡ getD (now (links .entry)) (Chains.chains + i) 0 ⌝ }
+{
+    let at = CHAINS + i;
+    place(links[at])
 }
 
 // The regions of the entries that have a number.
-pub fn holders(table: &[u64], number: u32) -> u64
+pub fn holders(table: &[u64], links: &[u16], number: u64) -> u64
+    requires { ⌜ Chains.Chained (now table) (now links) ⌝ }
     ensures { λ r. ⌜ r ≡ Tables.held-in (now (table .entry)) number ⌝ }
 {
     let mut set: u64 = 0;
-    let mut i: usize = 0;
+    let mut i = first_of(links, number);
     while i < table.len() {
         let e = table[i];
-        i += 1;
-        if e / WIDTH == wide(number) {
+        i = next_of(links, i);
+        if e / WIDTH == number {
             set = set | one((e % WIDTH) as u32);
         }
     }
     set
 }
 
-fn of_number(entry: u64, number: u32) -> bool
-    ensures { λ r. ⌜ r ≡ Tables.of-number number entry ⌝ }
+// For each region, beside those given, the regions from which the entries that have a number lead to it.
+pub fn predecessors(
+    table: &[u64],
+    links: &[u16],
+    number: u64,
+    given: [u64; REGIONS],
+) -> [u64; REGIONS]
+    requires { ⌜ Chains.Chained (now table) (now links) ⌝ }
+    ensures { λ r. ⌜ ((leads : ℕ → ℕ → Bool) → given ≡ Tables.led-by leads → r ≡ Tables.led-by (Tables.leads-also leads (now (table .entry)) number)) ⌝ }
 {
-    let n = entry / WIDTH;
-    if n == EVERY_NUMBER {
-        return true;
-    }
-    n == wide(number)
-}
-
-// For each region the regions from which the entries of a number lead to it.
-pub fn predecessors(table: &[u64], number: u32) -> [u64; REGIONS]
-    ensures { λ r. ⌜ r ≡ Tables.led-in (now (table .entry)) number ⌝ }
-{
-    let mut sets = [0u64; REGIONS];
-    let mut i: usize = 0;
+    let mut sets = given;
+    let mut i = first_of(links, number);
     while i < table.len() {
         let e = table[i];
-        i += 1;
-        if of_number(e, number) {
+        i = next_of(links, i);
+        if e / WIDTH == number {
             let ends = (e % WIDTH) as usize;
             let source = ends / REGIONS;
             let target = ends % REGIONS;
@@ -220,14 +271,15 @@ pub fn predecessors(table: &[u64], number: u32) -> [u64; REGIONS]
 }
 
 // The place of the first entry that has a number.
-pub fn place_of(table: &[u64], number: u32) -> Place
+pub fn place_of(table: &[u64], links: &[u16], number: u64) -> Place
+    requires { ⌜ Chains.Chained (now table) (now links) ⌝ }
     ensures { λ r. ⌜ r ≡ Tables.place-at (now (table .entry)) number ⌝ }
 {
-    let mut i: usize = 0;
+    let mut i = first_of(links, number);
     while i < table.len() {
         let e = table[i];
-        i += 1;
-        if e / WIDTH == wide(number) {
+        i = next_of(links, i);
+        if e / WIDTH == number {
             return Place::Within((e % WIDTH) as u32);
         }
     }

@@ -1,10 +1,10 @@
 use borrow.Author.Needs.{needs}
 use mathlib.Core.Path.{_≡_, sym, _∙_}
-use lib.Seq.{length-take-le}
+use Prim.Native.Nat.{_<_}
+use Rattle.region_graph.specs.Size.{regions}
 use Rattle.region_graph.specs.Record.{meaning}
 use Rattle.region_graph.specs.Promise.{place-of}
 use Rattle.region_graph.specs.declared.Place.the-variants.{Within}
-use Rattle.region_routes.specs.Hooks.{kind-number}
 use Rattle.region_routes.proofs.Judging.{region-inside}
 use Rattle.region_routes.proofs.Answering.{find-outside, find-cramped, find-answers}
 use Rattle.region_routes.proofs.hooks.find.Statement.{statement}
@@ -14,14 +14,8 @@ use Rattle.region_routes.proofs.hooks.find.Tie as tie
 place : (c : tie.After-known-told) → (let s = c .before .before .before .before .before .before .args in place-of (meaning (s .graph) .bundles) (s .location) ≡ Within (c .before .place .given .0 .0))
 place c = sym (c .before .before .before .region-of .ensures) ∙ c .before .place .given .1
 
-region-of-requires : tie.Need-region-of-requires
-region-of-requires c κs = search needs
-
-enum-known-place : tie.Need-enum-known-place
-enum-known-place c = search needs
-
-enum-told : tie.Need-enum-told
-enum-told c = search needs
+inside : (c : tie.After-known-told) → c .before .place .given .0 .0 < regions
+inside c = let s = c .before .before .before .before .before .before in region-inside (meaning (s .args .graph)) (s .pre .good) (s .args .location) (place c)
 
 returns : tie.Need-returns
 returns c =
@@ -33,56 +27,34 @@ returns-2 c =
     let s = c .before .before .before .before .before .before .before .args in
     find-cramped (meaning (s .graph)) (s .kind) (s .location) (s .candidates .now) (s .out .now) (place (c .before)) (c .if1 .taken)
 
-offers-requires : tie.Need-offers-requires
-offers-requires c κs = search needs
+keep-few-requires : tie.Need-keep-few-requires
+keep-few-requires c κs = (c .before .before .before .before .before .before .before .before .before .pre, (inside (c .before .before .before), c .before .before .if1 .left))
 
-passages-requires : tie.Need-passages-requires
-passages-requires c κs = search needs
-
-array-share-prefix-offered : tie.Need-array-share-prefix-offered
-array-share-prefix-offered c = c .before .before .before .offers .ensures .room
-
-slice-aggregate-keep-seen : tie.Need-slice-aggregate-keep-seen
-slice-aggregate-keep-seen c = let r = c .before .before .before .before .offers in sym (length-take-le (r .result .count) (r .result .items) (r .ensures .room))
-
-array-share-prefix-passing : tie.Need-array-share-prefix-passing
-array-share-prefix-passing c = c .before .before .passages .ensures .room
-
-slice-aggregate-keep-seen-2 : tie.Need-slice-aggregate-keep-seen-2
-slice-aggregate-keep-seen-2 c = let r = c .before .before .before .passages in sym (length-take-le (r .result .count) (r .result .items) (r .ensures .room))
-
-keep-seen-requires : tie.Need-keep-seen-requires
-keep-seen-requires c κs =
-    let s = c .before .before .before .before .before .before .before .before .before .before .before .before .before .before in
-    let m = meaning (s .args .graph) in
-    (region-inside m (s .pre .good) (s .args .location) (place (c .before .before .before .before .before .before .before .before)), c .before .before .before .before .before .before .before .if1 .left)
-
-same-length : tie.Need-same-length
-same-length c = search needs
+keep-many-requires : tie.Need-keep-many-requires
+keep-many-requires c κs = (c .before .before .before .before .before .before .before .before .before .pre, (inside (c .before .before .before), c .before .before .if1 .left))
 
 returns-3 : tie.Need-returns-3
 returns-3 c =
-    let s = c .before .before .before .before .before .before .before .before .before .before .before .before .before .before .before .before .before in
-    let m = meaning (s .args .graph) in
-    find-answers m (s .args .kind) (s .args .location) (s .args .candidates .now) (s .args .out .now) (place (c .before .before .before .before .before .before .before .before .before .before .before)) (c .before .before .before .before .before .before .before .before .before .before .if1 .left)
-    (c .before .before .keep-seen .ensures m (kind-number (s .args .kind))
-    (record { legal = s .pre .good; offered-is = c .before .before .before .before .before .before .before .before .before .offers .ensures .table; passing-is = c .before .before .before .before .before .before .before .passages .ensures .table }))
+    let s = c .before .before .before .before .before .before .before .before .before .before .before .before .args in
+    find-answers (meaning (s .graph)) (s .kind) (s .location) (s .candidates .now) (s .out .now) (place (c .before .before .before .before .before .before)) (c .before .before .before .before .before .if1 .left) (c .before .before .keep-few .ensures)
+
+returns-4 : tie.Need-returns-4
+returns-4 c =
+    let s = c .before .before .before .before .before .before .before .before .before .before .before .before .args in
+    find-answers (meaning (s .graph)) (s .kind) (s .location) (s .candidates .now) (s .out .now) (place (c .before .before .before .before .before .before)) (c .before .before .before .before .before .if1 .left) (c .before .before .keep-many .ensures)
 
 pub find-spec : {M : Type 1} → statement M
 find-spec =
     tie.close
     (tie.spec
-    region-of-requires
-    enum-known-place
-    enum-told
+    (λ c κs. search needs)
+    (λ c. search needs)
+    (λ c. search needs)
     returns
     returns-2
-    offers-requires
-    passages-requires
-    array-share-prefix-offered
-    slice-aggregate-keep-seen
-    array-share-prefix-passing
-    slice-aggregate-keep-seen-2
-    keep-seen-requires
-    same-length
-    returns-3)
+    keep-few-requires
+    (λ c. search needs)
+    returns-3
+    keep-many-requires
+    (λ c. search needs)
+    returns-4)

@@ -10,43 +10,19 @@ use Rattle.region_routes.proofs.hooks.keep_standing.Statement.{statemen
 use Rattle.region_routes.proofs.hooks.keep_standing.Tie as tie
 
 abbrev Inv-loop : tie.InvT-loop
-Inv-loop bundles set listeners out₀ n₀ i₀ out n i = Keeping (λ l. stands-in set (place-at bundles l)) listeners i n out₀ out
+Inv-loop bundles links set listeners out₀ n₀ i₀ out n i = Keeping (λ l. stands-in set (place-at bundles l)) listeners i n out₀ out
 
 abbrev μ-loop : tie.MeasureT-loop
-μ-loop bundles set listeners out₀ n₀ i₀ out n i = length listeners - i
+μ-loop bundles links set listeners out₀ n₀ i₀ out n i = length listeners - i
 
 loop-holds : tie.Need-loop-holds Inv-loop μ-loop
-loop-holds c = keeping-start (c .before .before .before .pre)
-
-mul-listener : tie.Need-mul-listener Inv-loop μ-loop
-mul-listener c = search needs
-
-shared-slice-read-listener : tie.Need-shared-slice-read-listener Inv-loop μ-loop
-shared-slice-read-listener c = search needs
-
-add-i : tie.Need-add-i Inv-loop μ-loop
-add-i c = search needs
+loop-holds c = keeping-start (c .before .before .before .before .pre .1)
 
 stands-in-requires : tie.Need-stands-in-requires Inv-loop μ-loop
-stands-in-requires c κs = search needs
-
-mul-out : tie.Need-mul-out Inv-loop μ-loop
-mul-out c = search needs
-
-slice-write-out : tie.Need-slice-write-out Inv-loop μ-loop
-slice-write-out c = search needs
-
-add-n : tie.Need-add-n Inv-loop μ-loop
-add-n c = search needs
-
-loop-less : tie.Need-loop-less Inv-loop μ-loop
-loop-less c = search needs
+stands-in-requires c κs = c .before .before .before .before .before .before .before .pre .0
 
 loop-again : tie.Need-loop-again Inv-loop μ-loop
 loop-again c = keeping-took (c .before .before .before .before .loop .inv) (omega arith) (sym (c .before .stands-in .ensures) ∙ c .if1 .taken)
-
-loop-less-2 : tie.Need-loop-less-2 Inv-loop μ-loop
-loop-less-2 c = search needs
 
 loop-again-2 : tie.Need-loop-again-2 Inv-loop μ-loop
 loop-again-2 c = keeping-left (c .before .before .before .before .loop .inv) (omega arith) (sym (c .before .stands-in .ensures) ∙ c .if1 .left)
@@ -64,16 +40,16 @@ keep-standing-spec =
     Inv-loop
     μ-loop
     loop-holds
-    mul-listener
-    shared-slice-read-listener
-    add-i
+    (λ c. search needs)
+    (λ c. search needs)
+    (λ c. search needs)
     stands-in-requires
-    mul-out
-    slice-write-out
-    add-n
-    loop-less
+    (λ c. search needs)
+    (λ c. search needs)
+    (λ c. search needs)
+    (λ c. search needs)
     loop-again
-    loop-less-2
+    (λ c. search needs)
     loop-again-2
     same-length
     returns)

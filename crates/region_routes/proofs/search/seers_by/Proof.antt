@@ -1,33 +1,59 @@
 use borrow.Author.Needs.{needs}
-use mathlib.Core.Path.{_∙_}
+use mathlib.Core.Path.{_≡_, sym, ap, _∙_}
+use Prim.Native.Nat.{ℕ}
+use Rattle.region_graph.specs.Promise.{holder-set}
+use Rattle.region_graph.specs.Model.{Model}
 use Rattle.region_routes.specs.Hooks.{item}
-use Rattle.region_routes.proofs.Judging.{reached-sees}
+use Rattle.region_routes.specs.Tables.{Tables, every, held-in, leads-in, leads-also, led-by}
+use Rattle.region_routes.proofs.Judging.{reached-sees, none-sees}
 use Rattle.region_routes.proofs.Entries.{held-table, led-table, held-small, led-sets}
 use Rattle.region_routes.proofs.search.seers_by.Statement.{statement}
 use Rattle.region_routes.proofs.search.seers_by.Tie as tie
 
-predecessors-requires : tie.Need-predecessors-requires
-predecessors-requires c κs = search needs
+-- the holders of the item
+held : (c : tie.After-holders) → (let s = c .before .before .before .before .before .before .args in
+    (m : Model) (k : ℕ) → Tables m k (s .offered .now) (s .passing .now) → c .holders .result ≡ holder-set m (item k (s .number)))
+held c m k t =
+    let s = c .before .before .before .before .before .before .args in
+    c .holders .ensures ∙ ap (held-in (s .offered .now)) (c .before .wide .ensures .0) ∙ held-table t (s .number)
+
+-- the sets that the entries for all numbers and those of the number give
+led : (c : tie.After-predecessors) → (let p = c .before .before .before .before .before .before .before .before .args .passing .now in
+    c .predecessors .result ≡ led-by (leads-also (leads-in p every) p (c .before .before .before .wide .result)))
+led c = c .predecessors .ensures (leads-in (c .before .before .before .before .before .before .before .before .args .passing .now) every) (c .before .before .before .before .before .before .before .before .pre .1 .1)
 
 holders-requires : tie.Need-holders-requires
-holders-requires c κs = search needs
+holders-requires c κs = c .before .before .before .before .before .pre .0
 
-slice-aggregate-search : tie.Need-slice-aggregate-search
-slice-aggregate-search c = search needs
+returns : tie.Need-returns
+returns c = λ m k t. none-sees m (item k (c .before .before .before .before .before .before .before .args .number)) (t .legal) (sym (held (c .before) m k t) ∙ c .if1 .taken)
+
+predecessors-requires : tie.Need-predecessors-requires
+predecessors-requires c κs = c .before .before .before .before .before .before .before .pre .1 .0
 
 search-requires : tie.Need-search-requires
 search-requires c κs =
-    let s = c .before .before .before .before .before .args in
-    (rw (c .before .before .predecessors .ensures) (led-sets (s .passing .now) (s .number)), rw (c .before .holders .ensures) (held-small (s .offered .now) (s .number)))
+    let p = c .before .before .before .before .before .before .before .before .before .args .passing .now in
+    let n = c .before .before .before .before .wide .result in
+    (rw (led (c .before)) (led-sets (leads-also (leads-in p every) p n)), rw (c .before .before .before .holders .ensures) (held-small (c .before .before .before .before .before .before .before .before .before .args .offered .now) n))
 
-returns : tie.Need-returns
-returns c =
-    let n = c .before .before .before .before .before .before .args .number in
+returns-2 : tie.Need-returns-2
+returns-2 c =
+    let s = c .before .before .before .before .before .before .before .before .before .before .args in
+    let p = s .passing .now in
     λ m k t.
-    reached-sees m (item k n) (t .legal)
-    (rw (c .before .before .holders .ensures ∙ held-table t n) at (rw (c .before .before .before .predecessors .ensures ∙ led-table t n) at (c .search .ensures)))
+    reached-sees m (item k (s .number)) (t .legal)
+    (rw (held (c .before .before .before .before) m k t)
+    at (rw (led (c .before .before) ∙ ap (λ (n : ℕ). led-by (leads-also (leads-in p every) p n)) (c .before .before .before .before .before .wide .ensures .0) ∙ led-table t (s .number)) at (c .search .ensures)))
 
 pub seers-by-spec : {M : Type 1} → statement M
 seers-by-spec =
     tie.close
-    (tie.spec predecessors-requires holders-requires slice-aggregate-search search-requires returns)
+    (tie.spec
+    (λ c κs. search needs)
+    holders-requires
+    returns
+    predecessors-requires
+    (λ c. search needs)
+    search-requires
+    returns-2)

@@ -1,46 +1,53 @@
-use mathlib.Core.Path.{_≡_, refl, sym, ap, _∙_}
-use Prim.Native.Nat.{_-_, _≤_}
+use mathlib.Core.Path.{_≡_, refl, ap, _∙_}
+use mathlib.Core.Bool.{Bool, false, or-false}
+use mathlib.Core.List.{List}
+use Prim.Native.Nat.{ℕ, _+_, _-_, _<_}
 use native.Mathlib.Omega.{arith}
 use borrow.Author.Needs.{needs}
-use lib.ListN.{length, take}
+use borrow.Author.Tests.{eq-eqb, ne-eqb}
+use lib.Bits.{bitOr}
+use lib.Dec.{eqb}
+use lib.ListN.{length, getD, take, set}
 use lib.Seq.{take-all}
-use Rattle.region_graph.proofs.Views.{led, led-none, led-took, led-left}
-use Rattle.region_routes.specs.Tables.{source-in, target-in, of-number, led-in}
+use Rattle.region_routes.specs.Tables.{number-in, target-in, leads-also, led-by}
+use Rattle.region_routes.proofs.Chaining.{Walk, walk-start, walk-next, walk-past, link-inside, link-later, starts-inside}
+use Rattle.region_routes.proofs.Entries.{led-entry, led-other, led-start}
 use Rattle.region_routes.proofs.tables.predecessors.Statement.{statement}
 use Rattle.region_routes.proofs.tables.predecessors.Tie as tie
 
+-- the sets are those given and those of the entries before place i
+abbrev Led : List ℕ → ℕ → List ℕ → List ℕ → ℕ → Type 0
+Led es n given sets i = (leads : ℕ → ℕ → Bool) → given ≡ led-by leads → sets ≡ led-by (leads-also leads (take i es) n)
+
+skip : (es : List ℕ) (n : ℕ) (given sets : List ℕ) (i : ℕ) → i < length es → eqb (number-in (getD es i 0)) n ≡ false
+    → Led es n given sets i → Led es n given sets (i + 1)
+skip es n given sets i h q p leads g = p leads g ∙ led-other leads es n i h q
+
 abbrev Inv-loop : tie.InvT-loop
-Inv-loop table number sets₀ i₀ sets i = (i ≤ length table) × (sets ≡ led source-in target-in (of-number number) (take i table))
+Inv-loop table links number sets₀ i₀ sets i = Walk (Led table number sets₀ sets) table number i
 
 abbrev μ-loop : tie.MeasureT-loop
-μ-loop table number sets₀ i₀ sets i = length table - i
+μ-loop table links number sets₀ i₀ sets i = length table - i
+
+first-of-requires : tie.Need-first-of-requires Inv-loop μ-loop
+first-of-requires c κs = starts-inside (c .before .before .pre)
 
 loop-holds : tie.Need-loop-holds Inv-loop μ-loop
-loop-holds c = (omega arith, led-none source-in target-in (of-number (c .before .args .number)))
+loop-holds c =
+    let s = c .before .before .before in
+    let t = s .args .table .now in
+    let n = s .args .number in
+    walk-start (Led t n (s .args .given) (s .args .given)) t n (skip t n (s .args .given) (s .args .given)) (s .pre)
+    (λ leads g. g ∙ led-start leads n) (c .first-of .ensures)
 
-mul-e : tie.Need-mul-e Inv-loop μ-loop
-mul-e c = search needs
-
-shared-slice-read-e : tie.Need-shared-slice-read-e Inv-loop μ-loop
-shared-slice-read-e c = search needs
-
-add-i : tie.Need-add-i Inv-loop μ-loop
-add-i c = search needs
-
-of-number-requires : tie.Need-of-number-requires Inv-loop μ-loop
-of-number-requires c κs = search needs
+next-of-requires : tie.Need-next-of-requires Inv-loop μ-loop
+next-of-requires c κs = link-inside (c .before .before .before .before .before .before .pre) (c .before .loop-test .taken)
 
 array-read-sets : tie.Need-array-read-sets Inv-loop μ-loop
 array-read-sets c = omega arith
 
 mul-sets : tie.Need-mul-sets Inv-loop μ-loop
 mul-sets c = omega (arith, array-read-sets c)
-
-cast-one : tie.Need-cast-one Inv-loop μ-loop
-cast-one c = omega arith
-
-one-requires : tie.Need-one-requires Inv-loop μ-loop
-one-requires c κs = search needs
 
 mul-sets-2 : tie.Need-mul-sets-2 Inv-loop μ-loop
 mul-sets-2 c = omega (arith, array-read-sets (c .before))
@@ -49,36 +56,47 @@ array-write-sets : tie.Need-array-write-sets Inv-loop μ-loop
 array-write-sets c = array-read-sets (c .before)
 
 loop-less : tie.Need-loop-less Inv-loop μ-loop
-loop-less c = search needs
+loop-less c =
+    let a = c .before .before .before .before in
+    omega (arith, link-later (a .before .before .before .before .before .pre) (a .loop-test .taken), c .before .before .next-of .ensures, a .loop-test .taken)
 
 loop-again : tie.Need-loop-again Inv-loop μ-loop
 loop-again c =
     let a = c .before .before .before .before .before in
-    let s = a .before .before in (
-      omega arith,
-      led-took source-in target-in (of-number (s .args .number)) (s .args .table .now) (a .loop .i) 0 (omega arith) (a .loop .inv .1) refl
-          (c .one .ensures) (array-read-sets (c .before)) (sym (c .before .before .of-number .ensures) ∙ c .before .if1 .taken),
-    )
+    let s = a .before .before .before .before in
+    let t = s .args .table .now in
+    let n = s .args .number in
+    let g = s .args .given in
+    let h = c .before .before .before .before .loop-test .taken in
+    let target = target-in (getD t (a .loop .i) 0) in
+    let sets = set (a .loop .sets) target (bitOr (getD (a .loop .sets) target 0) (c .one .result)) in
+    walk-next (Led t n g sets) t n (skip t n g sets) (s .pre) (a .loop .inv) h
+    (λ leads e.
+    led-entry leads t n (a .loop .i) h (eq-eqb _ _ (c .before .if1 .taken)) (a .loop .inv .done leads e) (c .one .ensures) (array-read-sets (c .before)))
+    (c .before .before .next-of .ensures)
 
 loop-less-2 : tie.Need-loop-less-2 Inv-loop μ-loop
-loop-less-2 c = search needs
+loop-less-2 c =
+    let a = c .before .before .before in
+    omega (arith, link-later (a .before .before .before .before .before .pre) (a .loop-test .taken), c .before .next-of .ensures, a .loop-test .taken)
 
 loop-again-2 : tie.Need-loop-again-2 Inv-loop μ-loop
 loop-again-2 c =
     let a = c .before .before .before .before in
-    let s = a .before .before in (
-      omega arith,
-      a .loop .inv .1
-          ∙ led-left source-in target-in (of-number (s .args .number)) (s .args .table .now) (a .loop .i) 0 (omega arith)
-          (sym (c .before .of-number .ensures) ∙ c .if1 .left),
-    )
+    let s = a .before .before .before .before in
+    let t = s .args .table .now in
+    let n = s .args .number in
+    let g = s .args .given in
+    walk-past (Led t n g (a .loop .sets)) t n (skip t n g (a .loop .sets)) (s .pre) (a .loop .inv) (c .before .before .before .loop-test .taken)
+    (ne-eqb _ _ (c .if1 .left)) (c .before .next-of .ensures)
 
 returns : tie.Need-returns Inv-loop μ-loop
-unfolding led led-in
 returns c =
     let a = c .before in
-    let s = a .before .before in
-    a .loop .inv .1 ∙ ap (led source-in target-in (of-number (s .args .number))) (take-all (a .loop .i) (s .args .table .now) (omega arith))
+    let s = a .before .before .before .before in
+    λ leads e.
+    a .loop .inv .done leads e
+    ∙ ap (λ (es : List ℕ). led-by (leads-also leads es (s .args .number))) (take-all (a .loop .i) (s .args .table .now) (omega arith))
 
 pub predecessors-spec : {M : Type 1} → statement M
 predecessors-spec =
@@ -86,15 +104,15 @@ predecessors-spec =
     (tie.spec
     Inv-loop
     μ-loop
+    first-of-requires
     loop-holds
-    mul-e
-    shared-slice-read-e
-    add-i
-    of-number-requires
+    (λ c. search needs)
+    (λ c. search needs)
+    next-of-requires
     mul-sets
     array-read-sets
-    cast-one
-    one-requires
+    (λ c. omega arith)
+    (λ c κs. search needs)
     mul-sets-2
     array-write-sets
     loop-less

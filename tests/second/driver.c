@@ -1,5 +1,7 @@
 /* Runs call scripts on the engine through its C interface: a line in, the answer out, both in the language that
-   oracle/oracle.py describes, with the two lines that language.py adds. It compares nothing.
+   oracle/oracle2.py describes, at the level that cases.py names. It compares nothing.
+
+       driver [LISTING]     LISTING is the listing program, which answers the line `list`
 
    The record, the lists and the buffers stand between pages that cannot be touched, so that a read or a write outside
    them ends the program. Blocks end at such a page on even lines and begin at one on odd lines. */
@@ -9,6 +11,8 @@
 #include <stdio.h>
 #include <stdlib.h>
 #include <string.h>
+#include <sys/wait.h>
+#include <unistd.h>
 
 #include "guarded.h"
 #include "wimboru.h"
@@ -17,7 +21,7 @@ enum { FILLED_BYTE = 0xA5, MOST_ARGUMENTS = 5 };
 static const uint32_t FILLED_PLACE = 0xDEAD0000u;
 
 /* One block of memory for each use in a call. */
-enum { RECORD, FIRST, SECOND, THIRD, OUTPUT, ROOMS };
+enum { RECORD, FIRST, SECOND, THIRD, OUTPUT, ARCHIVE, ROOMS };
 
 struct list {
     const uint32_t *items;
@@ -32,6 +36,8 @@ struct file {
 
 static struct guarded rooms[ROOMS];
 static region_graph *graph;
+static struct file archive;      /* the archive bytes that stand, in their room */
+static const char *listing;
 static unsigned long line_number;
 
 static void stop(const char *why, const char *text)
@@ -102,10 +108,10 @@ static unsigned digit(const char *text)
     return (unsigned)(at - digits);
 }
 
-static struct file file(const char *text)
+static struct file file(const char *text, int room)
 {
     size_t length = strcmp(text, "-") == 0 ? 0 : strlen(text) / 2;
-    uint8_t *bytes = block(FIRST, length);
+    uint8_t *bytes = block(room, length);
     struct file result = {bytes, length};
 
     if (length > 0 && strlen(text) % 2 != 0)
@@ -167,9 +173,9 @@ static void print_places(const uint32_t *places, size_t count)
 
 /* ---- the lines ---- */
 
-static void read_over(char **a)
+static void lent(char **a)
 {
-    struct file f = file(a[0]);
+    struct file f = file(a[0], FIRST);
 
     print_number(region_read(graph, f.bytes, f.length));
 }
@@ -180,7 +186,7 @@ static void start(char **a)
     if (strcmp(a[0], "empty") == 0)
         print_number(0);
     else
-        read_over(a);
+        lent(a);
 }
 
 static void add(char **a)
@@ -298,11 +304,75 @@ static void image(char **a)
         print_bytes(out, (size_t)length);
 }
 
+static void keep_archive(char **a)
+{
+    archive = file(a[0], ARCHIVE);
+    print_number(0);
+}
+
 static void query(char **a)
 {
-    struct file f = file(a[3]);
+    uint8_t *bytes = block(FIRST, archive.length);
 
-    print_number(archive_query(f.bytes, f.length, whole_number(a[0]), whole_number(a[1]), whole_number(a[2])));
+    memcpy(bytes, archive.bytes, archive.length);
+    print_number(archive_query(bytes, archive.length, whole_number(a[0]), whole_number(a[1]), whole_number(a[2])));
+}
+
+/* A file that has the archive's bytes, to be read from their start. */
+static FILE *archive_file(void)
+{
+    FILE *result = tmpfile();
+
+    if (result == NULL || fwrite(archive.bytes, 1, archive.length, result) != archive.length || fflush(result) != 0)
+        stop("the archive could not be put in a file", "");
+    rewind(result);
+    return result;
+}
+
+/* Runs the listing program with standard input and output from and to files, and hands back its status. */
+static int run_listing(FILE *input, FILE *output)
+{
+    int status = -1;
+    pid_t process = fork();
+
+    if (process == 0) {
+        if (dup2(fileno(input), STDIN_FILENO) >= 0 && dup2(fileno(output), STDOUT_FILENO) >= 0)
+            execl(listing, listing, (char *)NULL);
+        _exit(127);
+    }
+    if (process < 0 || waitpid(process, &status, 0) != process)
+        stop("the listing program could not be run", listing);
+    return status;
+}
+
+/* Prints a text in one line: a bar for each end of line. */
+static void print_text(FILE *text)
+{
+    bool any = false;
+    int character;
+
+    rewind(text);
+    while ((character = getc(text)) != EOF) {
+        putchar(character == '\n' ? '|' : character);
+        any = true;
+    }
+    puts(any ? "" : "-");
+}
+
+static void list_archive(char **a)
+{
+    FILE *input = archive_file(), *output = tmpfile();
+    int status;
+
+    (void)a;
+    if (listing == NULL || output == NULL)
+        stop("no listing program is named, or it has no room for its text", "");
+    status = run_listing(input, output);
+    if (status != 0)
+        printf("status %d ", status);
+    print_text(output);
+    fclose(input);
+    fclose(output);
 }
 
 static const struct command {
@@ -310,12 +380,12 @@ static const struct command {
     int arguments;
     void (*run)(char **arguments);
 } commands[] = {
-    {"start", 1, start},        {"read", 1, read_over},      {"query", 4, query},
-    {"add", 1, add},            {"remove", 1, remove_region}, {"install", 4, install},
-    {"uninstall", 1, uninstall}, {"connect", 5, connect},     {"disconnect", 2, disconnect},
-    {"bfind", 3, bundle_find},  {"resolve", 3, resolve},     {"sfind", 3, service_find},
-    {"bevent", 3, bundle_event}, {"sevent", 3, service_event}, {"route", 4, route},
-    {"write", 1, write_image},  {"image", 0, image},
+    {"start", 1, start},          {"lent", 1, lent},            {"write", 1, write_image},   {"image", 0, image},
+    {"archive", 1, keep_archive}, {"query", 3, query},          {"list", 0, list_archive},
+    {"add", 1, add},              {"remove", 1, remove_region}, {"install", 4, install},     {"uninstall", 1, uninstall},
+    {"connect", 5, connect},      {"disconnect", 2, disconnect},
+    {"bfind", 3, bundle_find},    {"resolve", 3, resolve},      {"sfind", 3, service_find},
+    {"bevent", 3, bundle_event},  {"sevent", 3, service_event}, {"route", 4, route},
 };
 
 static void run_line(char *line)
@@ -336,14 +406,16 @@ static void run_line(char *line)
     stop("not a call", word == NULL ? "" : word);
 }
 
-int main(void)
+int main(int count, char **words)
 {
     char *line = NULL;
     size_t room = 0;
     ssize_t length;
 
+    listing = count > 1 ? words[1] : NULL;
     for (int i = 0; i < ROOMS; i++)
         rooms[i] = guarded_make();
+    archive.bytes = rooms[ARCHIVE].first;
     graph = guarded_high(rooms[RECORD], sizeof *graph);
     memset(graph, FILLED_BYTE, sizeof *graph);
     region_empty(graph);

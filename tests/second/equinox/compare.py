@@ -12,14 +12,16 @@ import subprocess
 import sys
 
 HERE = os.path.dirname(os.path.abspath(__file__))
-sys.path.insert(0, os.path.join(HERE, "..", "oracle"))
-import gen  # noqa: E402
-import oracle  # noqa: E402
+sys.path.insert(0, os.path.join(HERE, ".."))
+import cases  # noqa: E402
+import gen2  # noqa: E402
+import oracle2  # noqa: E402
+from cases import LEVEL  # noqa: E402
 
-CHANGES = ("add", "remove", "install", "uninstall", "connect", "disconnect")
+CHANGES = tuple(oracle2.CHANGES)
 QUERIES = ("bfind", "resolve", "sfind", "bevent", "sevent")
-FINDS = {"bfind": oracle.BUNDLE, "resolve": oracle.PACKAGE, "sfind": oracle.SERVICE}
-EVENTS = {"bevent": oracle.BUNDLE, "sevent": oracle.SERVICE}
+FINDS = {"bfind": oracle2.BUNDLE, "resolve": oracle2.PACKAGE, "sfind": oracle2.SERVICE}
+EVENTS = {"bevent": oracle2.BUNDLE, "sevent": oracle2.SERVICE}
 UNHELD = [77, 91]
 MOST_SHOWN = 10
 BLOCK = 500
@@ -27,8 +29,8 @@ BLOCK = 500
 
 def items_of(graph, kind):
     """Every item of a kind that is held, and two that are not."""
-    held = set(graph.B) if kind == oracle.BUNDLE else {n for b in graph.B.values() for n in b[kind]}
-    return sorted(held | set(UNHELD))
+    held = oracle2.all_items(graph, kind)
+    return sorted({item[0] if kind == oracle2.PACKAGE else item for item in held} | set(UNHELD))
 
 
 def some(rnd, pool, most):
@@ -37,35 +39,35 @@ def some(rnd, pool, most):
     return numbers + [rnd.choice(numbers) for _ in range(rnd.choice([0, 0, 2]))] if numbers else numbers
 
 
-def queries(rnd, lists):
+def queries(rnd, script):
     """The three finds for every bundle, and events with every bundle as a listener."""
-    graph = lists.g
+    graph = script.g
     for location in sorted(graph.B):
         for call, kind in FINDS.items():
             candidates = some(rnd, items_of(graph, kind), 24)
-            lists.put("%s %d %d %s" % (call, location, len(candidates) + rnd.choice([0, 0, 1]), oracle.show(candidates)))
+            script.put("%s %d %d %s" % (call, location, len(candidates) + rnd.choice([0, 0, 1]), oracle2.show(candidates)))
     listeners = sorted(graph.B) * rnd.choice([1, 2])
     rnd.shuffle(listeners)
     for call, kind in EVENTS.items():
         pool = items_of(graph, kind)
         for item in rnd.sample(pool, min(6, len(pool))):
-            lists.put("%s %d %d %s" % (call, len(listeners), item, oracle.show(listeners)))
+            script.put("%s %d %d %s" % (call, len(listeners), item, oracle2.show(listeners)))
 
 
-def script(number):
+def lines_of(number):
     """The lines of one graph, each with the second program's answer. Equinox has no routes, so none are asked."""
     rnd = random.Random("equinox %d" % number)
-    lists = gen.Lists(rnd, {})
-    lists.put("start empty")
+    script = cases.Script(rnd, gen2.Coverage(LEVEL))
+    script.put("start empty")
     if number % 4 == 0:
-        gen.scenario(rnd.choice(["mix", "q10", "cycle", "phantom"]), rnd, lists)
+        gen2.CALL_SCENARIOS[rnd.choice(["mix", "question-10", "cycle", "phantom"])](script, rnd)
     else:
-        for line in oracle.script_of(gen.random_graph(rnd, small=number % 4 == 1, dense=number % 4 == 3)):
-            lists.put(line)
+        for call in oracle2.graph_calls(gen2.any_graph(rnd, LEVEL, large=number % 4 == 3)):
+            script.call(*call)
         for _ in range(rnd.choice([0, 6])):
-            lists.change([1, 1, 2, 2, 3, 2])
-    queries(rnd, lists)
-    return [pair for pair in zip(lists.lines, lists.answers) if call_of(pair[0]) in ("start",) + CHANGES + QUERIES]
+            script.change((1, 1, 2, 2, 3, 2))
+    queries(rnd, script)
+    return [pair for pair in zip(script.lines, script.answers) if call_of(pair[0]) in ("start",) + CHANGES + QUERIES]
 
 
 def call_of(line):
@@ -131,7 +133,7 @@ class Totals:
 
 def block(numbers, classpath, driver, totals):
     """Compares the graphs of some numbers in one go."""
-    lines, answers = zip(*(pair for number in numbers for pair in script(number)))
+    lines, answers = zip(*(pair for number in numbers for pair in lines_of(number)))
     asked = [line for line in lines if is_query(line)]
     expected = [answer for line, answer in zip(lines, answers) if is_query(line)]
     got, notes = run(["java", "-cp", classpath, "Answer"], for_equinox(lines, answers))

@@ -277,7 +277,7 @@ pub legal-run : (m : Model) (cs : List Call) → Legal m → All Words cs → Le
 legal-run m [] l w = l
 legal-run m (c ∷ cs) l w = legal-run (after m c) cs (legal-after m c l (w .0)) (w .1)
 
--- a region is added that is one and is not there
+-- where an add is refused, a region is there already, or the number is no region's
 pub add-idle : (m : Model) (r : ℕ) → (number m (Call.add-region r) ≡ not-refused → ⊥) → r < regions → member r (m .regions) ≡ true
 add-idle m r u h = go (member r (m .regions)) refl
   where
@@ -285,7 +285,7 @@ add-idle m r u h = go (member r (m .regions)) refl
     go true e = refl
     go false e = absurd (u (rw (lt-ltb r regions h, e)))
 
--- a bundle that is not there does not leave
+-- where an uninstall is refused, no bundle leaves
 pub uninstall-idle : (m : Model) (n : ℕ) → (number m (Call.uninstall n) ≡ not-refused → ⊥) → accepted m (Call.uninstall n) ≡ m
 uninstall-idle m n u =
     let h = absent (any (at-location n) (m .bundles)) refl in

@@ -243,7 +243,7 @@ module _ {A : Type 0} where
       go true h r k = false-true (sym k)
       go false h r k = (h, r k)
 
--- the elements that pass leave: none, where none passes, and the count tells
+-- the elements that pass leave: where none does, the list stays as it is, and the count tells
 module _ {A : Type 0} (p : A → Bool) where
   pub keep-all : (xs : List A) → All (λ x. p x ≡ false) xs → keep (λ x. not (p x)) xs ≡ xs
   keep-all [] h = refl
@@ -278,7 +278,7 @@ member-all P n (x ∷ xs) h e = go (eqb n x) refl (member-all P n xs (h .1)) e
     go true f r k = subst P (sym (eqb-true n x f)) (h .0)
     go false f r k = r k
 
--- a member is not a number that is none
+-- a member is unlike a number that is no member
 pub other-member : (n r : ℕ) (xs : List ℕ) → member n xs ≡ true → member r xs ≡ false → eqb n r ≡ false
 other-member n r xs h k = go (eqb n r) refl
   where
@@ -339,7 +339,7 @@ distinct-length (x ∷ xs) ys d h =
     other : ℕ → Bool
     other y = not (eqb x y)
 
--- the numbers from a on
+-- the members of a count from a on
 pub member-counted : (n a k : ℕ) → a ≤ n → member n (count-from a k) ≡ ltb n (a + k)
 member-counted n a zero h = sym (le-ltb n (a + 0) (omega arith))
 member-counted n a (suc k) h = go (eqb n a) refl (member-counted n (suc a) k)

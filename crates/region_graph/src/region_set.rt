@@ -46,7 +46,7 @@ pub fn one(region: u32) -> u64
     0
 }
 
-// Whether a region is in a set.
+// Whether a region is in a set. Its digit is read by a shift: a constant table is built anew at each use.
 pub fn has(set: u64, region: u32) -> bool
     ensures { λ r. ⌜ r ≡ Sets.has set region ⌝ }
 {

@@ -138,9 +138,9 @@ module _ {es links : List ℕ} (c : Chained es links) {i : ℕ} (h : i < length 
   pub link-inside : chains + i < length links
   link-inside = omega (arith, c .few, c .long)
 
-  pub link-later : i < getD links (chains + i) 0
+  pub link-less : {j : ℕ} → j ≡ getD links (chains + i) 0 → length es - j < length es - i
   unfolding next-in
-  link-later = rw (c .next i h) (omega arith)
+  link-less e = omega (arith, e, c .next i h)
 
 pub starts-inside : {es links : List ℕ} → Chained es links → chains ≤ length links
 starts-inside c = omega (arith, c .long)

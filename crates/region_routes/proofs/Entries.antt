@@ -11,7 +11,7 @@ use lib.Seq.{take-suc, take-suc-set, length-take-le, drop-cons, take-at, take-al
 use lib.Bits.{bitOr}
 use borrow.Author.Tests.{eq-eqb, ne-eqb}
 use Rattle.region_graph.specs.Size.{regions, most-bundles, most-connections, most-provided, most-listed}
-use Rattle.region_graph.specs.Lists.{pick, any, All, member, count-from}
+use Rattle.region_graph.specs.Lists.{pick, any, All, member}
 use Rattle.region_graph.specs.Sets.{one, set-of}
 use Rattle.region_graph.specs.Model.{Model, Bundle, Filter, Part, Connection, Word, NumberedPart, Legal, LegalBundle, LegalFilter, LegalConnection}
 use Rattle.region_graph.specs.Items.{provided, part-of, part-passes, provides, passes, crosses}
@@ -240,7 +240,8 @@ module _ (m : Model) (h : Legal m) where
       let a = source-inside l in
       let b = target-inside l in
       let xs = passed (part-of k (c .filter)) in
-      any-map (λ x. entry x (ends (c .source) (c .target))) (λ e. (eqb (source-in e) r && eqb (target-in e) s) && (eqb (number-in e) every || eqb (number-in e) n)) xs
+      any-map (λ x. entry x (ends (c .source) (c .target)))
+      (λ e. (eqb (source-in e) r && eqb (target-in e) s) && (eqb (number-in e) every || eqb (number-in e) n)) xs
       ∙ ap (λ (p : ℕ → Bool). any p xs)
       (λ j x. (eqb (entry-source a b x j) r && eqb (entry-target a b x j) s) && (eqb (entry-of a b x j) every || eqb (entry-of a b x j) n))
       ∙ any-fixed (eqb (c .source) r && eqb (c .target) s) (λ x. eqb x every || eqb x n) xs
@@ -255,7 +256,8 @@ module _ (m : Model) (h : Legal m) where
       ∙ any-each (passage k) (LegalConnection (m .regions)) (λ c. any test (passage k c))
       (λ c. (eqb (c .source) r && eqb (c .target) s) && passes (item k n) (c .filter)) (passage-says k n r s) (m .connections) (h .connections-legal .each)
 
-  pub led-passages : (k n : ℕ) → led-by (leads-also (leads-in (passages k (m .connections)) every) (passages k (m .connections)) n) ≡ predecessor-sets m (item k n)
+  led-passages : (k n : ℕ)
+      → led-by (leads-also (leads-in (passages k (m .connections)) every) (passages k (m .connections)) n) ≡ predecessor-sets m (item k n)
   unfolding led-by predecessor-sets
   led-passages k n = ap led-by (λ j r s. crosses-passages k n r s j)
 
@@ -332,7 +334,7 @@ pub led-none : replicate regions 0 ≡ led-by (λ r s. false)
 unfolding led-by
 led-none = rw set-none
 
--- the sets of predecessors: those given, and as one entry more comes in
+-- the sets of predecessors, of those that are given and as one entry more comes in
 pub led-start : (leads : ℕ → ℕ → Bool) (n : ℕ) → led-by leads ≡ led-by (leads-also leads [] n)
 led-start leads n = ap led-by (λ j r s. sym (or-false (leads r s)) j)
 

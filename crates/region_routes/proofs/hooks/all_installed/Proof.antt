@@ -19,7 +19,9 @@ abbrev μ-loop : tie.MeasureT-loop
 -- the place of the listener at the loop's place
 place : (c : tie.After-place-of Inv-loop μ-loop) → (let s = c .before .before .before .before .before .before .before .before .args in
     place-at (s .bundles .now) (getD (s .listeners .now) (c .before .before .before .before .loop .i) 0) ≡ c .place-of .result)
-place c = sym (c .place-of .ensures ∙ ap (place-at (c .before .before .before .before .before .before .before .before .args .bundles .now)) (c .before .wide .ensures .0))
+place c =
+    let s = c .before .before .before .before .before .before .before .before .args in
+    sym (c .place-of .ensures ∙ ap (place-at (s .bundles .now)) (c .before .wide .ensures .0))
 
 loop-holds : tie.Need-loop-holds Inv-loop μ-loop
 loop-holds c = (omega arith, refl)

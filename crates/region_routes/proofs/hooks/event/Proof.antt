@@ -14,7 +14,8 @@ use Rattle.region_routes.proofs.hooks.event.Statement.{statement}
 use Rattle.region_routes.proofs.hooks.event.Tie as tie
 
 -- whether every listener is installed
-asked : (c : tie.After-all-installed) → (let s = c .before .before .before .before .before .before .before .before .before .before .args in all-installed (meaning (s .graph)) (s .listeners .now) ≡ c .all-installed .result)
+asked : (c : tie.After-all-installed) → (let s = c .before .before .before .before .before .before .before .before .before .before .args in
+    all-installed (meaning (s .graph)) (s .listeners .now) ≡ c .all-installed .result)
 asked c =
     let b = c .before .before .before .before .before .before in
     let s = b .before .before .before .before in
@@ -36,7 +37,8 @@ returns c =
 returns-2 : tie.Need-returns-2
 returns-2 c =
     let s = c .before .before .before .before .before .before .before .before .before .before .before .before .args in
-    event-cramped (meaning (s .graph)) (s .kind) (s .listeners .now) (s .number) (s .out .now) (asked (c .before .before) ∙ not-false _ (c .before .if1 .left)) (c .if2 .taken)
+    event-cramped (meaning (s .graph)) (s .kind) (s .listeners .now) (s .number) (s .out .now)
+    (asked (c .before .before) ∙ not-false _ (c .before .if1 .left)) (c .if2 .taken)
 
 keep-standing-requires : tie.Need-keep-standing-requires
 keep-standing-requires c κs =
@@ -45,16 +47,18 @@ keep-standing-requires c κs =
 
 returns-3 : tie.Need-returns-3
 returns-3 c =
-    let a = c .before .before .before .before .before .before .before .before in
+    let d = c .before .before .before .before .before .before in
+    let a = d .before .before in
     let b = a .before .before .before .before .before .before .before .before in
     let s = b .before .before .before .before in
     let m = meaning (s .args .graph) in
     let n = s .args .number in
-    event-answers m (s .args .kind) (s .args .listeners .now) n (s .args .out .now) (asked (a .before .before) ∙ not-false _ (a .before .if1 .left)) (a .if2 .left)
+    event-answers m (s .args .kind) (s .args .listeners .now) n (s .args .out .now)
+    (asked (a .before .before) ∙ not-false _ (a .before .if1 .left)) (a .if2 .left)
     (c .before .before .keep-standing .ensures
     ∙ ap (λ (ls : List ℕ). kept-outcome ls (s .args .out .now))
     (keep-stands m (item (kind-number (s .args .kind)) n) (s .pre .good)
-    (c .before .before .before .before .before .before .seers .ensures ∙ ap (λ (k : ℕ). set-of (sees m (item k n))) (c .before .before .before .before .before .before .before .kind-number .ensures))
+    (d .seers .ensures ∙ ap (λ (k : ℕ). set-of (sees m (item k n))) (d .before .kind-number .ensures))
     (place-table (s .pre .good) (b .offers .ensures .table)) (s .args .listeners .now)))
 
 pub event-spec : {M : Type 1} → statement M

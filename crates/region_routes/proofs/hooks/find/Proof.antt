@@ -11,7 +11,8 @@ use Rattle.region_routes.proofs.hooks.find.Statement.{statement}
 use Rattle.region_routes.proofs.hooks.find.Tie as tie
 
 -- the bundle's region
-place : (c : tie.After-known-told) → (let s = c .before .before .before .before .before .before .args in place-of (meaning (s .graph) .bundles) (s .location) ≡ Within (c .before .place .given .0 .0))
+place : (c : tie.After-known-told) → (let s = c .before .before .before .before .before .before .args in
+    place-of (meaning (s .graph) .bundles) (s .location) ≡ Within (c .before .place .given .0 .0))
 place c = sym (c .before .before .before .region-of .ensures) ∙ c .before .place .given .1
 
 inside : (c : tie.After-known-told) → c .before .place .given .0 .0 < regions
@@ -20,7 +21,8 @@ inside c = let s = c .before .before .before .before .before .before in region-i
 returns : tie.Need-returns
 returns c =
     let s = c .before .before .before .before .before .args in
-    find-outside (meaning (s .graph)) (s .kind) (s .location) (s .candidates .now) (s .out .now) (sym (c .before .before .region-of .ensures) ∙ c .enum-told .given .1)
+    find-outside (meaning (s .graph)) (s .kind) (s .location) (s .candidates .now) (s .out .now)
+    (sym (c .before .before .region-of .ensures) ∙ c .enum-told .given .1)
 
 returns-2 : tie.Need-returns-2
 returns-2 c =
@@ -28,20 +30,28 @@ returns-2 c =
     find-cramped (meaning (s .graph)) (s .kind) (s .location) (s .candidates .now) (s .out .now) (place (c .before)) (c .if1 .taken)
 
 keep-few-requires : tie.Need-keep-few-requires
-keep-few-requires c κs = (c .before .before .before .before .before .before .before .before .before .pre, (inside (c .before .before .before), c .before .before .if1 .left))
+keep-few-requires c κs =
+    let a = c .before .before .before in
+    (a .before .before .before .before .before .before .pre, (inside a, c .before .before .if1 .left))
 
 keep-many-requires : tie.Need-keep-many-requires
-keep-many-requires c κs = (c .before .before .before .before .before .before .before .before .before .pre, (inside (c .before .before .before), c .before .before .if1 .left))
+keep-many-requires c κs =
+    let a = c .before .before .before in
+    (a .before .before .before .before .before .before .pre, (inside a, c .before .before .if1 .left))
 
 returns-3 : tie.Need-returns-3
 returns-3 c =
-    let s = c .before .before .before .before .before .before .before .before .before .before .before .before .args in
-    find-answers (meaning (s .graph)) (s .kind) (s .location) (s .candidates .now) (s .out .now) (place (c .before .before .before .before .before .before)) (c .before .before .before .before .before .if1 .left) (c .before .before .keep-few .ensures)
+    let a = c .before .before .before .before .before .before in
+    let s = a .before .before .before .before .before .before .args in
+    find-answers (meaning (s .graph)) (s .kind) (s .location) (s .candidates .now) (s .out .now) (place a) (c .before .before .before .before .before .if1 .left)
+    (c .before .before .keep-few .ensures)
 
 returns-4 : tie.Need-returns-4
 returns-4 c =
-    let s = c .before .before .before .before .before .before .before .before .before .before .before .before .args in
-    find-answers (meaning (s .graph)) (s .kind) (s .location) (s .candidates .now) (s .out .now) (place (c .before .before .before .before .before .before)) (c .before .before .before .before .before .if1 .left) (c .before .before .keep-many .ensures)
+    let a = c .before .before .before .before .before .before in
+    let s = a .before .before .before .before .before .before .args in
+    find-answers (meaning (s .graph)) (s .kind) (s .location) (s .candidates .now) (s .out .now) (place a) (c .before .before .before .before .before .if1 .left)
+    (c .before .before .keep-many .ensures)
 
 pub find-spec : {M : Type 1} → statement M
 find-spec =

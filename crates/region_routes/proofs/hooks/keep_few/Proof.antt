@@ -22,10 +22,12 @@ abbrev μ-loop : tie.MeasureT-loop
 
 -- whether the region sees the candidate at the loop's place
 tested : (c : tie.After-has Inv-loop μ-loop) {b : Bool} → c .has .result ≡ b
-    → (let s = c .before .before .before .before .before .before .before .before .args in sees (meaning (s .graph)) (item (c .before .before .before .before .before .kind-number .result) (getD (s .candidates .now) (c .before .before .before .before .loop .i) 0)) (s .region) ≡ b)
+    → (let a = c .before .before .before .before in let s = a .before .before .before .before .args in
+    sees (meaning (s .graph)) (item (a .before .kind-number .result) (getD (s .candidates .now) (a .loop .i) 0)) (s .region) ≡ b)
 tested c e =
-    let s = c .before .before .before .before .before .before .before .before in
-    has-by (sees (meaning (s .args .graph)) (item (c .before .before .before .before .before .kind-number .result) (getD (s .args .candidates .now) (c .before .before .before .before .loop .i) 0))) (s .args .region)
+    let a = c .before .before .before .before in
+    let s = a .before .before .before .before in
+    has-by (sees (meaning (s .args .graph)) (item (a .before .kind-number .result) (getD (s .args .candidates .now) (a .loop .i) 0))) (s .args .region)
     (c .before .seers .ensures) (s .pre .1 .0) (sym (c .has .ensures) ∙ e)
 
 loop-holds : tie.Need-loop-holds Inv-loop μ-loop

@@ -23,12 +23,12 @@ abbrev μ-loop : tie.MeasureT-loop
 
 -- whether the region sees the candidate at the loop's place
 tested : (c : tie.After-has Inv-loop μ-loop) {b : Bool} → c .has .result ≡ b
-    → (let a = c .before .before .before .before .before .before in let s = c .before .before .before .before .before .before .before .before .before .before .before .before .before .before .before .args in
+    → (let a = c .before .before .before .before .before .before in let s = a .before .before .before .before .before .before .before .before .before .args in
     (m : Model) (k : ℕ) → Tables m k (s .offered .now) (s .passing .now)
     → sees m (item k (getD (s .candidates .now) (a .loop .i) 0)) (s .region) ≡ b)
 tested c e m k t =
     let a = c .before .before .before .before .before .before in
-    let s = c .before .before .before .before .before .before .before .before .before .before .before .before .before .before .before in
+    let s = a .before .before .before .before .before .before .before .before .before in
     has-by (sees m (item k (getD (s .args .candidates .now) (a .loop .i) 0))) (s .args .region) (c .before .seers-by .ensures m k t) (s .pre .1 .0)
     (sym (c .has .ensures) ∙ e)
 
@@ -47,7 +47,9 @@ loop-holds c =
     (omega arith, s .pre .1 .1, omega arith, refl, λ m k t. keeping-start (s .pre .1 .1))
 
 seers-by-requires : tie.Need-seers-by-requires Inv-loop μ-loop
-seers-by-requires c κs = let a = c .before .before .before .before .before in (a .before .before .before .chained .ensures, (a .before .before .chained2 .ensures, a .predecessors .ensures (λ r s. false) led-none))
+seers-by-requires c κs =
+    let a = c .before .before .before .before .before in
+    (a .before .before .before .chained .ensures, (a .before .before .chained2 .ensures, a .predecessors .ensures (λ r s. false) led-none))
 
 loop-again : tie.Need-loop-again Inv-loop μ-loop
 loop-again c =

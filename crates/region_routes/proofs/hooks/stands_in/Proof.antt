@@ -16,7 +16,9 @@ returns : tie.Need-returns
 returns c = sym (ap (stands-in (c .before .before .before .before .before .before .args .set)) (place (c .before .before) ∙ c .enum-told .given .1))
 
 returns-2 : tie.Need-returns-2
-returns-2 c = c .has .ensures ∙ sym (ap (stands-in (c .before .before .before .before .before .before .before .before .args .set)) (place (c .before .before .before .before) ∙ c .before .before .place .given .1))
+returns-2 c =
+    let a = c .before .before .before .before in
+    c .has .ensures ∙ sym (ap (stands-in (a .before .before .before .before .args .set)) (place a ∙ c .before .before .place .given .1))
 
 pub stands-in-spec : {M : Type 1} → statement M
 stands-in-spec =

@@ -1,5 +1,6 @@
 use borrow.Author.Needs.{needs}
 use mathlib.Core.Path.{_≡_, sym, ap, _∙_}
+use mathlib.Core.List.{List}
 use Prim.Native.Nat.{ℕ}
 use Rattle.region_graph.specs.Promise.{holder-set}
 use Rattle.region_graph.specs.Model.{Model}
@@ -20,31 +21,38 @@ held c m k t =
 -- the sets that the entries for all numbers and those of the number give
 led : (c : tie.After-predecessors) → (let p = c .before .before .before .before .before .before .before .before .args .passing .now in
     c .predecessors .result ≡ led-by (leads-also (leads-in p every) p (c .before .before .before .wide .result)))
-led c = c .predecessors .ensures (leads-in (c .before .before .before .before .before .before .before .before .args .passing .now) every) (c .before .before .before .before .before .before .before .before .pre .1 .1)
+led c =
+    let s = c .before .before .before .before .before .before .before .before in
+    c .predecessors .ensures (leads-in (s .args .passing .now) every) (s .pre .1 .1)
 
 holders-requires : tie.Need-holders-requires
 holders-requires c κs = c .before .before .before .before .before .pre .0
 
 returns : tie.Need-returns
-returns c = λ m k t. none-sees m (item k (c .before .before .before .before .before .before .before .args .number)) (t .legal) (sym (held (c .before) m k t) ∙ c .if1 .taken)
+returns c =
+    let n = c .before .before .before .before .before .before .before .args .number in
+    λ m k t. none-sees m (item k n) (t .legal) (sym (held (c .before) m k t) ∙ c .if1 .taken)
 
 predecessors-requires : tie.Need-predecessors-requires
 predecessors-requires c κs = c .before .before .before .before .before .before .before .pre .1 .0
 
 search-requires : tie.Need-search-requires
 search-requires c κs =
-    let p = c .before .before .before .before .before .before .before .before .before .args .passing .now in
-    let n = c .before .before .before .before .wide .result in
-    (rw (led (c .before)) (led-sets (leads-also (leads-in p every) p n)), rw (c .before .before .before .holders .ensures) (held-small (c .before .before .before .before .before .before .before .before .before .args .offered .now) n))
+    let a = c .before .before .before in
+    let s = a .before .before .before .before .before .before .args in
+    let p = s .passing .now in
+    let n = a .before .wide .result in
+    (rw (led (c .before)) (led-sets (leads-also (leads-in p every) p n)), rw (a .holders .ensures) (held-small (s .offered .now) n))
 
 returns-2 : tie.Need-returns-2
 returns-2 c =
-    let s = c .before .before .before .before .before .before .before .before .before .before .args in
+    let a = c .before .before .before .before in
+    let s = a .before .before .before .before .before .before .args in
     let p = s .passing .now in
+    let led-for : ℕ → List ℕ = λ n. led-by (leads-also (leads-in p every) p n) in
     λ m k t.
     reached-sees m (item k (s .number)) (t .legal)
-    (rw (held (c .before .before .before .before) m k t)
-    at (rw (led (c .before .before) ∙ ap (λ (n : ℕ). led-by (leads-also (leads-in p every) p n)) (c .before .before .before .before .before .wide .ensures .0) ∙ led-table t (s .number)) at (c .search .ensures)))
+    (rw (held a m k t) at (rw (led (c .before .before) ∙ ap led-for (a .before .wide .ensures .0) ∙ led-table t (s .number)) at (c .search .ensures)))
 
 pub seers-by-spec : {M : Type 1} → statement M
 seers-by-spec =

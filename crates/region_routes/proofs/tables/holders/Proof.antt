@@ -11,7 +11,7 @@ use lib.ListN.{length, getD, take}
 use lib.Seq.{take-all}
 use Rattle.region_graph.proofs.Views.{held, held-none, held-took, held-left}
 use Rattle.region_routes.specs.Tables.{number-in, place-in}
-use Rattle.region_routes.proofs.Chaining.{Walk, walk-start, walk-next, walk-past, link-inside, link-later, starts-inside}
+use Rattle.region_routes.proofs.Chaining.{Walk, walk-start, walk-next, walk-past, link-inside, link-less, starts-inside}
 use Rattle.region_routes.proofs.tables.holders.Statement.{statement}
 use Rattle.region_routes.proofs.tables.holders.Tie as tie
 
@@ -44,7 +44,7 @@ next-of-requires c κs = link-inside (c .before .before .before .before .before 
 loop-less : tie.Need-loop-less Inv-loop μ-loop
 loop-less c =
     let a = c .before .before .before .before in
-    omega (arith, link-later (a .before .before .before .before .before .pre) (a .loop-test .taken), c .before .before .next-of .ensures, a .loop-test .taken)
+    link-less (a .before .before .before .before .before .pre) (a .loop-test .taken) (c .before .before .next-of .ensures)
 
 loop-again : tie.Need-loop-again Inv-loop μ-loop
 loop-again c =
@@ -61,7 +61,7 @@ loop-again c =
 loop-less-2 : tie.Need-loop-less-2 Inv-loop μ-loop
 loop-less-2 c =
     let a = c .before .before .before in
-    omega (arith, link-later (a .before .before .before .before .before .pre) (a .loop-test .taken), c .before .next-of .ensures, a .loop-test .taken)
+    link-less (a .before .before .before .before .before .pre) (a .loop-test .taken) (c .before .next-of .ensures)
 
 loop-again-2 : tie.Need-loop-again-2 Inv-loop μ-loop
 loop-again-2 c =

@@ -26,7 +26,11 @@ abbrev μ-loop : tie.MeasureT-loop
 -- the places hold the model's bundles, each as it is stored
 filled : (c : tie.After-bundle-count Inv-loop μ-loop) → (let m = meaning (c .before .before .before .args .graph) in
     Filled store-bundle (store-bundle no-bundle) most-bundles (c .before .bundle-places .result) (c .bundle-count .result) (m .bundles))
-filled c = record { shape = c .before .bundle-places .ensures; counted = c .bundle-count .ensures; room = c .before .before .before .pre .0 .good .bundles-legal .few }
+filled c = record {
+  shape = c .before .bundle-places .ensures;
+  counted = c .bundle-count .ensures;
+  room = c .before .before .before .pre .0 .good .bundles-legal .few;
+}
 
 each : (s : tie.Start Inv-loop μ-loop) → All (λ b. bundle-in (store-bundle b) ≡ b) (meaning (s .args .graph) .bundles)
 each s = bundles-each (meaning (s .args .graph) .bundles)
@@ -45,7 +49,8 @@ append-offer-requires c κs =
     let h = filled (a .before) in
     let k = kind-number (s .args .kind) in (
       bundle-placed m g h (a .loop .i) _ (omega arith),
-      gathered-room bundle-in (offer k) (each s) h (a .loop .i) (omega arith) _ no-bundle (a .loop .inv .3) most-provided (omega (arith, a .loop .inv .2)) (offers-few m g k),
+      gathered-room bundle-in (offer k) (each s) h (a .loop .i) (omega arith) _ no-bundle (a .loop .inv .3)
+          most-provided (omega (arith, a .loop .inv .2)) (offers-few m g k),
     )
 
 loop-again : tie.Need-loop-again Inv-loop μ-loop

@@ -25,8 +25,13 @@ abbrev μ-loop : tie.MeasureT-loop
 
 -- the places hold the model's connections, each as it is stored
 filled : (c : tie.After-connection-count Inv-loop μ-loop) → (let m = meaning (c .before .before .before .args .graph) in
-    Filled store-connection (store-connection no-connection) most-connections (c .before .connection-places .result) (c .connection-count .result) (m .connections))
-filled c = record { shape = c .before .connection-places .ensures; counted = c .connection-count .ensures; room = c .before .before .before .pre .0 .good .connections-legal .few }
+    Filled store-connection (store-connection no-connection) most-connections
+    (c .before .connection-places .result) (c .connection-count .result) (m .connections))
+filled c = record {
+  shape = c .before .connection-places .ensures;
+  counted = c .connection-count .ensures;
+  room = c .before .before .before .pre .0 .good .connections-legal .few;
+}
 
 each : (s : tie.Start Inv-loop μ-loop) → All (λ b. connection-in (store-connection b) ≡ b) (meaning (s .args .graph) .connections)
 each s = connections-each (meaning (s .args .graph) .connections) (short-connections (s .pre .0 .good))
@@ -47,7 +52,8 @@ append-passage-requires c κs =
       connection-placed m g h (a .loop .i) _ (omega arith),
       (
         connection-ends m g h (a .loop .i) _ (omega arith),
-        gathered-room connection-in (passage k) (each s) h (a .loop .i) (omega arith) _ no-connection (a .loop .inv .3) most-listed (omega (arith, a .loop .inv .2)) (passages-few m g k),
+        gathered-room connection-in (passage k) (each s) h (a .loop .i) (omega arith) _ no-connection (a .loop .inv .3)
+            most-listed (omega (arith, a .loop .inv .2)) (passages-few m g k),
       ),
     )
 

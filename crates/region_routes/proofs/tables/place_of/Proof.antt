@@ -8,7 +8,7 @@ use borrow.Author.Tests.{eq-eqb, ne-eqb}
 use lib.Dec.{eqb}
 use lib.ListN.{length, getD, drop}
 use Rattle.region_routes.specs.Tables.{number-in, place-at}
-use Rattle.region_routes.proofs.Chaining.{Walk, walk-start, walk-past, link-inside, link-later, starts-inside}
+use Rattle.region_routes.proofs.Chaining.{Walk, walk-start, walk-past, link-inside, link-less, starts-inside}
 use Rattle.region_routes.proofs.Entries.{place-here, place-later, place-end}
 use Rattle.region_routes.proofs.tables.place_of.Statement.{statement}
 use Rattle.region_routes.proofs.tables.place_of.Tie as tie
@@ -43,12 +43,13 @@ returns : tie.Need-returns Inv-loop μ-loop
 returns c =
     let a = c .before .before .before .before in
     let s = a .before .before .before .before in
-    place-here (s .args .table .now) (s .args .number) (a .loop .i) (c .before .before .before .loop-test .taken) (a .loop .inv .done) (eq-eqb _ _ (c .if1 .taken))
+    place-here (s .args .table .now) (s .args .number) (a .loop .i) (c .before .before .before .loop-test .taken) (a .loop .inv .done)
+    (eq-eqb _ _ (c .if1 .taken))
 
 loop-less : tie.Need-loop-less Inv-loop μ-loop
 loop-less c =
     let a = c .before .before .before in
-    omega (arith, link-later (a .before .before .before .before .before .pre) (a .loop-test .taken), c .before .next-of .ensures, a .loop-test .taken)
+    link-less (a .before .before .before .before .before .pre) (a .loop-test .taken) (c .before .next-of .ensures)
 
 loop-again : tie.Need-loop-again Inv-loop μ-loop
 loop-again c =

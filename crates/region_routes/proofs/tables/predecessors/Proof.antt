@@ -1,5 +1,5 @@
-use mathlib.Core.Path.{_≡_, refl, ap, _∙_}
-use mathlib.Core.Bool.{Bool, false, or-false}
+use mathlib.Core.Path.{_≡_, ap, _∙_}
+use mathlib.Core.Bool.{Bool, false}
 use mathlib.Core.List.{List}
 use Prim.Native.Nat.{ℕ, _+_, _-_, _<_}
 use native.Mathlib.Omega.{arith}
@@ -10,7 +10,7 @@ use lib.Dec.{eqb}
 use lib.ListN.{length, getD, take, set}
 use lib.Seq.{take-all}
 use Rattle.region_routes.specs.Tables.{number-in, target-in, leads-also, led-by}
-use Rattle.region_routes.proofs.Chaining.{Walk, walk-start, walk-next, walk-past, link-inside, link-later, starts-inside}
+use Rattle.region_routes.proofs.Chaining.{Walk, walk-start, walk-next, walk-past, link-inside, link-less, starts-inside}
 use Rattle.region_routes.proofs.Entries.{led-entry, led-other, led-start}
 use Rattle.region_routes.proofs.tables.predecessors.Statement.{statement}
 use Rattle.region_routes.proofs.tables.predecessors.Tie as tie
@@ -58,7 +58,7 @@ array-write-sets c = array-read-sets (c .before)
 loop-less : tie.Need-loop-less Inv-loop μ-loop
 loop-less c =
     let a = c .before .before .before .before in
-    omega (arith, link-later (a .before .before .before .before .before .pre) (a .loop-test .taken), c .before .before .next-of .ensures, a .loop-test .taken)
+    link-less (a .before .before .before .before .before .pre) (a .loop-test .taken) (c .before .before .next-of .ensures)
 
 loop-again : tie.Need-loop-again Inv-loop μ-loop
 loop-again c =
@@ -78,7 +78,7 @@ loop-again c =
 loop-less-2 : tie.Need-loop-less-2 Inv-loop μ-loop
 loop-less-2 c =
     let a = c .before .before .before in
-    omega (arith, link-later (a .before .before .before .before .before .pre) (a .loop-test .taken), c .before .next-of .ensures, a .loop-test .taken)
+    link-less (a .before .before .before .before .before .pre) (a .loop-test .taken) (c .before .next-of .ensures)
 
 loop-again-2 : tie.Need-loop-again-2 Inv-loop μ-loop
 loop-again-2 c =

@@ -1,14 +1,13 @@
 -- Graphs as flat lists of numbers: what is found at a place and in a row.
 use mathlib.Core.Path.{_≡_, refl, sym, ap, _∙_, subst}
-use mathlib.Core.Bool.{Bool, true, false, not, _&&_, _||_, and-false}
+use mathlib.Core.Bool.{Bool, true, false, not, _&&_}
 use mathlib.Core.List.{List}
-use Prim.Native.Nat.{ℕ, zero, suc, _+_, _-_, _*_, _≤_, _<_}
+use Prim.Native.Nat.{ℕ, _+_, _-_, _*_, _≤_, _<_}
 use native.Mathlib.Omega.{arith}
-use native.Mathlib.Decide.{decLt}
 use lib.Dec.{eqb, ltb}
 use lib.ListN.{length, getD, take, drop, length-drop}
 use lib.Seq.{length-take-le, getD-take, getD-drop}
-use borrow.Author.Tests.{eqb-true, eq-eqb, ltb-true}
+use borrow.Author.Tests.{eqb-true, eq-eqb}
 use Rattle.region_graph.specs.Size.{regions, most-provided, most-listed, all-sign}
 use Rattle.region_graph.specs.Lists.{All, ascends, member, count-from}
 use Rattle.region_graph.specs.Sets.{has, members}
@@ -18,9 +17,8 @@ use Rattle.region_graph.specs.Flat.{FlatPart}
 use Rattle.region_graph.specs.Found.{Found, FlatList, FlatBundle, FlatConnection}
 use Rattle.region_graph.specs.declared.numbers.Numbers.{Numbers}
 use Rattle.region_graph.specs.declared.numbers.Provided.{Provided}
-use Rattle.region_graph.proofs.Lists.{false-true, all-of, all-kept, member-kept, and-fst}
-use Rattle.region_graph.proofs.Ascending.{or-right}
-use Rattle.region_graph.proofs.Storing.{all-counted}
+use Rattle.region_graph.proofs.Lists.{false-true, all-of, all-kept}
+use Rattle.region_graph.proofs.Storing.{all-counted, has-member}
 
 -- a list at a place, and its numbers as a part of the row
 
@@ -93,22 +91,6 @@ module _ (row : List ℕ) (at : ℕ) where
 
 -- the members of a set as a list
 
-counted-member : (k a n : ℕ) → a ≤ n → n < a + k → member n (count-from a k) ≡ true
-counted-member zero a n l h = absurd (omega arith)
-counted-member (suc k) a n l h = go (decLt a n) (counted-member k (suc a) n)
-  where
-    go : Dec (a < n) → (suc a ≤ n → n < suc a + k → member n (count-from (suc a) k) ≡ true) → (eqb n a || member n (count-from (suc a) k)) ≡ true
-    go (yes m) f = or-right (eqb n a) (f m (omega arith))
-    go (no m) f = rw (eq-eqb n a (omega arith))
-
-pub member-members : (x r : ℕ) → member r (members x) ≡ has x r
-unfolding members
-member-members x r = member-kept (has x) r (count-from 0 regions) ∙ go (has x r) refl
-  where
-    go : (b : Bool) → has x r ≡ b → (member r (count-from 0 regions) && b) ≡ b
-    go true e = rw (counted-member regions 0 r (omega arith) (ltb-true r regions (and-fst (ltb r regions) _ e)))
-    go false e = and-false (member r (count-from 0 regions))
-
 pub members-small : (x : ℕ) → All (λ r. r < regions) (members x)
 unfolding members
 members-small x =
@@ -120,10 +102,10 @@ members-small x =
 module _ (x : ℕ) where
   -- the test of a region
   region-in : {n r : ℕ} → true ≡ has x n → n ≡ r → member r (members x) ≡ true
-  region-in {n} {r} e f = member-members x r ∙ ap (has x) (sym f) ∙ sym e
+  region-in {n} {r} e f = sym (has-member x r) ∙ ap (has x) (sym f) ∙ sym e
 
   region-out : {A : Type 0} {n r : ℕ} → false ≡ has x n → n ≡ r → member r (members x) ≡ true → A
-  region-out {n = n} {r = r} e f h = false-true (e ∙ ap (has x) f ∙ sym (member-members x r) ∙ h)
+  region-out {n = n} {r = r} e f h = false-true (e ∙ ap (has x) f ∙ has-member x r ∙ h)
 
   module _ (row : List ℕ) where
     pub bundle-found : {p s : Provided} {a b t : Bool} → Word (getD row 0 0)

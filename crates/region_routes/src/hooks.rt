@@ -23,7 +23,8 @@ use region_graph::refusals::NO_PLACE;
 use region_graph::refusals::NOT_INSTALLED;
 use region_graph::region_set::has;
 
-fn kind_number(kind: Kind) -> u32
+// The number of a kind.
+pub fn kind_number(kind: Kind) -> u32
     ensures { λ r. ⌜ r ≡ kind-number kind ⌝ }
 {
     match kind {

@@ -1,10 +1,13 @@
 // The archive query, for C.
 ghost use Rattle.region_archive.specs.Promise.{Queried};
 use crate::reading::read;
+use region_graph::Item;
+use region_graph::Place;
+use region_graph::refusals::NOT_A_KIND;
+use region_graph::refusals::NOT_INSTALLED;
 use region_graph::refusals::NOT_REFUSED;
-use region_graph::size::REGIONS;
-use region_routes::Routed;
-use region_routes::route;
+use region_graph::region_set::has;
+use region_routes::seers;
 
 // What the query answers for an item that is seen, and for one that is hidden.
 pub const SEEN: u32 = 100;
@@ -21,11 +24,16 @@ pub extern "C" fn archive_query(bytes: &[u8], location: u32, kind: u32, item: u3
         return archive.number;
     }
     let graph = archive.graph;
-    let mut regions = [0u8; REGIONS];
-    let answer = route(graph, location, kind, item, &mut regions);
-    match answer {
-        Routed::Hidden => HIDDEN,
-        Routed::Count(_) => SEEN,
-        Routed::Refused(number) => number,
+    let place = graph.region_of(location);
+    let Place::Within(region) = place else {
+        return NOT_INSTALLED;
+    };
+    if 2 < kind {
+        return NOT_A_KIND;
     }
+    let set = seers(graph, Item { kind, number: item });
+    if has(set, region) {
+        return SEEN;
+    }
+    HIDDEN
 }

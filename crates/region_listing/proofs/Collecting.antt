@@ -9,12 +9,19 @@ use borrow.Author.Tests.{eqb-true}
 use lib.Dec.{eqb}
 use lib.ListN.{length, getD, take, set, length-append, length-set}
 use lib.Seq.{take-suc, take-length, length-take-le}
-use Rattle.region_graph.specs.Size.{most-provided}
+use Rattle.region_graph.specs.Size.{most-bundles, most-provided}
 use Rattle.region_graph.specs.Lists.{pick, member}
-use Rattle.region_graph.specs.Model.{Model, Bundle, Legal, LegalBundle}
+use Rattle.region_graph.specs.Model.{Bundle}
 use Rattle.region_graph.specs.Items.{provided}
-use Rattle.region_graph.specs.Record.{no-bundle}
+use Rattle.region_graph.specs.Record.{Valid, meaning, no-bundle, store-bundles, bundles-of, bundle-in}
+use Rattle.region_graph.specs.Places.{ShortBundle, Row, BundlesStored}
+use Rattle.region_graph.specs.Promise.{bundle-places}
+use Rattle.region_graph.specs.declared.Graph.{Graph}
+use Rattle.region_graph.specs.declared.bundles.StoredBundle.{StoredBundle}
+use Rattle.region_graph.specs.declared.bundles.Bundles.{Bundles}
 use Rattle.region_graph.proofs.Lists.{false-true, pick-yes, pick-no, any-append, eqb-sym}
+use Rattle.region_graph.proofs.Arrays.{filled-means}
+use Rattle.region_graph.proofs.Storing.{bundles-each, bundles-back, stored-as, bundles-filled, filled-bundles, bundles-stored}
 use Rattle.region_routes.specs.Hooks.{kind-number}
 use Rattle.region_routes.specs.declared.Kind.{Kind}
 use Rattle.region_routes.specs.declared.Kind.the-variants as Kind
@@ -22,7 +29,8 @@ use Rattle.region_archive.specs.Bytes.{each}
 use Rattle.region_archive.proofs.Pieces.{each-next, each-within, each-most}
 use Rattle.region_archive.proofs.Answers.{take-set}
 use Rattle.region_listing.specs.Listing.{joined, joined-all, different, held}
-use Rattle.region_listing.specs.Counts.{most-different}
+use Rattle.region_listing.specs.Counts.{most-different, numbers-in, Collected}
+use Rattle.region_listing.specs.declared.collection.Collection.{Collection}
 
 or-fst : (a b : Bool) → (a || b) ≡ false → a ≡ false
 or-fst true b e = e
@@ -101,6 +109,40 @@ module _ {start ls items : List ℕ} {n i : ℕ} (j : Joining start ls items n i
               take-set items n x (omega (arith, j .size, joining-room)) ∙ sym (next ∙ pick-no (take n items) (take n items ++ (x ∷ [])) e);
         }
 
+-- the numbers of a collection are as many as it says
+pub collected-length : {d : Collection} {ns : List ℕ} → Collected d ns → d .count ≡ length ns
+unfolding numbers-in
+collected-length {d} c = sym (length-take-le (d .count) (d .items) (omega (arith, c .count, c .size))) ∙ ap length (c .those)
+
+-- the bundles that stand in the first n places
+abbrev pub in-places : List StoredBundle → ℕ → Bundles
+in-places ps n = record { count = n; items = ps }
+
+-- those of a valid graph store its bundles
+module _ {g : Graph} (v : Valid g) {ps : List StoredBundle} {n : ℕ} (e : ps ≡ bundle-places (meaning g)) (f : n ≡ length (meaning g .bundles)) where
+  stored : in-places ps n ≡ store-bundles (meaning g .bundles)
+  stored = filled-bundles (record { shape = e; counted = f; room = v .good .bundles-legal .few })
+
+  pub places-stored : BundlesStored (in-places ps n)
+  unfolding meaning
+  places-stored =
+      stored-as store-bundles bundles-of (Row most-bundles ShortBundle) (λ bs r. bundles-back bs) (meaning g .bundles) stored
+      (bundles-stored g v .good)
+
+  pub places-mean : bundles-of (in-places ps n) ≡ meaning g .bundles
+  places-mean = ap bundles-of stored ∙ bundles-back (meaning g .bundles)
+
+-- how many they are, and the one at a place
+module _ {ps : List StoredBundle} {n : ℕ} (h : BundlesStored (in-places ps n)) where
+  pub places-count : n ≡ length (bundles-of (in-places ps n))
+  places-count = bundles-filled (in-places ps n) h .counted
+
+  pub places-few : n ≤ most-bundles
+  places-few = omega (arith, places-count, h .good .few)
+
+  pub place-means : (i : ℕ) (d : StoredBundle) → i < n → bundle-in (getD ps i d) ≡ getD (bundles-of (in-places ps n)) i no-bundle
+  place-means i d l = filled-means (bundles-filled (in-places ps n) h) bundle-in (bundles-each (bundles-of (in-places ps n))) i d no-bundle l
+
 -- one bundle more
 pub held-next : (k : Kind) (bs : List Bundle) (i : ℕ) → i < length bs
     → held k (take (i + 1) bs) ≡ joined-all (held k (take i bs)) (provided (kind-number k) (getD bs i no-bundle))
@@ -110,25 +152,24 @@ held-next k bs i h =
     ∙ joined-append [] (each (provided (kind-number k)) (take i bs)) (provided (kind-number k) (getD bs i no-bundle))
 
 -- a bundle brings few numbers of a kind
-pub provided-few : (rs : List ℕ) (b : Bundle) → LegalBundle rs b → (k : Kind) → length (provided (kind-number k) b) ≤ most-provided
-provided-few rs b l Kind.Bundle = omega arith
-provided-few rs b l Kind.Package = l .packages .few
-provided-few rs b l Kind.Service = l .services .few
+pub provided-few : (b : Bundle) → ShortBundle b → (k : Kind) → length (provided (kind-number k) b) ≤ most-provided
+provided-few b h Kind.Bundle = omega arith
+provided-few b h Kind.Package = h .packages
+provided-few b h Kind.Service = h .services
 
 -- the places hold what the bundles before one and that bundle bring
-pub held-room : (m : Model) → Legal m → (k : Kind) (i : ℕ) → i < length (m .bundles)
-    → length (held k (take i (m .bundles))) + length (provided (kind-number k) (getD (m .bundles) i no-bundle)) ≤ most-different
+pub held-room : (bs : List Bundle) → Row most-bundles ShortBundle bs → (k : Kind) (i : ℕ) → i < length bs
+    → length (held k (take i bs)) + length (provided (kind-number k) (getD bs i no-bundle)) ≤ most-different
 unfolding held
-held-room m l k i h =
+held-room bs row k i h =
     let f = provided (kind-number k) in
-    let bs = m .bundles in
     omega (
       arith,
       joined-few [] (each f (take i bs)),
       each-within f bs i (length bs) no-bundle h (omega arith),
       ap (λ (xs : List Bundle). length (each f xs)) (take-length bs),
-      each-most (LegalBundle (m .regions)) f most-provided (λ b x. provided-few (m .regions) b x k) bs (l .bundles-legal .each),
-      l .bundles-legal .few,
+      each-most ShortBundle f most-provided (λ b x. provided-few b x k) bs (row .each),
+      row .few,
     )
 
 -- the different numbers of a list are those that it has

@@ -1,4 +1,5 @@
 -- Laws by subject, each over what stands above it.
 pub mod Collecting
+pub mod Counting
 pub mod ListingLaws
 pub mod Printed

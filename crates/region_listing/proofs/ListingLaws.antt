@@ -1,87 +1,116 @@
 -- Laws of the listing's text.
-use mathlib.Core.Path.{_≡_, refl, sym, ap, _∙_}
+use mathlib.Core.Path.{_≡_, refl, sym, ap, _∙_, subst}
 use mathlib.Core.Bool.{Bool, true, false}
 use mathlib.Core.List.{List, [], _∷_, _++_}
 use Prim.Native.Nat.{ℕ, zero, suc, _+_, _-_, _*_, _^_, _≤_, _<_}
 use native.Mathlib.Omega.{arith}
-use borrow.Author.Tests.{ltb-true, eq-eqb, ne-eqb, le-leb}
+use borrow.Author.Tests.{eq-eqb, ne-eqb}
 use lib.Dec.{eqb}
 use lib.ListN.{length, getD, take, drop, replicate, length-append, length-replicate}
-use lib.Seq.{take-length, length-take-le}
+use lib.Seq.{take-length}
 use Rattle.region_graph.specs.Size.{regions, most-bundles, most-provided}
 use Rattle.region_graph.specs.Refusals.{not-refused}
-use Rattle.region_graph.specs.Lists.{pick}
-use Rattle.region_graph.specs.Model.{Model, Bundle, Legal, LegalBundle, bundle-before}
+use Rattle.region_graph.specs.Lists.{pick, All}
+use Rattle.region_graph.specs.Model.{Model, Bundle, Legal, LegalBundle}
 use Rattle.region_graph.specs.Items.{provided}
-use Rattle.region_graph.specs.Record.{no-bundle}
-use Rattle.region_graph.specs.Promise.{place-of}
-use Rattle.region_graph.specs.declared.Place.{Place}
-use Rattle.region_graph.specs.declared.Place.the-variants.{Within}
-use Rattle.region_graph.proofs.Lists.{pick-yes, pick-no, keep-length, all-at, member-all}
-use Rattle.region_graph.proofs.Ascending.{Rising, ascends-rising, strict-bundles}
+use Rattle.region_graph.specs.Record.{no-bundle, bundles-of, bundle-in}
+use Rattle.region_graph.specs.Places.{BundlesStored}
+use Rattle.region_graph.specs.declared.bundles.StoredBundle.{StoredBundle}
+use Rattle.region_graph.proofs.Lists.{pick-yes, pick-no, keep-length, all-at, all-map, member-all}
+use Rattle.region_graph.proofs.Storing.{short-bundle}
 use Rattle.region_graph.proofs.Legal.{legal-nothing}
 use Rattle.region_routes.specs.Chosen.{sees}
-use Rattle.region_routes.specs.Hooks.{Outcome, installed, kept, kind-number, item, sees-from, find-outcome}
+use Rattle.region_routes.specs.Hooks.{kind-number, item}
 use Rattle.region_routes.specs.declared.Kind.{Kind}
 use Rattle.region_routes.specs.declared.Kind.the-variants as Kind
-use Rattle.region_routes.specs.declared.Kept.{Kept}
 use Rattle.text_lines.specs.Written.{Wrote}
 use Rattle.text_lines.specs.Decimal.{decimal, field, space, newline}
+use Rattle.text_lines.proofs.Writes.{wrote-then, wrote-is, wrote-length}
 use Rattle.text_lines.proofs.DecimalLaws.{decimal-few, decimal-most}
 use Rattle.region_archive.specs.Bytes.{each}
 use Rattle.region_archive.specs.File.{FileMeaning, means, means-none, sets, read-number}
 use Rattle.region_archive.proofs.Meaning.{file-meaning}
-use Rattle.region_archive.proofs.Pieces.{each-within, each-most}
-use Rattle.region_listing.specs.Listing.{held, seen-from, line-of, line, header, listing-text, refused-word, refusal-text, file-text, longest-text, store-text, Lists}
-use Rattle.region_listing.specs.Counts.{Collected, numbers-in, most-different, kept-count, count-seen}
-use Rattle.region_listing.specs.declared.collection.Collection.{Collection}
+use Rattle.region_archive.proofs.Pieces.{each-next, each-within, each-most}
+use Rattle.region_listing.specs.Listing.{held, seen-from, line-of, line, header, listing-text, refused-word, refusal-text, file-text}
+use Rattle.region_listing.specs.Listing.{header-size, line-size, longest-text, store-text, Lists}
+use Rattle.region_listing.specs.Counts.{Counted}
 use Rattle.region_listing.specs.declared.listing.Text.{Text}
-use Rattle.region_listing.proofs.Collecting.{joined-few, provided-few}
+use Rattle.region_listing.proofs.Collecting.{joined-few, in-places, places-count, place-means, provided-few}
 
--- a find for a bundle that is installed, into enough places
-pub find-count : (m : Model) (k : Kind) (l : ℕ) (ns entry exit : List ℕ) {r : Kept} → kept r exit ≡ find-outcome m k l ns entry
-    → installed (place-of (m .bundles) l) ≡ true → length entry ≡ most-different → length ns ≤ most-different
-    → kept-count r ≡ count-seen m k (place-of (m .bundles) l) ns
-find-count m k l ns entry exit e i n h = ap (λ (o : Outcome Kept). kept-count (o .answer)) e ∙ go
-  where
-    go : kept-count (find-outcome m k l ns entry .answer) ≡ count-seen m k (place-of (m .bundles) l) ns
-    go = rw (i, le-leb (length ns) (length entry) (omega arith))
+-- a line by the counts of each region
+abbrev pub row : List ℕ → List ℕ → List ℕ → Bundle → List ℕ
+row bundles packages services b =
+    line-of (b .location) (b .region) (getD bundles (b .region) 0) (getD packages (b .region) 0) (getD services (b .region) 0)
 
--- no more are seen than there are
-pub count-few : (m : Model) (k : Kind) (p : Place) (ns : List ℕ) → count-seen m k p ns ≤ length ns
-count-few m k p ns = keep-length (λ n. sees-from m (item (kind-number k) n) p) ns
+-- the regions of bundles are regions
+abbrev pub Inside : List Bundle → Type 0
+Inside bs = All (λ b. b .region < regions) bs
 
--- what is counted in a collection from the place of a region
-pub seen-is : (m : Model) (k : Kind) {d : Collection} {p : Place} {r : ℕ} → p ≡ Within r → Collected d (held k (m .bundles))
-    → count-seen m k p (numbers-in d) ≡ seen-from m k r
-unfolding seen-from
-seen-is m k {d} {p} {r} e c = ap (λ (q : Place). count-seen m k q (numbers-in d)) e ∙ ap (count-seen m k (Within r)) (c .those)
+pub legal-inside : (m : Model) → Legal m → Inside (m .bundles)
+legal-inside m l =
+    all-map (LegalBundle (m .regions)) (λ b. b .region < regions)
+    (λ b h. member-all (λ n. n < regions) (b .region) (m .regions) (l .regions-legal .each) (h .region))
+    (m .bundles) (l .bundles-legal .each)
 
--- the numbers of a collection are as many as it says, and no more than it has places
-pub collected-length : {d : Collection} {ns : List ℕ} → Collected d ns → d .count ≡ length (take (d .count) (d .items))
-collected-length {d} c = sym (length-take-le (d .count) (d .items) (omega (arith, c .count, c .size)))
+-- the counts of a model give its lines
+module _ (m : Model) {bundles packages services : List ℕ} (p : Counted m Kind.Bundle bundles) (q : Counted m Kind.Package packages)
+    (r : Counted m Kind.Service services) where
+  rows-lines : (bs : List Bundle) → Inside bs → each (row bundles packages services) bs ≡ each (line m) bs
+  rows-lines [] h = refl
+  rows-lines (b ∷ bs) h =
+      let e = p .each (b .region) (h .0) in
+      let f = q .each (b .region) (h .0) in
+      let g = r .each (b .region) (h .0) in
+      λ i. line-of (b .location) (b .region) (e i) (f i) (g i) ++ rows-lines bs (h .1) i
 
-pub collected-few : {d : Collection} {ns : List ℕ} → Collected d ns → length (numbers-in d) ≤ most-different
-unfolding numbers-in
-collected-few c = omega (arith, collected-length c, c .count)
+  pub rows-are : Legal m → {bs : List Bundle} → bs ≡ m .bundles → each (row bundles packages services) bs ≡ each (line m) (m .bundles)
+  rows-are l e = ap (each (row bundles packages services)) e ∙ rows-lines (m .bundles) (legal-inside m l)
 
--- the bundle at a place is installed in its region
-place-rising : (bs : List Bundle) → Rising bundle-before bs → (i : ℕ) → i < length bs
-    → place-of bs (getD bs i no-bundle .location) ≡ Within (getD bs i no-bundle .region)
-place-rising [] r i h = absurd (omega arith)
-place-rising (b ∷ bs) r zero h = pick-yes (Within (b .region)) (place-of bs (b .location)) (eq-eqb (b .location) (b .location) refl)
-place-rising (b ∷ bs) r (suc i) h =
-    pick-no (Within (b .region)) (place-of bs (getD bs i no-bundle .location)) (ne-eqb (b .location) (getD bs i no-bundle .location) differ) ∙ place-rising bs (r .1) i (omega arith)
-  where
-    before : bundle-before b (getD bs i no-bundle) ≡ true
-    before = all-at (λ y. bundle-before b y ≡ true) bs i no-bundle (omega arith) (r .0)
+-- the lines of the first i bundles that stand in places are written
+pub record Lining (line : Bundle → List ℕ) (ps : List StoredBundle) (n : ℕ) (old new : List ℕ) (from at i : ℕ) : Type 0 where
+  pub reached : i ≤ n
+  pub stored : BundlesStored (in-places ps n)
+  pub within : Inside (bundles-of (in-places ps n))
+  pub room : from + length (each line (bundles-of (in-places ps n))) ≤ length old
+  pub wrote : Wrote old new from (each line (take i (bundles-of (in-places ps n)))) at
 
-    differ : b .location ≡ getD bs i no-bundle .location → ⊥
-    differ e = omega (arith, ltb-true (b .location) (getD bs i no-bundle .location) before)
+module _ {line : Bundle → List ℕ} {ps : List StoredBundle} {n : ℕ} {old new : List ℕ} {from at i : ℕ} (h : Lining line ps n old new from at i)
+    (k : i < n) (d : StoredBundle) where
+  here : bundle-in (getD ps i d) ≡ getD (bundles-of (in-places ps n)) i no-bundle
+  here = place-means (h .stored) i d k
 
-pub place-own : (m : Model) → Legal m → (i : ℕ) → i < length (m .bundles)
-    → place-of (m .bundles) (getD (m .bundles) i no-bundle .location) ≡ Within (getD (m .bundles) i no-bundle .region)
-place-own m l i h = place-rising (m .bundles) (ascends-rising bundle-before strict-bundles (m .bundles) (l .bundles-legal .ascend)) i h
+  few : i < length (bundles-of (in-places ps n))
+  few = omega (arith, places-count (h .stored))
+
+  -- the region of the next bundle
+  pub lining-region : getD ps i d .region < regions
+  lining-region =
+      subst (λ (b : Bundle). b .region < regions) (sym here)
+      (all-at (λ b. b .region < regions) (bundles-of (in-places ps n)) i no-bundle few (h .within))
+
+  -- there is room for its line
+  pub lining-room : at + length (line (bundle-in (getD ps i d))) ≤ length new
+  lining-room =
+      let bs = bundles-of (in-places ps n) in
+      omega (
+        arith,
+        h .room,
+        h .wrote .ends,
+        wrote-length (h .wrote),
+        ap (λ (b : Bundle). length (line b)) here,
+        each-within line bs i (length bs) no-bundle few (omega arith),
+        ap (λ (xs : List Bundle). length (each line xs)) (take-length bs),
+      )
+
+  -- one line more
+  pub lining-more : {last : List ℕ} {to : ℕ} → Wrote new last at (line (bundle-in (getD ps i d))) to → Lining line ps n old last from to (i + 1)
+  lining-more w = record {
+    reached = omega arith;
+    stored = h .stored;
+    within = h .within;
+    room = h .room;
+    wrote = wrote-is (sym (each-next line (bundles-of (in-places ps n)) i no-bundle few)) (wrote-then (h .wrote) (wrote-is (ap line here) w));
+  }
 
 field-few : (j n end : ℕ) → n < 10 ^ suc j → length (field n end) ≤ suc (suc j)
 field-few j n end h = omega (arith, length-append (decimal n) (end ∷ []), decimal-few j n h)
@@ -107,14 +136,14 @@ module _ (m : Model) (l : Legal m) where
         each-most (LegalBundle (m .regions)) (provided (kind-number k)) w h (m .bundles) (l .bundles-legal .each),
       )
 
-  -- a line has at most 25 bytes
-  line-few : (b : Bundle) → LegalBundle (m .regions) b → length (line m b) ≤ 25
+  -- a line has no more bytes than its limit
+  line-few : (b : Bundle) → LegalBundle (m .regions) b → length (line m b) ≤ line-size
   line-few b h =
       let r = b .region in
       let i : r < regions = member-all (λ n. n < regions) r (m .regions) (l .regions-legal .each) (h .region) in
       let bundles = seen-most Kind.Bundle r 1 (λ c k. omega arith) in
-      let packages = seen-most Kind.Package r most-provided (λ c k. provided-few (m .regions) c k Kind.Package) in
-      let services = seen-most Kind.Service r most-provided (λ c k. provided-few (m .regions) c k Kind.Service) in
+      let packages = seen-most Kind.Package r most-provided (λ c k. provided-few c (short-bundle k) Kind.Package) in
+      let services = seen-most Kind.Service r most-provided (λ c k. provided-few c (short-bundle k) Kind.Service) in
       omega (
         arith,
         line-length (b .location) r (seen-from m Kind.Bundle r) (seen-from m Kind.Package r) (seen-from m Kind.Service r),
@@ -125,20 +154,13 @@ module _ (m : Model) (l : Legal m) where
         field-few 2 (seen-from m Kind.Service r) newline (omega (arith, services, l .bundles-legal .few)),
       )
 
-  lines-few : length (each (line m) (m .bundles)) ≤ most-bundles * 25
-  lines-few = omega (arith, each-most (LegalBundle (m .regions)) (line m) 25 line-few (m .bundles) (l .bundles-legal .each), l .bundles-legal .few)
+  -- nor have all lines
+  pub lines-few : length (each (line m) (m .bundles)) ≤ most-bundles * line-size
+  lines-few = omega (arith, each-most (LegalBundle (m .regions)) (line m) line-size line-few (m .bundles) (l .bundles-legal .each), l .bundles-legal .few)
 
-  -- the lines before that of a bundle, and its line
-  pub line-room : (i : ℕ) → i < length (m .bundles)
-      → length (each (line m) (take i (m .bundles))) + length (line m (getD (m .bundles) i no-bundle)) ≤ most-bundles * 25
-  line-room i h =
-      let bs = m .bundles in
-      omega (
-        arith,
-        each-within (line m) bs i (length bs) no-bundle h (omega arith),
-        ap (λ (xs : List Bundle). length (each (line m) xs)) (take-length bs),
-        lines-few,
-      )
+pub header-length : length header ≡ header-size
+unfolding header
+header-length = refl
 
 drop-same : (x n k : ℕ) → k ≤ n → drop k (replicate n x) ≡ replicate (n - k) x
 drop-same x n zero h =
@@ -179,11 +201,10 @@ module _ {s : List ℕ} (f : FileMeaning s) {n : ℕ} (e : n ≡ read-number f) 
 
 -- the longest text holds every text
 listing-fits : (m : Model) → Legal m → length (listing-text m) ≤ longest-text
-unfolding listing-text header
-listing-fits m l =
-    omega (arith, length-append header (each (line m) (m .bundles)), lines-few m l)
+unfolding listing-text
+listing-fits m l = omega (arith, length-append header (each (line m) (m .bundles)), header-length, lines-few m l)
 
-refusal-fits : (n : ℕ) → length (refusal-text n) ≤ longest-text
+pub refusal-fits : (n : ℕ) → length (refusal-text n) ≤ longest-text
 unfolding refusal-text refused-word
 refusal-fits n = omega (arith, field-most n newline)
 

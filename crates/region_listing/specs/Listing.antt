@@ -1,9 +1,10 @@
 -- Document 01, "Graph G, and others": the text that the listing program prints for a file.
 use mathlib.Core.Path.{_≡_}
 use mathlib.Core.List.{List, [], _∷_, _++_}
-use Prim.Native.Nat.{ℕ, _-_}
+use Prim.Native.Nat.{ℕ, _+_, _-_, _*_}
 use lib.Dec.{eqb}
 use lib.ListN.{length, replicate}
+use Rattle.region_graph.specs.Size.{most-bundles}
 use Rattle.region_graph.specs.Refusals.{not-refused}
 use Rattle.region_graph.specs.Lists.{pick, keep, member}
 use Rattle.region_graph.specs.Model.{Model, Bundle}
@@ -71,9 +72,15 @@ refusal-text n = refused-word ++ field n newline
 abbrev pub file-text : {s : List ℕ} → FileMeaning s → List ℕ
 file-text f = pick (eqb (read-number f) not-refused) (listing-text (sets f)) (refusal-text (read-number f))
 
--- the bytes that the longest text has
+-- the bytes of the header, the most bytes of a line (`line-few`), and the bytes that the longest text has
+abbrev pub header-size : ℕ
+header-size = 39
+
+abbrev pub line-size : ℕ
+line-size = 25
+
 abbrev pub longest-text : ℕ
-longest-text = 1639
+longest-text = header-size + most-bundles * line-size
 
 -- the text in the first places, and 0 in each other place
 unfoldable pub store-text : List ℕ → Text

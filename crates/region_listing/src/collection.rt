@@ -4,9 +4,9 @@ ghost use Prim.Native.Nat.{_+_, _≤_};
 ghost use lib.ListN.{length};
 ghost use Rattle.region_graph.specs.Lists.{member};
 ghost use Rattle.region_graph.specs.Items.{provided};
+ghost use Rattle.region_graph.specs.Places.{ProvidedStored, BundleStored};
 ghost use Rattle.region_graph.specs.Record.{Valid, meaning, «provided-of», «bundle-in»};
 ghost use Rattle.region_routes.specs.Hooks.{«kind-number»};
-ghost use Rattle.region_archive.specs.Entries.{ProvidedFits, BundleFits};
 ghost use Rattle.region_listing.specs.Listing.{«joined-all», held};
 ghost use Rattle.region_listing.specs.Counts.{Collected, «numbers-in», «most-different»};
 use region_graph::Graph;
@@ -40,7 +40,7 @@ fn is_in(list: &[u32], number: u32) -> bool
 // A list's numbers join a collection, each unless it is there.
 fn join(collection: Collection, list: Provided) -> Collection
     requires { ⌜ Collected collection (numbers-in collection) ⌝ }
-    requires { ⌜ ProvidedFits list ⌝ }
+    requires { ⌜ ProvidedStored list ⌝ }
     requires { ⌜ length (numbers-in collection) + length (provided-of list) ≤ most-different ⌝ }
     ensures { λ r. ⌜ Collected r (joined-all (numbers-in collection) (provided-of list)) ⌝ }
 {
@@ -61,8 +61,8 @@ fn join(collection: Collection, list: Provided) -> Collection
 
 // What a bundle brings to its region, of a kind.
 fn provided_by(b: StoredBundle, kind: Kind) -> Provided
-    requires { ⌜ BundleFits b ⌝ }
-    ensures { λ r. ⌜ ProvidedFits r × (provided-of r ≡ provided (kind-number kind) (bundle-in b)) ⌝ }
+    requires { ⌜ BundleStored b ⌝ }
+    ensures { λ r. ⌜ ProvidedStored r × (provided-of r ≡ provided (kind-number kind) (bundle-in b)) ⌝ }
 {
     match kind {
         Kind::Bundle => {
@@ -85,10 +85,11 @@ pub fn collect(graph: Graph, kind: Kind) -> Collection
         count: 0,
         items: [0u32; MOST_DIFFERENT],
     };
+    let places = graph.bundle_places();
     let count = graph.bundle_count();
     let mut i: usize = 0;
     while i < count {
-        let b = graph.bundle_at(i);
+        let b = places[i];
         let list = provided_by(b, kind);
         all = join(all, list);
         i += 1;

@@ -29,6 +29,7 @@ fits h = lt-of-lt-of-le h (pow-mono {i = regions} {j = 64} (lit≤ tt))
 pub record Taken (left r rest : ℕ) : Type 0 where
   pub inside : In left r
   pub low : r < regions
+  pub gone : In rest r → ⊥
   pub kept : (n : ℕ) → In rest n → In left n
   pub still : (n : ℕ) → In left n → (n ≡ r) ⊎ In rest n
   pub less : rest < left
@@ -43,6 +44,7 @@ pub taken : {left r alone rest : ℕ} → SetOfRegions left → left < 2 ^ 64 �
 taken {left} {r} {alone} {rest} small word pos e o d = record {
   inside = inside;
   low = low;
+  gone = gone;
   kept = λ n h. parted n h .0;
   still = λ n h. go n h (in-dec alone n);
   less = less (eq-or-lt-of-le (and-le-l left (2 ^ 64 - 1 - alone)));
@@ -63,13 +65,15 @@ taken {left} {r} {alone} {rest} small word pos e o d = record {
     parted : (n : ℕ) → In rest n → In left n × (In alone n → ⊥)
     parted n h = in-diff 64 left alone n word alone-fits (subst (λ (x : ℕ). In x n) d h)
 
+    gone : In rest r → ⊥
+    gone h = parted r h .1 (subst (λ (x : ℕ). In x r) (sym alone-is) (bit-one r))
+
     go : (n : ℕ) → In left n → In alone n ⊎ (In alone n → ⊥) → (n ≡ r) ⊎ In rest n
     go n h (inl k) = inl (in-one r n (subst (λ (x : ℕ). In x n) alone-is k))
     go n h (inr f) = inr (subst (λ (x : ℕ). In x n) (sym d) (diff-in 64 left alone n word alone-fits h f))
 
     less : (bitAnd left (2 ^ 64 - 1 - alone) ≡ left) ⊎ (bitAnd left (2 ^ 64 - 1 - alone) < left) → rest < left
-    less (inl q) =
-        absurd (parted r (subst (λ (x : ℕ). In x r) (sym (d ∙ q)) inside) .1 (subst (λ (x : ℕ). In x r) (sym alone-is) (bit-one r)))
+    less (inl q) = absurd (gone (subst (λ (x : ℕ). In x r) (sym (d ∙ q)) inside))
     less (inr l) = subst (λ (x : ℕ). x < left) (sym d) l
 
 pub above-none : (x : ℕ) → (x ≡ 0 → ⊥) → 0 < x

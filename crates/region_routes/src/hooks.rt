@@ -33,7 +33,8 @@ use region_graph::size::REGIONS;
 // Below so many candidates tables cost more than a search for each.
 const FEW: usize = 4;
 
-fn kind_number(kind: Kind) -> u32
+// The number of a kind.
+pub fn kind_number(kind: Kind) -> u32
     ensures { λ r. ⌜ r ≡ kind-number kind ⌝ }
 {
     match kind {

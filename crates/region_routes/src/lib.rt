@@ -7,6 +7,7 @@ mod tables;
 pub use hooks::bundle_event;
 pub use hooks::bundle_find;
 pub use hooks::find;
+pub use hooks::kind_number;
 pub use hooks::resolve;
 pub use hooks::service_event;
 pub use hooks::service_find;

@@ -8,11 +8,11 @@ use native.Mathlib.Decide.{decLt}
 use native.Mathlib.Omega.{arith}
 use borrow.Author.Tests.{lt-ltb, le-ltb}
 use lib.Dec.{ltb}
-use lib.ListN.{length, set}
+use lib.ListN.{length, set, length-append}
 use Rattle.region_graph.specs.Lists.{pick}
 use Rattle.region_graph.proofs.Lists.{pick-yes, pick-no}
 use Rattle.text_lines.specs.Written.{Wrote}
-use Rattle.text_lines.specs.Decimal.{digit-count, last-digits, most-digits, decimal}
+use Rattle.text_lines.specs.Decimal.{digit-count, last-digits, most-digits, decimal, field}
 use Rattle.text_lines.proofs.Writes.{wrote-is, wrote-before}
 
 last-length : (w n : ℕ) → length (last-digits w n) ≡ w
@@ -24,6 +24,18 @@ pub decimal-length : (n : ℕ) → length (decimal n) ≡ digit-count most-digit
 unfolding decimal
 decimal-length n = last-length (digit-count most-digits n) n
 
+-- the digits of a number are its text
+pub decimal-is : {w : ℕ} (n : ℕ) → w ≡ digit-count most-digits n → last-digits w n ≡ decimal n
+unfolding decimal
+decimal-is n e = ap (λ (k : ℕ). last-digits k n) e
+
+-- the lengths of the texts, by a count of the digits
+pub decimal-size : {w : ℕ} (n : ℕ) → w ≡ digit-count most-digits n → length (decimal n) ≡ w
+decimal-size n e = decimal-length n ∙ sym e
+
+pub field-size : {w : ℕ} (n end : ℕ) → w ≡ digit-count most-digits n → length (field n end) ≡ w + 1
+field-size n end e = omega (arith, length-append (decimal n) (end ∷ []), decimal-size n e)
+
 -- one digit, and one digit more
 count-one : (k n : ℕ) → n < 10 → digit-count (suc k) n ≡ 1
 count-one k n h = pick-yes 1 (suc (digit-count k (n / 10))) (lt-ltb n 10 h)
@@ -32,7 +44,7 @@ count-more : (k n : ℕ) → 10 ≤ n → digit-count (suc k) n ≡ suc (digit-c
 count-more k n h = pick-no 1 (suc (digit-count k (n / 10))) (le-ltb n 10 h)
 
 -- no number's text has more than ten digits
-count-most : (k n : ℕ) → digit-count k n ≤ k
+pub count-most : (k n : ℕ) → digit-count k n ≤ k
 count-most zero n = omega arith
 count-most (suc k) n = go (ltb n 10) (count-most k (n / 10))
   where

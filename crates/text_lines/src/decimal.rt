@@ -2,8 +2,10 @@
 ghost use mathlib.Core.Path.{_≡_};
 ghost use Prim.Native.Nat.{_+_, _≤_};
 ghost use lib.ListN.{length};
+ghost use Rattle.text_lines.specs.Decimal.{«digit-count», «most-digits», «last-digits», decimal, field};
+ghost use Rattle.text_lines.specs.Outcome.{put, «put-outcome»};
 ghost use Rattle.text_lines.specs.Written.{Wrote};
-ghost use Rattle.text_lines.specs.Decimal.{decimal, «digit-count», «most-digits»};
+use crate::bytes::has_room;
 
 // How many digits a number has.
 fn digits(number: u32) -> usize
@@ -18,12 +20,11 @@ fn digits(number: u32) -> usize
     count
 }
 
-// Writes a number, the last digit first; hands back the place after it.
-pub fn put_decimal(buffer: &mut [u8], at: usize, number: u32) -> usize
-    requires { ⌜ at + length (decimal number) ≤ length (now buffer) ⌝ }
-    ensures { λ r. ⌜ Wrote (now (buffer .entry)) (now (buffer .exit)) at (decimal number) r ⌝ }
+// Writes the last digits of a number, the last one first.
+fn put_digits(buffer: &mut [u8], at: usize, width: usize, number: u32)
+    requires { ⌜ at + width ≤ length (now buffer) ⌝ }
+    ensures { λ r. ⌜ Wrote (now (buffer .entry)) (now (buffer .exit)) at (last-digits width number) (at + width) ⌝ }
 {
-    let width = digits(number);
     let mut left = width;
     let mut rest = number;
     while 0 < left {
@@ -31,5 +32,29 @@ pub fn put_decimal(buffer: &mut [u8], at: usize, number: u32) -> usize
         buffer[at + left] = (rest % 10) as u8 + b'0';
         rest = rest / 10;
     }
+}
+
+// Writes a number; hands back the place after it.
+pub fn put_decimal(buffer: &mut [u8], at: usize, number: u32) -> usize
+    ensures { λ r. ⌜ put r (now (buffer .exit)) ≡ put-outcome (now (buffer .entry)) at (decimal number) ⌝ }
+{
+    let width = digits(number);
+    if !has_room(buffer.len(), at, width) {
+        return at;
+    }
+    put_digits(buffer, at, width, number);
     at + width
+}
+
+// Writes a number and the byte after it; hands back the place after that byte.
+pub fn put_field(buffer: &mut [u8], at: usize, number: u32, end: u8) -> usize
+    ensures { λ r. ⌜ put r (now (buffer .exit)) ≡ put-outcome (now (buffer .entry)) at (field number end) ⌝ }
+{
+    let width = digits(number);
+    if !has_room(buffer.len(), at, width + 1) {
+        return at;
+    }
+    put_digits(buffer, at, width, number);
+    buffer[at + width] = end;
+    at + width + 1
 }

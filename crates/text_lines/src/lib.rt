@@ -1,7 +1,8 @@
-// Text put into a lent buffer: bytes, decimal numbers, and a number with the byte after it.
+// Text put into a lent buffer: bytes, decimal numbers, and a number with the byte after it. Each function answers every argument: where
+// there is no room for the whole text, nothing is written and the place is handed back.
+mod bytes;
 mod decimal;
-mod lines;
 
+pub use bytes::put_bytes;
 pub use decimal::put_decimal;
-pub use lines::put_bytes;
-pub use lines::put_field;
+pub use decimal::put_field;

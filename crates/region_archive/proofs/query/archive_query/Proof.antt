@@ -1,62 +1,76 @@
-use mathlib.Core.Path.{sym, _∙_}
+use mathlib.Core.Path.{_≡_, sym, _∙_}
+use mathlib.Core.Bool.{Bool}
 use native.Mathlib.Omega.{arith}
-use lib.ListN.{replicate}
 use borrow.Author.Needs.{needs}
-use Rattle.region_graph.specs.Size.{regions}
-use Rattle.region_archive.proofs.QueryLaws.{query-refused, query-routed}
+use Rattle.region_graph.specs.Refusals.{not-refused}
+use Rattle.region_graph.specs.Lists.{pick}
+use Rattle.region_graph.specs.Record.{meaning}
+use Rattle.region_archive.specs.File.{FileMeaning, sets, read-number}
+use Rattle.region_archive.specs.Promise.{seen, hidden, query-answer}
+use Rattle.region_archive.proofs.QueryLaws.{query-refused, query-outside, query-unknown, query-told}
 use Rattle.region_archive.proofs.query.archive_query.Statement.{statement}
 use Rattle.region_archive.proofs.query.archive_query.Tie as tie
 
-read-requires : tie.Need-read-requires
-read-requires c κs = search needs
+-- an accepted read, and what its record means
+accepted : (c : tie.Else1) (f : FileMeaning (c .before .before .before .before .args .bytes .now)) → not-refused ≡ read-number f
+accepted c f = sym (c .if1 .left) ∙ c .before .before .read .ensures .says f .number
+
+means : (c : tie.Else1) (f : FileMeaning (c .before .before .before .before .args .bytes .now)) → meaning (c .before .before .read .result .graph) ≡ sets f
+means c f = c .before .before .read .ensures .says f .next
 
 returns : tie.Need-returns
-returns c = λ f. query-refused f (c .before .before .before .before .args .location) (c .before .before .before .before .args .kind) (c .before .before .before .before .args .item) (c .before .before .read .ensures .says f .number) (λ z. omega (arith, z, c .if1 .taken))
+returns c =
+    let s = c .before .before .before .before .args in
+    λ f. query-refused f (s .location) (s .kind) (s .item) (c .before .before .read .ensures .says f .number) (λ z. omega (arith, z, c .if1 .taken))
 
-slice-aggregate-route : tie.Need-slice-aggregate-route
-slice-aggregate-route c = search needs
-
-route-requires : tie.Need-route-requires
-route-requires c κs = c .before .before .before .before .read .ensures .valid
-
-enum-told : tie.Need-enum-told
-enum-told c = search needs
-
-enum-told-2 : tie.Need-enum-told-2
-enum-told-2 c = search needs
-
-enum-known-answer : tie.Need-enum-known-answer
-enum-known-answer c = search needs
+region-of-requires : tie.Need-region-of-requires
+region-of-requires c κs = c .before .before .before .read .ensures .valid
 
 returns-2 : tie.Need-returns-2
 returns-2 c =
-    λ f.
-    query-routed f (c .before .before .before .before .before .before .before .before .before .before .args .location) (c .before .before .before .before .before .before .before .before .before .before .args .kind) (c .before .before .before .before .before .before .before .before .before .before .args .item) (sym (c .before .before .before .before .before .before .if1 .left) ∙ c .before .before .before .before .before .before .before .before .read .ensures .says f .number) (c .before .before .before .before .before .before .before .before .read .ensures .says f .next) (replicate regions 0) _ (omega arith) (c .before .before .before .route .ensures)
-    (c .enum-told .given .1)
+    let a = c .before .before .before .before in
+    let s = a .before .before .before .before .args in
+    λ f. query-outside f (s .location) (s .kind) (s .item) (accepted a f) (means a f) (sym (c .before .before .region-of .ensures)) (c .enum-told .given .1)
 
 returns-3 : tie.Need-returns-3
 returns-3 c =
-    λ f.
-    query-routed f (c .before .before .before .before .before .before .before .before .before .before .args .location) (c .before .before .before .before .before .before .before .before .before .before .args .kind) (c .before .before .before .before .before .before .before .before .before .before .args .item) (sym (c .before .before .before .before .before .before .if1 .left) ∙ c .before .before .before .before .before .before .before .before .read .ensures .says f .number) (c .before .before .before .before .before .before .before .before .read .ensures .says f .next) (replicate regions 0) _ (omega arith) (c .before .before .before .route .ensures)
-    (c .enum-told2 .given .1)
+    let a = c .before .before .before .before .before .before in
+    let s = a .before .before .before .before .args in
+    λ f. query-unknown f (s .location) (s .kind) (s .item) (accepted a f) (means a f) (sym (c .before .before .before .before .region-of .ensures))
+    (c .before .before .place .given .1) (c .if2 .taken)
+
+seers-requires : tie.Need-seers-requires
+seers-requires c κs = c .before .before .before .before .before .before .before .before .read .ensures .valid
+
+-- the answer, by whether the region is in the set of those that see the item
+told : (c : tie.After-has) {t : Bool} → c .has .result ≡ t
+    → (let s = c .before .before .before .before .before .before .before .before .before .before .before .before .args in
+    (f : FileMeaning (s .bytes .now)) → pick t seen hidden ≡ query-answer f (s .location) (s .kind) (s .item))
+told c e =
+    let a = c .before .before .before .before .before .before .before .before in
+    let s = a .before .before .before .before .args in
+    λ f. query-told f (s .location) (s .kind) (s .item) (accepted a f) (means a f) (sym (c .before .before .before .before .before .before .region-of .ensures))
+    (c .before .before .before .before .place .given .1) (c .before .before .if2 .left) (a .before .before .read .ensures .valid .good)
+    (c .before .seers .ensures) (c .has .ensures) e
 
 returns-4 : tie.Need-returns-4
-returns-4 c =
-    λ f.
-    query-routed f (c .before .before .before .before .before .before .before .before .before .before .before .args .location) (c .before .before .before .before .before .before .before .before .before .before .before .args .kind) (c .before .before .before .before .before .before .before .before .before .before .before .args .item) (sym (c .before .before .before .before .before .before .before .if1 .left) ∙ c .before .before .before .before .before .before .before .before .before .read .ensures .says f .number) (c .before .before .before .before .before .before .before .before .before .read .ensures .says f .next) (replicate regions 0) _ (omega arith) (c .before .before .before .before .route .ensures)
-    (c .before .answer .given .1)
+returns-4 c = told (c .before) (c .if3 .taken)
+
+returns-5 : tie.Need-returns-5
+returns-5 c = told (c .before) (c .if3 .left)
 
 pub archive-query-spec : {M : Type 1} → statement M
 archive-query-spec =
     tie.close
     (tie.spec
-    read-requires
+    (λ c κs. search needs)
     returns
-    slice-aggregate-route
-    route-requires
-    enum-told
-    enum-told-2
-    enum-known-answer
+    region-of-requires
+    (λ c. search needs)
+    (λ c. search needs)
     returns-2
     returns-3
-    returns-4)
+    seers-requires
+    (λ c κs. search needs)
+    returns-4
+    returns-5)

@@ -6,6 +6,7 @@ use borrow.Author.Tests.{not-true, not-false}
 use lib.ListN.{length, take}
 use lib.Seq.{getD-take, take-all, length-take-le}
 use Rattle.region_graph.specs.Record.{provided-of}
+use Rattle.region_graph.proofs.Storing.{provided-filled}
 use Rattle.region_listing.specs.Listing.{joined-all}
 use Rattle.region_listing.specs.Counts.{numbers-in}
 use Rattle.region_listing.proofs.Collecting.{Joining, joining-room, joining-left, joining-took}
@@ -20,11 +21,10 @@ abbrev μ-loop : tie.MeasureT-loop
 μ-loop list items₀ n₀ count i₀ items n i = list .count - i
 
 loop-holds : tie.Need-loop-holds Inv-loop μ-loop
-unfolding numbers-in provided-of
+unfolding numbers-in
 loop-holds c =
-    let p = c .before .pre in
-    let n = c .before .args .t2 in (
-      sym (length-take-le (n .count) (n .items) (omega (arith, p .1 .0 .count, p .1 .0 .size))),
+    let p = c .before .pre in (
+      provided-filled (c .before .args .t2) (p .1 .0) .counted,
       record { size = p .0 .size; few = p .0 .count; room = p .1 .1; inside = omega arith; those = refl },
     )
 

@@ -1,7 +1,8 @@
 use borrow.Author.Needs.{needs}
 use mathlib.Core.Path.{refl}
 use native.Mathlib.Omega.{arith}
-use Rattle.region_graph.specs.Record.{provided-of}
+use Rattle.region_graph.specs.Record.{provided-of, store-provided}
+use Rattle.region_graph.proofs.Storing.{packages-stored, services-stored}
 use Rattle.region_listing.proofs.collection.provided_by.Statement.{statement}
 use Rattle.region_listing.proofs.collection.provided_by.Tie as tie
 
@@ -18,16 +19,18 @@ enum-told-3 : tie.Need-enum-told-3
 enum-told-3 c = search needs
 
 returns : tie.Need-returns
-unfolding provided-of
-returns c = rw (c .enum-told .given .1) (record { count = omega arith; size = refl }, refl)
+unfolding provided-of store-provided
+returns c = rw (c .enum-told .given .1) (record { stored = refl; good = omega arith }, refl)
 
 returns-2 : tie.Need-returns-2
-unfolding provided-of
-returns-2 c = rw (c .before .enum-told2 .given .1) (c .before .before .before .pre .packages, refl)
+returns-2 c =
+    let s = c .before .before .before in
+    rw (c .before .enum-told2 .given .1) (packages-stored (s .args .b) (s .pre), refl)
 
 returns-3 : tie.Need-returns-3
-unfolding provided-of
-returns-3 c = rw (c .before .enum-told3 .given .1) (c .before .before .before .pre .services, refl)
+returns-3 c =
+    let s = c .before .before .before in
+    rw (c .before .enum-told3 .given .1) (services-stored (s .args .b) (s .pre), refl)
 
 pub provided-by-spec : {M : Type 1} → statement M
 provided-by-spec =

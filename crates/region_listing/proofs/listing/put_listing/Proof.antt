@@ -1,95 +1,96 @@
-use mathlib.Core.Path.{sym, ap, _∙_}
-use Prim.Native.Nat.{_+_, _*_, _-_, _≤_}
+use mathlib.Core.Path.{_≡_, ap, _∙_}
+use Prim.Native.Nat.{_-_}
 use native.Mathlib.Omega.{arith}
 use borrow.Author.Needs.{needs}
-use lib.ListN.{length, take}
+use lib.ListN.{length}
 use lib.Seq.{take-all}
-use Rattle.region_graph.specs.Size.{most-bundles}
-use Rattle.region_graph.specs.Record.{meaning, no-bundle}
+use Rattle.region_graph.specs.Record.{meaning, bundles-of}
 use Rattle.text_lines.specs.Written.{Wrote}
 use Rattle.text_lines.proofs.Writes.{wrote-none, wrote-then, wrote-is, wrote-length}
+use Rattle.text_lines.proofs.Outcomes.{put-wrote}
 use Rattle.region_archive.specs.Bytes.{each}
-use Rattle.region_archive.proofs.Pieces.{each-next}
 use Rattle.region_listing.specs.Listing.{line, listing-text, header}
-use Rattle.region_listing.specs.Counts.{CollectedAll}
-use Rattle.region_listing.proofs.ListingLaws.{line-room}
+use Rattle.region_listing.proofs.Collecting.{in-places, places-stored, places-mean, places-count, places-few}
+use Rattle.region_listing.proofs.ListingLaws.{row, Lining, lining-region, lining-room, lining-more, rows-are, header-length, lines-few, legal-inside}
 use Rattle.region_listing.proofs.listing.put_listing.Statement.{statement}
 use Rattle.region_listing.proofs.listing.put_listing.Tie as tie
 
 abbrev Inv-loop : tie.InvT-loop
-Inv-loop buffer₀ graph bundles packages services count at₀ i₀ buffer at i =
-    (i ≤ length (meaning graph .bundles))
-    × CollectedAll bundles packages services (meaning graph)
-    × (at₀ + most-bundles * 25 ≤ length buffer₀)
-    × Wrote buffer₀ buffer at₀ (each (line (meaning graph)) (take i (meaning graph .bundles))) at
+Inv-loop buffer₀ bundles packages services places count at₀ i₀ buffer at i =
+    Lining (row bundles packages services) places count buffer₀ buffer at₀ at i
 
 abbrev μ-loop : tie.MeasureT-loop
-μ-loop buffer₀ graph bundles packages services count at₀ i₀ buffer at i = length (meaning graph .bundles) - i
+μ-loop buffer₀ bundles packages services places count at₀ i₀ buffer at i = count - i
 
-collect-requires : tie.Need-collect-requires Inv-loop μ-loop
-collect-requires c κs = search needs
+-- the header is written
+begun : (c : tie.After-put-bytes Inv-loop μ-loop)
+    → Wrote (c .before .before .before .before .before .before .before .before .before .args .buffer .now)
+    (c .put-bytes .last .0) 0 header (c .put-bytes .result)
+unfolding header
+begun c = put-wrote (c .put-bytes .ensures) (omega (arith, c .before .before .before .before .before .before .before .before .before .pre .1))
 
-collect-requires-2 : tie.Need-collect-requires-2 Inv-loop μ-loop
-collect-requires-2 c κs = search needs
+-- the bundles in the places are the graph's, and the rows of the counts its lines
+places-are : (c : tie.After-bundle-count Inv-loop μ-loop)
+    → bundles-of (in-places (c .before .bundle-places .result) (c .bundle-count .result))
+    ≡ meaning (c .before .before .before .before .before .before .args .graph) .bundles
+places-are c = places-mean (c .before .before .before .before .before .before .pre .0) (c .before .bundle-places .ensures) (c .bundle-count .ensures)
 
-collect-requires-3 : tie.Need-collect-requires-3 Inv-loop μ-loop
-collect-requires-3 c κs = search needs
-
-bundle-count-requires : tie.Need-bundle-count-requires Inv-loop μ-loop
-bundle-count-requires c κs = search needs
-
-slice-aggregate-put-bytes : tie.Need-slice-aggregate-put-bytes Inv-loop μ-loop
-slice-aggregate-put-bytes c = search needs
-
-put-bytes-requires : tie.Need-put-bytes-requires Inv-loop μ-loop
-put-bytes-requires c κs = search needs
+rows : (c : tie.After-bundle-count Inv-loop μ-loop)
+    → (let m = meaning (c .before .before .before .before .before .before .args .graph) in
+    each (row (c .before .before .before .before .seen .result) (c .before .before .before .seen2 .result) (c .before .before .seen3 .result))
+    (bundles-of (in-places (c .before .bundle-places .result) (c .bundle-count .result)))
+    ≡ each (line m) (m .bundles))
+rows c =
+    let s = c .before .before .before .before .before .before in
+    rows-are (meaning (s .args .graph)) (c .before .before .before .before .seen .ensures) (c .before .before .before .seen2 .ensures)
+    (c .before .before .seen3 .ensures) (s .pre .0 .good) (places-are c)
 
 loop-holds : tie.Need-loop-holds Inv-loop μ-loop
 loop-holds c =
-    let w = c .before .before .put-bytes in (
-      omega arith,
-      record { bundles = c .before .before .before .before .before .before .before .before .collect .ensures; packages = c .before .before .before .before .before .before .before .collect2 .ensures; services = c .before .before .before .before .before .before .collect3 .ensures },
-      omega (arith, w .ensures .ends, wrote-length (w .ensures), c .before .before .before .before .before .before .before .before .before .before .pre .1),
-      wrote-none (w .last .0) (w .result) (omega (arith, w .ensures .room, wrote-length (w .ensures))),
-    )
+    let w = c .before .before in
+    let n = w .before .before .before in
+    let s = n .before .before .before .before .before .before in
+    let m = meaning (s .args .graph) in
+    record {
+      reached = omega arith;
+      stored = places-stored (s .pre .0) (n .before .bundle-places .ensures) (n .bundle-count .ensures);
+      within = rw (places-are n) (legal-inside m (s .pre .0 .good));
+      room = omega (arith, ap length (rows n), header-length, lines-few m (s .pre .0 .good), s .pre .1, begun w .ends, wrote-length (begun w));
+      wrote = wrote-none (w .put-bytes .last .0) (w .put-bytes .result) (omega (arith, begun w .room, wrote-length (begun w)));
+    }
 
-put-line-requires : tie.Need-put-line-requires Inv-loop μ-loop
-put-line-requires c κs =
-    let s = c .before .before .before .before .before .before .before .before .before .before .before .before .before in
-    let l = c .before .before .loop in
-    let m = meaning (s .args .graph) in (
-      s .pre .0,
-      (
-        (l .inv .1, omega arith),
-        omega (arith, line-room m (s .pre .0 .good) (l .i) (omega arith), l .inv .2, l .inv .3 .ends, wrote-length (l .inv .3)),
-      ),
-    )
+array-copy-out-b : tie.Need-array-copy-out-b Inv-loop μ-loop
+array-copy-out-b c = omega (arith, places-few (c .before .loop .inv .stored))
 
-add-i : tie.Need-add-i Inv-loop μ-loop
-add-i c = search needs
+array-read-put-row : tie.Need-array-read-put-row Inv-loop μ-loop
+array-read-put-row c = lining-region (c .before .before .before .before .loop .inv) (omega arith) _
 
-loop-less : tie.Need-loop-less Inv-loop μ-loop
-loop-less c = search needs
+array-read-put-row-2 : tie.Need-array-read-put-row-2 Inv-loop μ-loop
+array-read-put-row-2 c = lining-region (c .before .before .before .before .loop .inv) (omega arith) _
+
+array-read-put-row-3 : tie.Need-array-read-put-row-3 Inv-loop μ-loop
+array-read-put-row-3 c = lining-region (c .before .before .before .before .loop .inv) (omega arith) _
+
+put-row-requires : tie.Need-put-row-requires Inv-loop μ-loop
+put-row-requires c κs = lining-room (c .before .before .before .before .loop .inv) (omega arith) _
 
 loop-again : tie.Need-loop-again Inv-loop μ-loop
 loop-again c =
-    let l = c .before .before .before .before .before .loop in
-    let m = meaning (c .before .before .before .before .before .before .before .before .before .before .before .before .before .before .before .before .args .graph) in (
-      omega arith,
-      l .inv .1,
-      l .inv .2,
-      wrote-is (sym (each-next (line m) (m .bundles) (l .i) no-bundle (omega arith))) (wrote-then (l .inv .3) (c .before .before .put-line .ensures)),
-    )
+    let w = c .before .before in
+    lining-more (w .before .before .before .before .before .loop .inv) (omega arith) _ (w .put-row .ensures)
 
 same-length : tie.Need-same-length Inv-loop μ-loop
-same-length c = wrote-length (c .before .loop .inv .3) ∙ wrote-length (c .before .before .before .before .put-bytes .ensures)
+same-length c = wrote-length (c .before .loop .inv .wrote) ∙ wrote-length (begun (c .before .before .before .before))
 
 returns : tie.Need-returns Inv-loop μ-loop
-unfolding listing-text header
+unfolding listing-text
 returns c =
     let l = c .before .loop in
-    let m = meaning (c .before .before .before .before .before .before .before .before .before .before .before .before .args .graph) in
-    wrote-then (c .before .before .before .before .put-bytes .ensures) (wrote-is (ap (each (line m)) (take-all (l .i) (m .bundles) (omega arith))) (l .inv .3))
+    let w = c .before .before .before .before in
+    let n = w .before .before .before in
+    let bs = bundles-of (in-places (n .before .bundle-places .result) (n .bundle-count .result)) in
+    let f = row (n .before .before .before .before .seen .result) (n .before .before .before .seen2 .result) (n .before .before .seen3 .result) in
+    wrote-then (begun w) (wrote-is (ap (each f) (take-all (l .i) bs (omega (arith, places-count (l .inv .stored)))) ∙ rows n) (l .inv .wrote))
 
 pub put-listing-spec : {M : Type 1} → statement M
 put-listing-spec =
@@ -97,16 +98,26 @@ put-listing-spec =
     (tie.spec
     Inv-loop
     μ-loop
-    collect-requires
-    collect-requires-2
-    collect-requires-3
-    bundle-count-requires
-    slice-aggregate-put-bytes
-    put-bytes-requires
+    (λ c κs. search needs)
+    (λ c κs. search needs)
+    (λ c κs. search needs)
+    (λ c κs. search needs)
+    (λ c κs. search needs)
+    (λ c. search needs)
+    (λ c κs. search needs)
     loop-holds
-    put-line-requires
-    add-i
-    loop-less
+    (λ c. search needs)
+    array-copy-out-b
+    (λ c. search needs)
+    (λ c. search needs)
+    array-read-put-row
+    (λ c. search needs)
+    array-read-put-row-2
+    (λ c. search needs)
+    array-read-put-row-3
+    put-row-requires
+    (λ c. search needs)
+    (λ c. search needs)
     loop-again
     same-length
     returns)

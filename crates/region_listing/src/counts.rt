@@ -1,0 +1,52 @@
+// For each region how many different items of a kind it sees.
+ghost use Prim.Native.Nat.{_<_, _^_};
+ghost use Rattle.region_graph.specs.Size.{regions};
+ghost use Rattle.region_graph.specs.Record.{Valid, meaning};
+ghost use Rattle.region_listing.specs.Counts.{CountsFit, CountedOnce, Counted};
+use crate::collection::collect;
+use region_graph::Graph;
+use region_graph::Item;
+use region_graph::region_set::difference;
+use region_graph::region_set::lowest;
+use region_graph::region_set::one;
+use region_graph::size::REGIONS;
+use region_routes::Kind;
+use region_routes::kind_number;
+use region_routes::seers;
+
+// Counts each member of a set once more.
+fn count_members(counts: [u32; REGIONS], set: u64) -> [u32; REGIONS]
+    requires { ⌜ CountsFit counts × (set < 2 ^ regions) ⌝ }
+    ensures { λ r. ⌜ CountedOnce counts set r ⌝ }
+{
+    let mut next = counts;
+    let mut left = set;
+    while left != 0 {
+        let n = lowest(left);
+        left = difference(left, one(n));
+        let at = n as usize;
+        next[at] = next[at] + 1;
+    }
+    next
+}
+
+// How many different items of a kind each region sees.
+pub fn seen(graph: Graph, kind: Kind) -> [u32; REGIONS]
+    requires { ⌜ Valid graph ⌝ }
+    ensures { λ r. ⌜ Counted (meaning graph) kind r ⌝ }
+{
+    let all = collect(graph, kind);
+    let items = all.items;
+    let count = all.count;
+    let code = kind_number(kind);
+    let mut counts = [0u32; REGIONS];
+    let mut i: usize = 0;
+    while i < count {
+        let number = items[i];
+        let set = seers(graph, Item { kind: code, number });
+        let next = count_members(counts, set);
+        counts = next;
+        i += 1;
+    }
+    counts
+}

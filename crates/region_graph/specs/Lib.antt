@@ -10,3 +10,4 @@ pub mod Items
 pub mod Record
 pub mod Places
 pub mod Promise
+pub mod Flat

@@ -1,8 +1,9 @@
 -- Facts about ascending lists, for any element and strict order; the orders of numbers, bundles and connections.
-use mathlib.Core.Path.{_≡_, refl, sym, _∙_}
-use mathlib.Core.Bool.{Bool, true, false, _&&_, _||_}
-use mathlib.Core.List.{List, [], _∷_}
-use Prim.Native.Nat.{ℕ, zero, suc, _+_, _-_, _≤_, _<_}
+use mathlib.Core.Path.{_≡_, refl, sym, ap, _∙_}
+use mathlib.Core.Bool.{Bool, true, false, _&&_, _||_, and-assoc}
+use mathlib.Core.List.{List, [], _∷_, _++_}
+use Prim.Native.Nat.{ℕ, zero, suc, _+_, _-_, _*_, _≤_, _<_}
+use native.Mathlib.Nat.{mul-le-mul-right}
 use native.Mathlib.Omega.{arith}
 use native.Mathlib.Decide.{decLt}
 use lib.Dec.{ltb, eqb}
@@ -81,6 +82,15 @@ module _ {A : Type 0} (before : A → A → Bool) where
         → ascends before (insert before x xs) ≡ true
     ascends-insert x xs h e = rising-ascends (insert before x xs) (rising-insert x xs h (ascends-rising xs e))
 
+-- a list put after another: the seam is where its first element joins
+pub ascends-append : {A : Type 0} (before : A → A → Bool) (xs : List A) (y : A) (ys : List A)
+    → ascends before (xs ++ (y ∷ ys)) ≡ (ascends before (xs ++ (y ∷ [])) && ascends before (y ∷ ys))
+ascends-append before [] y ys = refl
+ascends-append before (x ∷ []) y ys = sym (and-assoc (before x y) true (ascends before (y ∷ ys)))
+ascends-append before (x ∷ z ∷ xs) y ys =
+    ap (λ (t : Bool). before x z && t) (ascends-append before (z ∷ xs) y ys)
+    ∙ sym (and-assoc (before x z) (ascends before (z ∷ (xs ++ (y ∷ [])))) (ascends before (y ∷ ys)))
+
 -- the orders by one number
 
 strict-by : {A : Type 0} (key : A → ℕ) → Strict (λ x y. ltb (key x) (key y))
@@ -132,6 +142,25 @@ connections-differ a b n e =
     go (no h) (no k) (no i) (yes j) = false-true (sym e ∙ target-before a b (omega arith) j)
     go (no h) (no k) (no i) (no j) =
         false-true (sym n ∙ and-yes (eq-eqb (b .source) (a .source) (omega arith)) (eq-eqb (b .target) (a .target) (omega arith)))
+
+-- the order as that of one number, where targets are below a limit
+pub connection-order : (n : ℕ) (a b : Connection) → a .target < n → b .target < n
+    → connection-before a b ≡ ltb (a .source * n + a .target) (b .source * n + b .target)
+connection-order n a b h k = go (decLt (a .source) (b .source)) (decLt (b .source) (a .source)) (decLt (a .target) (b .target))
+  where
+    go : Dec (a .source < b .source) → Dec (b .source < a .source) → Dec (a .target < b .target)
+        → connection-before a b ≡ ltb (a .source * n + a .target) (b .source * n + b .target)
+    go (yes l) _ _ = source-before a b l ∙ sym (lt-ltb (a .source * n + a .target) (b .source * n + b .target) (omega (arith, mul-le-mul-right n l)))
+    go (no l) (yes m) _ =
+        rw (le-ltb (a .source) (b .source) (omega arith), ne-eqb (a .source) (b .source) (λ e. omega arith))
+        (sym (le-ltb (a .source * n + a .target) (b .source * n + b .target) (omega (arith, mul-le-mul-right n m))))
+    go (no l) (no m) (yes t) =
+        let e : a .source ≡ b .source = omega arith in
+        target-before a b e t ∙ sym (lt-ltb (a .source * n + a .target) (b .source * n + b .target) (omega (arith, ap (λ (s : ℕ). s * n) e)))
+    go (no l) (no m) (no t) =
+        let e : a .source ≡ b .source = omega arith in
+        rw (le-ltb (a .source) (b .source) (omega arith), eq-eqb (a .source) (b .source) e, le-ltb (a .target) (b .target) (omega arith))
+        (sym (le-ltb (a .source * n + a .target) (b .source * n + b .target) (omega (arith, ap (λ (s : ℕ). s * n) e))))
 
 -- a test of each number from the second on against the one before it
 

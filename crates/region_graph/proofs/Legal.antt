@@ -136,7 +136,7 @@ few-below n a [] h r f l = omega (arith, l)
 few-below n a (x ∷ xs) h r f l =
     omega (arith, few-below n (x + 1) xs (h .1) (r .1) (all-map (λ y. ltb x y ≡ true) (λ y. x + 1 ≤ y) (λ y e. omega (arith, ltb-true x y e)) xs (r .0)) (omega (arith, h .0)), f .0)
 
-below-sorted : {n : ℕ} {xs : List ℕ} → All (λ x. x < n) xs → ascends ltb xs ≡ true → Sorted ltb (λ x. x < n) n xs
+pub below-sorted : {n : ℕ} {xs : List ℕ} → All (λ x. x < n) xs → ascends ltb xs ≡ true → Sorted ltb (λ x. x < n) n xs
 below-sorted {n} {xs} h a =
     record {
       few = omega (arith, few-below n 0 xs h (ascends-rising ltb strict-numbers xs a) (all-map (λ x. x < n) (λ x. 0 ≤ x) (λ x l. omega arith) xs h) (omega arith));

@@ -5,5 +5,8 @@ pub mod Bits
 pub mod Arrays
 pub mod Legal
 pub mod Storing
+pub mod FlatLaws
 pub mod Views
+pub mod FlatLoops
+pub mod FlatModels
 pub mod WholeList

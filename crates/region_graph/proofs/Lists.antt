@@ -224,6 +224,15 @@ module _ {A : Type 0} where
       go true r = (h, k)
       go false r = (k .0, r)
 
+  -- lists put together
+  pub all-join : (P : A → Type 0) (xs ys : List A) → All P xs → All P ys → All P (xs ++ ys)
+  all-join P [] ys h k = k
+  all-join P (x ∷ xs) ys h k = (h .0, all-join P xs ys (h .1) k)
+
+  pub all-rest : (P : A → Type 0) (xs ys : List A) → All P (xs ++ ys) → All P ys
+  all-rest P [] ys h = h
+  all-rest P (x ∷ xs) ys h = all-rest P xs ys (h .1)
+
   pub all-at : (P : A → Type 0) (xs : List A) (i : ℕ) (d : A) → i < length xs → All P xs → P (getD xs i d)
   all-at P [] i d h a = absurd (omega arith)
   all-at P (x ∷ xs) zero d h a = a .0

@@ -13,7 +13,7 @@ use Rattle.region_graph.specs.Size.{regions, most-bundles, most-connecti
 use Rattle.region_graph.specs.Refusals.{not-refused}
 use Rattle.region_graph.specs.Lists.{All, member, keep, insert, count-from}
 use Rattle.region_graph.specs.Sets.{has, one, members, set-of}
-use Rattle.region_graph.specs.Model.{Model, Bundle, Filter, Part, Connection, Legal, LegalBundle, LegalConnection, NumberedPart, nothing}
+use Rattle.region_graph.specs.Model.{Model, Bundle, Filter, Part, Connection, Sorted, Legal, LegalBundle, LegalConnection, NumberedPart, nothing}
 use Rattle.region_graph.specs.Calls.{Call, number, after, accepted, Words}
 use Rattle.region_graph.specs.Record
 use Rattle.region_graph.specs.Record.{places, number-places, Stored, Valid, store, meaning, store-numbers, numbers-of, store-provided, provided-of, store-part, part-in, store-bundle, bundle-in, store-bundles, bundles-of, store-connection, connection-in, store-connections, connections-of, no-bundle, no-connection}
@@ -208,18 +208,18 @@ pub filled-connections : {items : List StoredConnection} {count : ℕ} {cs : Lis
 unfolding store-connections
 filled-connections h = λ i. record { count = h .counted i; items = h .shape i }
 
-all-counted : (P : ℕ → Type 0) (a k : ℕ) → ((n : ℕ) → n < a + k → P n) → All P (count-from a k)
+pub all-counted : (P : ℕ → Type 0) (a k : ℕ) → ((n : ℕ) → n < a + k → P n) → All P (count-from a k)
 all-counted P a zero f = tt
 all-counted P a (suc k) f = (f a (omega arith), all-counted P (suc a) k (λ n h. f n (omega arith)))
 
--- the regions that a set of a legal model's regions has
-regions-back : (m : Model) → Legal m → members (set-of (λ r. member r (m .regions))) ≡ m .regions
+-- the regions that a set of regions has
+pub regions-back : (rs : List ℕ) → Sorted ltb (λ r. r < regions) regions rs → members (set-of (λ r. member r rs)) ≡ rs
 unfolding members
-regions-back m h =
-    keep-same (has (set-of (λ r. member r (m .regions)))) (λ r. member r (m .regions)) (count-from 0 regions)
-    (all-counted (λ r. has (set-of (λ s. member s (m .regions))) r ≡ member r (m .regions)) 0 regions
-    (λ r l. has-set (λ s. member s (m .regions)) r ∙ rw (lt-ltb r regions (omega arith))))
-    ∙ members-back regions (m .regions) (h .regions-legal .each) (h .regions-legal .ascend)
+regions-back rs h =
+    keep-same (has (set-of (λ r. member r rs))) (λ r. member r rs) (count-from 0 regions)
+    (all-counted (λ r. has (set-of (λ s. member s rs)) r ≡ member r rs) 0 regions
+    (λ r l. has-set (λ s. member s rs) r ∙ rw (lt-ltb r regions (omega arith))))
+    ∙ members-back regions rs (h .each) (h .ascend)
 
 -- legal lists are short enough for their places
 short-part : (p : Part) → NumberedPart p → ShortPart p
@@ -241,7 +241,7 @@ short-connections {m} h = all-map (LegalConnection (m .regions)) ShortConnection
 
 pub meaning-back : (m : Model) → Legal m → meaning (store m) ≡ m
 unfolding meaning store
-meaning-back m h = λ i. record { regions = regions-back m h i; bundles = bundles-back (m .bundles) i; connections = connections-back (m .connections) (short-connections h) i }
+meaning-back m h = λ i. record { regions = regions-back (m .regions) (h .regions-legal) i; bundles = bundles-back (m .bundles) i; connections = connections-back (m .connections) (short-connections h) i }
 
 -- two valid records with one meaning are equal
 pub meaning-injective : (g h : Graph) → Valid g → Valid h → meaning g ≡ meaning h → g ≡ h

@@ -102,7 +102,7 @@ module _ (l : ℕ) where
 
 module _ {A : Type 0} (q : A → ℕ → Bool) (xs : List A) (i : ℕ) (d : A) (h : i < length xs) where
   -- an element that leads to one region adds it
-  set-took : (r : ℕ) → ((n : ℕ) → q (getD xs i d) n ≡ eqb r n)
+  pub set-took : (r : ℕ) → ((n : ℕ) → q (getD xs i d) n ≡ eqb r n)
       → bitOr (set-of (λ n. any (λ x. q x n) (take i xs))) (one r) ≡ set-of (λ n. any (λ x. q x n) (take (i + 1) xs))
   set-took r f =
       set-join (λ n. any (λ x. q x n) (take i xs)) r

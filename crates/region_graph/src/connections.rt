@@ -6,6 +6,7 @@ ghost use Prim.Native.Nat.{_<_, _≤_};
 ghost use lib.ListN.{length, take, drop};
 ghost use Rattle.region_graph.specs.Size.{«most-connections»};
 ghost use Rattle.region_graph.specs.Lists.{keep, position};
+ghost use Rattle.region_graph.specs.Model.{Part};
 ghost use Rattle.region_graph.specs.Calls.{«part-within», «part-ascends», «filter-within», «filter-ascends»};
 ghost use Rattle.region_graph.specs.Record.{«store-part», «store-connection», «connection-in», «no-connection», «store-connections», «connections-of»};
 ghost use Rattle.region_graph.specs.Places.{ConnectionStored, ConnectionsStored, «connection-meets»};
@@ -98,15 +99,22 @@ pub fn filter_ascending(
     false
 }
 
+// A part that is everything.
+pub fn everything() -> Numbers
+    ensures { λ r. ⌜ r ≡ store-part Part.everything ⌝ }
+{
+    Numbers {
+        count: EVERYTHING,
+        items: [0u32; MOST_LISTED],
+    }
+}
+
 pub fn part_copied(all: bool, list: &[u32]) -> Numbers
     requires { ⌜ part-within (part all (now list)) ≡ true ⌝ }
     ensures { λ r. ⌜ r ≡ store-part (part all (now (list .entry))) ⌝ }
 {
     if all {
-        return Numbers {
-            count: EVERYTHING,
-            items: [0u32; MOST_LISTED],
-        };
+        return everything();
     }
     copied(list)
 }

@@ -2,6 +2,7 @@
 mod bundles;
 mod calls;
 mod connections;
+pub mod flat;
 mod numbers;
 pub mod refusals;
 pub mod region_set;

@@ -1,10 +1,10 @@
-use mathlib.Core.Path.{_≡_, refl}
+use borrow.Author.Needs.{needs}
 use borrow.Author.Tests.{leb-true}
 use Rattle.region_graph.proofs.connections.part_copied.Statement.{statement}
 use Rattle.region_graph.proofs.connections.part_copied.Tie as tie
 
 returns : tie.Need-returns
-returns c = rw (c .if1 .taken) refl
+returns c = rw (c .before .if1 .taken) (c .everything .ensures)
 
 copied-requires : tie.Need-copied-requires
 copied-requires c κs = leb-true _ _ (rw (c .if1 .left) at (c .before .before .pre))
@@ -13,4 +13,4 @@ returns-2 : tie.Need-returns-2
 returns-2 c = rw (c .before .if1 .left) (c .copied .ensures)
 
 pub part-copied-spec : {M : Type 1} → statement M
-part-copied-spec = tie.close (tie.spec returns copied-requires returns-2)
+part-copied-spec = tie.close (tie.spec (λ c κs. search needs) returns copied-requires returns-2)

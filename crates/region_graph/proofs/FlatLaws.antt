@@ -1,0 +1,197 @@
+-- Graphs as flat lists of numbers: what is found at a place and in a row.
+use mathlib.Core.Path.{_≡_, refl, sym, ap, _∙_, subst}
+use mathlib.Core.Bool.{Bool, true, false, not, _&&_, _||_, and-false}
+use mathlib.Core.List.{List}
+use Prim.Native.Nat.{ℕ, zero, suc, _+_, _-_, _*_, _≤_, _<_}
+use native.Mathlib.Omega.{arith}
+use native.Mathlib.Decide.{decLt}
+use lib.Dec.{eqb, ltb}
+use lib.ListN.{length, getD, take, drop, length-drop}
+use lib.Seq.{length-take-le, getD-take, getD-drop}
+use borrow.Author.Tests.{eqb-true, eq-eqb, ltb-true}
+use Rattle.region_graph.specs.Size.{regions, most-provided, most-listed, all-sign}
+use Rattle.region_graph.specs.Lists.{All, ascends, member, count-from}
+use Rattle.region_graph.specs.Sets.{has, members}
+use Rattle.region_graph.specs.Model.{Bundle, Part, Connection, Word, Numbered, NumberedPart, LegalBundle, LegalConnection}
+use Rattle.region_graph.specs.Record.{store-numbers, store-provided, store-part, store-bundle, store-connection}
+use Rattle.region_graph.specs.Flat.{FlatPart}
+use Rattle.region_graph.specs.Found.{Found, FlatList, FlatBundle, FlatConnection}
+use Rattle.region_graph.specs.declared.numbers.Numbers.{Numbers}
+use Rattle.region_graph.specs.declared.numbers.Provided.{Provided}
+use Rattle.region_graph.proofs.Lists.{false-true, all-of, all-kept, member-kept, and-fst}
+use Rattle.region_graph.proofs.Ascending.{or-right}
+use Rattle.region_graph.proofs.Storing.{all-counted}
+
+-- a list at a place, and its numbers as a part of the row
+
+abbrev span : List ℕ → ℕ → ℕ → List ℕ
+span row at count = take (at + 1 + count - (at + 1)) (drop (at + 1) row)
+
+span-take : (row : List ℕ) (at count : ℕ) → span row at count ≡ take count (drop (at + 1) row)
+span-take row at count =
+    let e : at + 1 + count - (at + 1) ≡ count = omega arith in
+    ap (λ (n : ℕ). take n (drop (at + 1) row)) e
+
+module _ (row : List ℕ) (at : ℕ) where
+  pub list-same : (xs ys : List ℕ) → FlatList row at xs → FlatList row at ys → xs ≡ ys
+  list-same xs ys h k = sym (h .1) ∙ ap (λ (n : ℕ). take n (drop (at + 1) row)) (sym (h .0) ∙ k .0) ∙ k .1
+
+  module _ (most count : ℕ) (c : count ≡ getD row at 0) where
+    -- a count past the limit
+    pub list-long : most < count → Found length (Numbered most) (FlatList row at) false 0
+    list-long l = Found.none (λ ns g h. omega (arith, g .few, h .0)) refl
+
+    -- the numbers that the count says
+    pub list-found : {ok : Bool} → count ≤ most → at + (most + 1) ≤ length row → ((i : ℕ) → Word (getD row i 0))
+        → ok ≡ ascends ltb (span row at count) → Found length (Numbered most) (FlatList row at) ok count
+    list-found {ok} l room words e = go ok (e ∙ ap (ascends ltb) (span-take row at count))
+      where
+        ns : List ℕ
+        ns = take count (drop (at + 1) row)
+
+        long : length ns ≡ count
+        long = length-take-le count (drop (at + 1) row) (rw length-drop (omega arith))
+
+        is : FlatList row at ns
+        is = (sym (long ∙ c), ap (λ (n : ℕ). take n (drop (at + 1) row)) long)
+
+        each : All Word ns
+        each =
+            all-of Word 0 ns (λ i h.
+            subst Word (sym (getD-take count (drop (at + 1) row) i 0 (omega (arith, long)) ∙ getD-drop (at + 1) row i 0)) (words (at + 1 + i)))
+
+        go : (b : Bool) → b ≡ ascends ltb ns → Found length (Numbered most) (FlatList row at) b count
+        go true t = Found.found ns (record { few = omega (arith, long); each = each; ascend = sym t }) is refl (sym long)
+        go false t = Found.none (λ ys g h. false-true (t ∙ ap (ascends ltb) (list-same ns ys is h) ∙ g .ascend)) refl
+
+  -- and what is stored of them
+  pub list-stored : {B : Type 0} {put : List ℕ → B} {Good : List ℕ → Type 0} {ok : Bool} {b : B} {count : ℕ} → b ≡ put (span row at count)
+      → Found length Good (FlatList row at) ok count → Found put Good (FlatList row at) ok b
+  list-stored {put = put} {count = count} e (Found.found ns g h t f) =
+      Found.found ns g h t (e ∙ ap put (span-take row at count) ∙ ap (λ (n : ℕ). put (take n (drop (at + 1) row))) f ∙ ap put (h .1))
+  list-stored e (Found.none f t) = Found.none f t
+
+  -- a part at a place
+
+  pub part-all : {b : Numbers} → getD row at 0 ≡ all-sign → b ≡ store-part Part.everything → Found store-part NumberedPart (FlatPart row at) true b
+  part-all e f = Found.found Part.everything tt e refl f
+
+  pub part-listed : {ok : Bool} {b : Numbers} → (getD row at 0 ≡ all-sign → ⊥) → Found store-numbers (Numbered most-listed) (FlatList row at) ok b
+      → Found store-part NumberedPart (FlatPart row at) ok b
+  part-listed n (Found.found ns g h t f) = Found.found (Part.listed ns) g h t f
+  part-listed n (Found.none f t) = Found.none none t
+    where
+      none : (p : Part) → NumberedPart p → FlatPart row at p → ⊥
+      none (Part.listed ns) g h = f ns g h
+      none Part.everything g h = n h
+
+  pub part-same : (p q : Part) → NumberedPart p → NumberedPart q → FlatPart row at p → FlatPart row at q → p ≡ q
+  part-same (Part.listed xs) (Part.listed ys) g l h k = ap Part.listed (list-same xs ys h k)
+  part-same (Part.listed xs) Part.everything g l h k = absurd (omega (arith, g .few, h .0))
+  part-same Part.everything (Part.listed ys) g l h k = absurd (omega (arith, l .few, k .0))
+  part-same Part.everything Part.everything g l h k = refl
+
+-- the members of a set as a list
+
+counted-member : (k a n : ℕ) → a ≤ n → n < a + k → member n (count-from a k) ≡ true
+counted-member zero a n l h = absurd (omega arith)
+counted-member (suc k) a n l h = go (decLt a n) (counted-member k (suc a) n)
+  where
+    go : Dec (a < n) → (suc a ≤ n → n < suc a + k → member n (count-from (suc a) k) ≡ true) → (eqb n a || member n (count-from (suc a) k)) ≡ true
+    go (yes m) f = or-right (eqb n a) (f m (omega arith))
+    go (no m) f = rw (eq-eqb n a (omega arith))
+
+pub member-members : (x r : ℕ) → member r (members x) ≡ has x r
+unfolding members
+member-members x r = member-kept (has x) r (count-from 0 regions) ∙ go (has x r) refl
+  where
+    go : (b : Bool) → has x r ≡ b → (member r (count-from 0 regions) && b) ≡ b
+    go true e = rw (counted-member regions 0 r (omega arith) (ltb-true r regions (and-fst (ltb r regions) _ e)))
+    go false e = and-false (member r (count-from 0 regions))
+
+pub members-small : (x : ℕ) → All (λ r. r < regions) (members x)
+unfolding members
+members-small x =
+    all-kept (has x) (λ r. r < regions) (λ r. r < regions) (λ r _ h. h) (count-from 0 regions)
+    (all-counted (λ r. r < regions) 0 regions (λ n h. omega arith))
+
+-- a row: two numbers, then parts
+
+module _ (x : ℕ) where
+  -- the test of a region
+  region-in : {n r : ℕ} → true ≡ has x n → n ≡ r → member r (members x) ≡ true
+  region-in {n} {r} e f = member-members x r ∙ ap (has x) (sym f) ∙ sym e
+
+  region-out : {A : Type 0} {n r : ℕ} → false ≡ has x n → n ≡ r → member r (members x) ≡ true → A
+  region-out {n = n} {r = r} e f h = false-true (e ∙ ap (has x) f ∙ sym (member-members x r) ∙ h)
+
+  module _ (row : List ℕ) where
+    pub bundle-found : {p s : Provided} {a b t : Bool} → Word (getD row 0 0)
+        → Found store-provided (Numbered most-provided) (FlatList row 2) a p
+        → Found store-provided (Numbered most-provided) (FlatList row (2 + (most-provided + 1))) b s → t ≡ has x (getD row 1 0)
+        → Found store-bundle (LegalBundle (members x)) (FlatBundle row) ((a && b) && t)
+        (record { location = getD row 0 0; region = getD row 1 0; packages = p; services = s })
+    bundle-found w (Found.none f u) s t = Found.none (λ y g h. f (y .packages) (g .packages) (h .parts .0)) (rw u)
+    bundle-found w (Found.found ps gp hp u e) (Found.none f v) t = Found.none (λ y g h. f (y .services) (g .services) (h .parts .1 .0)) (rw (u, v))
+    bundle-found {t = true} w (Found.found ps gp hp u e) (Found.found ss gs hs v f) t =
+        Found.found (record { location = getD row 0 0; region = getD row 1 0; packages = ps; services = ss })
+        (record { location = w; region = region-in t refl; packages = gp; services = gs })
+        (record { first = refl; second = refl; parts = (hp, (hs, tt)) }) (rw (u, v))
+        (λ i. record { location = getD row 0 0; region = getD row 1 0; packages = e i; services = f i })
+    bundle-found {t = false} w (Found.found ps gp hp u e) (Found.found ss gs hs v f) t =
+        Found.none (λ y g h. region-out t (h .second) (g .region)) (rw (u, v))
+
+    pub connection-found : {n p s : Numbers} {a b c : Bool} (t u : Bool)
+        → Found store-numbers (Numbered most-listed) (FlatList row 2) a n
+        → Found store-part NumberedPart (FlatPart row (2 + (most-listed + 1))) b p
+        → Found store-part NumberedPart (FlatPart row (2 + 2 * (most-listed + 1))) c s → t ≡ has x (getD row 0 0) → u ≡ has x (getD row 1 0)
+        → Found store-connection (LegalConnection (members x)) (FlatConnection row)
+        (((a && b) && c) && ((t && u) && not (eqb (getD row 0 0) (getD row 1 0))))
+        (record { source = getD row 0 0; target = getD row 1 0; bundles = n; packages = p; services = s })
+    connection-found t u (Found.none f v) p s i j = Found.none (λ y g h. f (y .filter .bundles) (g .filter .bundles) (h .parts .0)) (rw v)
+    connection-found t u (Found.found ns gn hn v e) (Found.none f w) s i j =
+        Found.none (λ y g h. f (y .filter .packages) (g .filter .packages) (h .parts .1 .0)) (rw (v, w))
+    connection-found t u (Found.found ns gn hn v e) (Found.found ps gp hp w f) (Found.none k z) i j =
+        Found.none (λ y g h. k (y .filter .services) (g .filter .services) (h .parts .1 .1 .0)) (rw (v, w, z))
+    connection-found {n} {p} {s} t u (Found.found ns gn hn v e) (Found.found ps gp hp w f) (Found.found ss gs hs z k) i j =
+        rw (v, w, z) (go t u (eqb (getD row 0 0) (getD row 1 0)) i j refl)
+      where
+        go : (t u d : Bool) → t ≡ has x (getD row 0 0) → u ≡ has x (getD row 1 0) → eqb (getD row 0 0) (getD row 1 0) ≡ d
+            → Found store-connection (LegalConnection (members x)) (FlatConnection row) ((t && u) && not d)
+            (record { source = getD row 0 0; target = getD row 1 0; bundles = n; packages = p; services = s })
+        go false u d i j l = Found.none (λ y g h. region-out i (h .first) (g .source)) refl
+        go true false d i j l = Found.none (λ y g h. region-out j (h .second) (g .target)) refl
+        go true true true i j l =
+            Found.none (λ y g h. false-true (sym (g .differ) ∙ eq-eqb _ _ (sym (h .first) ∙ eqb-true _ _ l ∙ h .second))) refl
+        go true true false i j l =
+            Found.found
+            (record { source = getD row 0 0; target = getD row 1 0; filter = record { bundles = ns; packages = ps; services = ss } })
+            (record { source = region-in i refl; target = region-in j refl; differ = l; filter = record { bundles = gn; packages = gp; services = gs } })
+            (record { first = refl; second = refl; parts = (hn, (hp, (hs, tt))) }) refl
+            (λ q. record { source = getD row 0 0; target = getD row 1 0; bundles = e q; packages = f q; services = k q })
+
+-- a row is that of one bundle or connection
+
+pub bundle-same : {rs ts : List ℕ} (row : List ℕ) (a b : Bundle) → LegalBundle rs a → LegalBundle ts b → FlatBundle row a → FlatBundle row b → a ≡ b
+bundle-same row a b g l h k = λ i. record {
+  location = (sym (h .first) ∙ k .first) i;
+  region = (sym (h .second) ∙ k .second) i;
+  packages = list-same row 2 (a .packages) (b .packages) (h .parts .0) (k .parts .0) i;
+  services = list-same row (2 + (most-provided + 1)) (a .services) (b .services) (h .parts .1 .0) (k .parts .1 .0) i;
+}
+
+pub connection-same : {rs ts : List ℕ} (row : List ℕ) (a b : Connection) → LegalConnection rs a → LegalConnection ts b
+    → FlatConnection row a → FlatConnection row b → a ≡ b
+connection-same row a b g l h k = λ i. record {
+  source = (sym (h .first) ∙ k .first) i;
+  target = (sym (h .second) ∙ k .second) i;
+  filter = record {
+    bundles = list-same row 2 (a .filter .bundles) (b .filter .bundles) (h .parts .0) (k .parts .0) i;
+    packages =
+        part-same row (2 + (most-listed + 1)) (a .filter .packages) (b .filter .packages) (g .filter .packages) (l .filter .packages) (h .parts .1 .0)
+        (k .parts .1 .0) i;
+    services =
+        part-same row (2 + 2 * (most-listed + 1)) (a .filter .services) (b .filter .services) (g .filter .services) (l .filter .services)
+        (h .parts .1 .1 .0) (k .parts .1 .1 .0) i;
+  };
+}

@@ -5,16 +5,11 @@ use mathlib.Core.List.{List, [], _∷_, _++_}
 use Prim.Native.Nat.{ℕ, zero, suc, _+_, _-_, _/_, _%_, _^_, _≤_, _<_}
 use native.Mathlib.Omega.{arith}
 use borrow.Author.Tests.{not-true, not-false}
-use lib.ListN.{length, take, drop, set, length-set}
-use lib.Seq.{length-take-le}
-use Rattle.region_graph.specs.Size.{most-listed}
-use Rattle.region_graph.specs.Lists.{All}
-use Rattle.region_graph.specs.Model.{Word}
+use lib.ListN.{length, take, drop, set}
 use Rattle.region_archive.specs.Bytes.{big, each, counted}
 use Rattle.region_archive.specs.Rows.{Parsed, Unparsed, Answer}
-use Rattle.region_archive.specs.Entries.{Listed}
 use Rattle.region_archive.specs.declared.numbers.NumberAt.{NumberAt}
-use Rattle.region_archive.proofs.Delimits.{big-same, Run, run-more, counted-run, counted-stuck}
+use Rattle.region_archive.proofs.Delimits.{big-same}
 
 module _ {A : Type 0} (good : A → Type 0) (bytes : A → List ℕ) (s : List ℕ) (at : ℕ) where
   pub answer-yes : {b : Bool} (x : A) (next : ℕ) → b ≡ true → Answer good bytes s at b x next → Parsed good bytes s at x next
@@ -88,35 +83,3 @@ take-set (y ∷ l) zero x h = refl
 take-set {A} (y ∷ l) (suc n) x h =
     let e : suc n + 1 ≡ suc (n + 1) = omega arith in
     ap (λ (k : ℕ). take k (y ∷ set l n x)) e ∙ ap (λ (t : List A). y ∷ t) (take-set l n x (omega arith))
-
--- the first n places of an array hold numbers that stand at a place
-pub record Numbering (s : List ℕ) (mid n : ℕ) (items : List ℕ) (to : ℕ) : Type 0 where
-  pub size : length items ≡ most-listed
-  pub run : Run Word (big 4) (big-same 4) s mid (take n items) to
-
-pub numbering-more : {s : List ℕ} {mid n : ℕ} {items : List ℕ} {to : ℕ} → Numbering s mid n items to → n < most-listed → {x next : ℕ}
-    → Parsed Word (big 4) s to x next → Numbering s mid (n + 1) (set items n x) next
-numbering-more {s} {mid} {n} {items} {to} g h {x} {next} p =
-    record {
-      size = length-set items n x ∙ g .size;
-      run = subst (λ (l : List ℕ). Run Word (big 4) (big-same 4) s mid l next) (sym (take-set items n x (omega (arith, g .size)))) (run-more Word (big 4) (big-same 4) s mid (g .run) p);
-    }
-
-pub numbering-length : {s : List ℕ} {mid n : ℕ} {items : List ℕ} {to : ℕ} → Numbering s mid n items to → n ≤ most-listed → length (take n items) ≡ n
-numbering-length {n = n} {items} g h = length-take-le n items (omega (arith, g .size))
-
--- a list of numbers in an archive
-abbrev pub list-words : (xs : List ℕ) → Listed xs → All Word xs
-list-words xs h = h .words
-
-module _ (s : List ℕ) (at : ℕ) {total mid : ℕ} (p : Count most-listed (omega arith) s at total mid) where
-  pub list-end : {n : ℕ} {items : List ℕ} {to : ℕ} → Numbering s mid n items to → n ≡ total → Parsed Listed (counted (big 4)) s at (take n items) to
-  list-end {n} {items} {to} g e =
-      let l : length (take n items) ≡ n = numbering-length g (omega (arith, p .is-good)) in
-      counted-run Word (big 4) (big-same 4) Listed list-words s at total mid (count-byte most-listed (omega arith) s at p) (g .run) (p .ends) (sym (l ∙ e))
-      (record { few = omega (arith, p .is-good); words = g .run .every })
-
-  pub list-stuck : {n : ℕ} {items : List ℕ} {to : ℕ} → Numbering s mid n items to → n < total → Unparsed Word (big 4) s to → Unparsed Listed (counted (big 4)) s at
-  list-stuck {n} g h u =
-      counted-stuck Word (big 4) (big-same 4) Listed list-words s at total mid (count-byte most-listed (omega arith) s at p) (g .run)
-      (omega (arith, numbering-length g (omega (arith, p .is-good)))) u

@@ -1,26 +1,30 @@
 -- The sections of a body, read one after the other.
 use mathlib.Core.Path.{_≡_, refl, sym, ap, _∙_, subst}
 use mathlib.Core.Bool.{Bool, true, false, not}
-use mathlib.Core.List.{List, [], _++_, append-assoc}
+use mathlib.Core.List.{List, [], _++_, append-nil, append-assoc}
 use Prim.Native.Nat.{ℕ, _+_, _≤_, _<_}
 use native.Mathlib.Omega.{arith}
 use borrow.Author.Tests.{not-true, not-false}
-use lib.ListN.{length, drop, length-append}
-use Rattle.region_graph.specs.Size.{regions}
+use lib.ListN.{length, take, drop, length-append, length-drop}
+use Rattle.region_graph.specs.Refusals.{broken-layout}
+use Rattle.region_graph.specs.Sets.{members}
 use Rattle.region_graph.specs.Model.{Model, Bundle, Connection, Legal}
-use Rattle.region_graph.specs.Record.{Valid, meaning}
-use Rattle.region_graph.specs.declared.Graph.{Graph}
+use Rattle.region_graph.specs.Promise.{Empty}
+use Rattle.region_graph.specs.Flat.{Flat, FlatModel, Made}
+use Rattle.region_graph.specs.declared.Changed.{Changed}
+use Rattle.region_graph.proofs.FlatModels.{flat-made}
 use Rattle.region_archive.specs.Bytes.{big, counted}
 use Rattle.region_archive.specs.Image.{body}
-use Rattle.region_archive.specs.Rows.{Parsed, Unparsed, Answer, Row}
-use Rattle.region_archive.specs.Entries.{record-bytes, section-bytes, key, most, LegalElem, filled, elements}
-use Rattle.region_archive.specs.Sections.{Stands, StandsOr, RegionsRead, SectionRead, BodyRead}
+use Rattle.region_archive.specs.Rows.{Parsed, Unparsed, Stands, StandsOr}
+use Rattle.region_archive.specs.Entries.{Elem, record-bytes, section-bytes, row-width, FlatElem, elements}
+use Rattle.region_archive.specs.Sections.{RegionsRead, SectionRead, BodyRead, whole, broken}
 use Rattle.region_archive.specs.declared.entries.Section.{Section}
 use Rattle.region_archive.specs.declared.entries.Section.the-variants as Section
+use Rattle.region_archive.specs.declared.sections.RegionsAt.{RegionsAt}
 use Rattle.region_archive.specs.declared.sections.SectionAt.{SectionAt}
 use Rattle.region_archive.proofs.Records.{body-sections}
-use Rattle.region_archive.proofs.Taking.{only, legal-rows, rows-legal}
-use Rattle.region_archive.proofs.OneImage.{RegionRow, SectionRow, regions-same, section-same}
+use Rattle.region_archive.proofs.Taking.{legal-rows, rows-legal}
+use Rattle.region_archive.proofs.OneImage.{RegionRow, SectionRow, regions-same, section-same, body-same}
 
 -- a body, as its three sections
 split : (m : Model) (r : List ℕ)
@@ -76,74 +80,85 @@ module _ (s : List ℕ) (at : ℕ) where
           rows Section.Connections = t .is-good
 
 -- the answers of the three functions
-stands : {A : Type 0} (good : A → Type 0) (key : A → ℕ) (most : ℕ) (bytes : A → List ℕ) (with : List A → Model) (s : List ℕ) (at : ℕ) (r : SectionAt) (b : Bool)
-    → not b ≡ false → StandsOr good key most bytes with s at r b → Stands good key most bytes with s at r
-stands good key most bytes with s at r b e a = subst (StandsOr good key most bytes with s at r) (not-false b e) a
+module _ {A : Type 0} (good : A → Type 0) (bytes : A → List ℕ) (s : List ℕ) (at : ℕ) (b : Bool) (is : A → Type 0) (next : ℕ) where
+  pub value-stands : not b ≡ false → StandsOr good bytes s at b is next → Stands good bytes s at is next
+  value-stands e a = subst (λ (ok : Bool). StandsOr good bytes s at ok is next) (not-false b e) a
 
-missing : {A : Type 0} (good : A → Type 0) (key : A → ℕ) (most : ℕ) (bytes : A → List ℕ) (with : List A → Model) (s : List ℕ) (at : ℕ) (r : SectionAt) (b : Bool)
-    → not b ≡ true → StandsOr good key most bytes with s at r b → Unparsed (Row good key most) (counted bytes) s at
-missing good key most bytes with s at r b e a = subst (StandsOr good key most bytes with s at r) (not-true b e) a
+  pub value-fails : not b ≡ true → StandsOr good bytes s at b is next → Unparsed good bytes s at
+  value-fails e a = subst (λ (ok : Bool). StandsOr good bytes s at ok is next) (not-true b e) a
 
-module _ {s : List ℕ} {at : ℕ} {r : SectionAt} (a : RegionsRead s at r) where
-  pub regions-stand : not (r .ok) ≡ false → Stands (λ n. n < regions) (λ n. n) regions (big 1) only s at r
-  regions-stand e = stands (λ n. n < regions) (λ n. n) regions (big 1) only s at r (r .ok) e (a .answer)
+module _ {s : List ℕ} {at : ℕ} {list : List ℕ} {x : RegionsAt} (a : RegionsRead s at list x) where
+  pub regions-stand : not (x .ok) ≡ false → Stands RegionRow (counted (big 1)) s at (λ rs. (take (x .count) list ≡ rs) × (members (x .set) ≡ rs)) (x .next)
+  regions-stand e = value-stands RegionRow (counted (big 1)) s at (x .ok) (λ rs. (take (x .count) list ≡ rs) × (members (x .set) ≡ rs)) (x .next) e (a .answer)
 
-  pub regions-fail : not (r .ok) ≡ true → Unparsed RegionRow (counted (big 1)) s at
-  regions-fail e = missing (λ n. n < regions) (λ n. n) regions (big 1) only s at r (r .ok) e (a .answer)
+  pub regions-fail : not (x .ok) ≡ true → Unparsed RegionRow (counted (big 1)) s at
+  regions-fail e = value-fails RegionRow (counted (big 1)) s at (x .ok) (λ rs. (take (x .count) list ≡ rs) × (members (x .set) ≡ rs)) (x .next) e (a .answer)
 
-module _ {k : Section} {g : Graph} {s : List ℕ} {at : ℕ} {r : SectionAt} (a : SectionRead k g s at r) {rs : List ℕ} (f : meaning g .regions ≡ rs) where
-  pub section-stands : not (r .ok) ≡ false → Stands (LegalElem k rs) (key k) (most k) (record-bytes k) (filled k (meaning g)) s at r
-  section-stands e =
-      subst (λ (l : List ℕ). Stands (LegalElem k l) (key k) (most k) (record-bytes k) (filled k (meaning g)) s at r) f
-      (stands (LegalElem k (meaning g .regions)) (key k) (most k) (record-bytes k) (filled k (meaning g)) s at r (r .ok) e (a .answer))
+module _ {k : Section} {rs ts : List ℕ} (f : ts ≡ rs) {s : List ℕ} {at : ℕ} {rows : List ℕ} {y : SectionAt} (a : SectionRead k ts s at rows y) where
+  abbrev Rows : List (Elem k) → Type 0
+  Rows = Flat (row-width k) (FlatElem k) (take (y .count) rows)
 
-  pub section-fails : not (r .ok) ≡ true → Unparsed (SectionRow k rs) (counted (record-bytes k)) s at
-  section-fails e =
-      subst (λ (l : List ℕ). Unparsed (SectionRow k l) (counted (record-bytes k)) s at) f
-      (missing (LegalElem k (meaning g .regions)) (key k) (most k) (record-bytes k) (filled k (meaning g)) s at r (r .ok) e (a .answer))
+  answer : StandsOr (SectionRow k rs) (counted (record-bytes k)) s at (y .ok) Rows (y .next)
+  answer = subst (λ (l : List ℕ). StandsOr (SectionRow k l) (counted (record-bytes k)) s at (y .ok) Rows (y .next)) f (a .answer)
 
--- an answer of no body
-pub no-body : (s : List ℕ) (at : ℕ) (r : SectionAt) → Valid (r .graph) → not (r .ok) ≡ true → Unparsed Legal body s at → BodyRead s at r
-no-body s at r v e u = record { valid = v; answer = subst (λ (b : Bool). Answer Legal body s at b (meaning (r .graph)) (r .next)) (sym (not-true (r .ok) e)) u }
+  pub section-stands : not (y .ok) ≡ false → Stands (SectionRow k rs) (counted (record-bytes k)) s at Rows (y .next)
+  section-stands e = value-stands (SectionRow k rs) (counted (record-bytes k)) s at (y .ok) Rows (y .next) e answer
+
+  pub section-fails : not (y .ok) ≡ true → Unparsed (SectionRow k rs) (counted (record-bytes k)) s at
+  section-fails e = value-fails (SectionRow k rs) (counted (record-bytes k)) s at (y .ok) Rows (y .next) e answer
+
+-- no body stands there, or one that ends before the bytes do
+module _ (s : List ℕ) (at : ℕ) {r : Changed} (refused : (r .number ≡ broken-layout) × Empty (r .graph)) where
+  pub no-body : Unparsed Legal body s at → BodyRead s at r
+  no-body u = broken (λ m l e. u m [] l (e ∙ sym (append-nil (body m)))) (refused .0) (refused .1)
+
+  pub longer : {x : Model} {end : ℕ} → Parsed Legal body s at x end → (end ≡ length s → ⊥) → BodyRead s at r
+  longer {x} {end} p u = broken other (refused .0) (refused .1)
+    where
+      other : (m : Model) → Legal m → drop at s ≡ body m → ⊥
+      other m l e =
+          let d = body-same x m (drop end s) [] (p .is-good) l (sym (p .shape) ∙ e ∙ sym (append-nil (body m))) in
+          u (omega (arith, p .room, sym (length-drop end s) ∙ ap length (d .1)))
 
 -- the three sections were read
-module _ {s : List ℕ} {at : ℕ} {x y z : SectionAt} (a : RegionsRead s at x) (i : not (x .ok) ≡ false) (b : SectionRead Section.Bundles (x .graph) s (x .next) y)
-    (j : not (y .ok) ≡ false) (c : SectionRead Section.Connections (y .graph) s (y .next) z) where
-  pub three-sections : BodyRead s at z
-  three-sections = record { valid = c .valid; answer = last (z .ok) refl }
+module _ {s : List ℕ} {at : ℕ} {list : List ℕ} {x : RegionsAt} (a : RegionsRead s at list x) (i : not (x .ok) ≡ false) where
+  pub no-bundles-read : {rows : List ℕ} {y : SectionAt} → SectionRead Section.Bundles (members (x .set)) s (x .next) rows y → not (y .ok) ≡ true → Unparsed Legal body s at
+  no-bundles-read b j = no-bundles s at (p .parsed) (section-fails (p .put .1) b j)
     where
-      p : Stands (λ n. n < regions) (λ n. n) regions (big 1) only s at x
+      p : Stands RegionRow (counted (big 1)) s at (λ rs. (take (x .count) list ≡ rs) × (members (x .set) ≡ rs)) (x .next)
       p = regions-stand a i
 
-      e : meaning (x .graph) .regions ≡ p .rows
-      e = ap (λ (m : Model). m .regions) (p .means)
+  module _ {rows : List ℕ} {y : SectionAt} (b : SectionRead Section.Bundles (members (x .set)) s (x .next) rows y) (j : not (y .ok) ≡ false)
+      {others : List ℕ} {z : SectionAt} (c : SectionRead Section.Connections (members (x .set)) s (y .next) others z) where
+    p : Stands RegionRow (counted (big 1)) s at (λ rs. (take (x .count) list ≡ rs) × (members (x .set) ≡ rs)) (x .next)
+    p = regions-stand a i
 
-      q : Stands (LegalElem Section.Bundles (p .rows)) (key Section.Bundles) (most Section.Bundles) (record-bytes Section.Bundles) (filled Section.Bundles (meaning (x .graph))) s (x .next) y
-      q = section-stands b e j
+    q : Stands (SectionRow Section.Bundles (p .value)) (counted (record-bytes Section.Bundles)) s (x .next)
+        (Flat (row-width Section.Bundles) (FlatElem Section.Bundles) (take (y .count) rows)) (y .next)
+    q = section-stands (p .put .1) b j
 
-      f : meaning (y .graph) .regions ≡ p .rows
-      f = ap (λ (m : Model). m .regions) (q .means) ∙ e
+    pub no-connections-read : not (z .ok) ≡ true → Unparsed Legal body s at
+    no-connections-read k = no-connections s at (p .parsed) (q .parsed) (section-fails (p .put .1) c k)
 
-      last : (ok : Bool) → z .ok ≡ ok → Answer Legal body s at (z .ok) (meaning (z .graph)) (z .next)
-      last true h =
-          let t = section-stands c f (ap not h) in
-          let m : meaning (z .graph) ≡ record { regions = p .rows; bundles = q .rows; connections = t .rows } =
-          t .means ∙ (λ n. record { regions = f n; bundles = ap (λ (m : Model). m .bundles) (q .means) n; connections = t .rows }) in
-          subst (λ (ok : Bool). Answer Legal body s at ok (meaning (z .graph)) (z .next)) (sym h)
-          (subst (λ (m : Model). Parsed Legal body s at m (z .next)) (sym m) (whole-body s at (p .parsed) (q .parsed) (t .parsed)))
-      last false h =
-          subst (λ (ok : Bool). Answer Legal body s at ok (meaning (z .graph)) (z .next)) (sym h)
-          (no-connections s at (p .parsed) (q .parsed) (section-fails c f (ap not h)))
+    -- a body and its flat lists
+    pub record Sections : Type 0 where
+      pub model : Model
+      pub parsed : Parsed Legal body s at model (z .next)
+      pub flat : FlatModel (take (x .count) list) (take (y .count) rows) (take (z .count) others) model
 
--- a graph with regions alone has no bundle yet, and one with regions and bundles no connection
-pub bundles-next : {s : List ℕ} {at : ℕ} {x : SectionAt} → RegionsRead s at x → not (x .ok) ≡ false
-    → (x .next ≤ length s) × (filled Section.Bundles (meaning (x .graph)) [] ≡ meaning (x .graph))
-bundles-next a i =
-    let p = regions-stand a i in
-    (p .parsed .room, ap (λ (m : Model). filled Section.Bundles m []) (p .means) ∙ sym (p .means))
+    pub three-sections : not (z .ok) ≡ false → Sections
+    three-sections k =
+        let t = section-stands (p .put .1) c k in
+        record {
+          model = record { regions = p .value; bundles = q .value; connections = t .value };
+          parsed = whole-body s at (p .parsed) (q .parsed) (t .parsed);
+          flat = record { regions-are = sym (p .put .0); bundles-are = q .put; connections-are = t .put };
+        }
 
-pub connections-next : {g : Graph} {s : List ℕ} {at : ℕ} {y : SectionAt} → SectionRead Section.Bundles g s at y → not (y .ok) ≡ false
-    → (y .next ≤ length s) × (filled Section.Connections (meaning (y .graph)) [] ≡ meaning (y .graph))
-connections-next b j =
-    let q = section-stands b refl j in
-    (q .parsed .room, ap (λ (m : Model). filled Section.Connections m []) (q .means) ∙ sym (q .means))
+    -- the graph of these lists is the body's
+    pub body-made : (k : not (z .ok) ≡ false) → z .next ≡ length s → {r : Changed}
+        → Made (take (x .count) list) (take (y .count) rows) (take (z .count) others) r → BodyRead s at r
+    body-made k e {r} d =
+        let t = three-sections k in
+        let g = flat-made (take (x .count) list) (take (y .count) rows) (take (z .count) others) (t .model) (t .parsed .is-good) (t .flat) d in
+        whole (t .model) (subst (λ (n : ℕ). Parsed Legal body s at (t .model) n) e (t .parsed)) (g .number) (g .valid) (g .means)

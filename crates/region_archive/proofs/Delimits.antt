@@ -7,8 +7,9 @@ use native.Mathlib.Omega.{arith}
 use lib.ListN.{length, drop, length-append, length-drop}
 use Rattle.region_graph.specs.Lists.{All}
 use Rattle.region_archive.specs.Bytes.{big, each, counted, sized}
-use Rattle.region_archive.specs.Rows.{Ascends, Row, Parsed, Unparsed}
-use Rattle.region_archive.proofs.Pieces.{floor-of, all-append, all-back, ascends-append, ascends-back, floor-snoc, each-snoc}
+use Rattle.region_graph.specs.Model.{Sorted}
+use Rattle.region_archive.specs.Rows.{Parsed, Unparsed, by-key}
+use Rattle.region_archive.proofs.Pieces.{Ascends, ascends-keys, keys-ascend, floor-of, all-append, all-back, ascends-append, ascends-back, floor-snoc, each-snoc}
 
 -- the bytes of good values, whatever follows them, tell the values apart and where they end
 abbrev pub Delimits : {A : Type 0} → (A → Type 0) → (A → List ℕ) → (A → A → Type 0) → Type 0
@@ -164,6 +165,13 @@ module _ {A : Type 0} (good : A → Type 0) (bytes : A → List ℕ) (delim : De
     abbrev pub NoNext : List ℕ → ℕ → ℕ → Type 0
     NoNext s at floor = (z : A) (r : List ℕ) → good z → floor ≤ key z → drop at s ≡ bytes z ++ r → ⊥
 
+    -- none stands there, or one whose key is too low
+    pub no-next : (s : List ℕ) (at : ℕ) → Unparsed good bytes s at → (floor : ℕ) → NoNext s at floor
+    no-next s at u floor z r h l e = u z r h e
+
+    pub low-next : {s : List ℕ} {at next floor : ℕ} → (x : A) → Parsed good bytes s at x next → key x < floor → NoNext s at floor
+    low-next {s} {next = next} x p l z r h k e = omega (arith, ap key (delim x z (drop next s) r (p .is-good) h (sym (p .shape) ∙ e) .0))
+
     module _ (s : List ℕ) (from : ℕ) where
       pub going-none : from ≤ length s → Going s from [] from 0
       going-none h = record { run = run-none s from h; ascend = tt; floor-is = refl }
@@ -177,15 +185,15 @@ module _ {A : Type 0} (good : A → Type 0) (bytes : A → List ℕ) (delim : De
               floor-is = sym (floor-snoc key 0 xs x);
             }
 
-        going-past : (n : ℕ) → length xs < n → NoNext s at floor → (ys : List A) (t : List ℕ) → length ys ≡ n → Row good key most ys → drop from s ≡ each bytes ys ++ t → ⊥
+        going-past : (n : ℕ) → length xs < n → NoNext s at floor → (ys : List A) (t : List ℕ) → length ys ≡ n → Sorted (by-key key) good most ys → drop from s ≡ each bytes ys ++ t → ⊥
         going-past n h u ys t k y e =
             let x = run-next s from (g .run) ys t (omega arith) (y .each) e in
-            let a : Ascends key (floor-of key 0 xs) (x .head ∷ x .rest) = ascends-back key 0 xs (x .head ∷ x .rest) (subst (Ascends key 0) (x .split) (y .ascend)) in
+            let a : Ascends key (floor-of key 0 xs) (x .head ∷ x .rest) = ascends-back key 0 xs (x .head ∷ x .rest) (subst (Ascends key 0) (x .split) (ascends-keys key ys (y .ascend))) in
             u (x .head) (each bytes (x .rest) ++ t) (x .is-good) (omega (arith, a .0, g .floor-is)) (x .left)
 
     module _ (s : List ℕ) (at n mid : ℕ) (count : drop at s ≡ n ∷ drop mid s) {xs : List A} {to floor : ℕ} (g : Going s mid xs to floor) where
-      pub row-parsed : mid ≡ at + 1 → n ≡ length xs → n ≤ most → Parsed (Row good key most) (counted bytes) s at xs to
-      row-parsed m e h = counted-run (Row good key most) (λ ys y. y .each) s at n mid count (g .run) m e (record { few = omega arith; each = g .run .every; ascend = g .ascend })
+      pub row-parsed : mid ≡ at + 1 → n ≡ length xs → n ≤ most → Parsed (Sorted (by-key key) good most) (counted bytes) s at xs to
+      row-parsed m e h = counted-run (Sorted (by-key key) good most) (λ ys y. y .each) s at n mid count (g .run) m e (record { few = omega arith; each = g .run .every; ascend = keys-ascend key xs (g .ascend) })
 
-      pub row-stuck : length xs < n → NoNext s to floor → Unparsed (Row good key most) (counted bytes) s at
-      row-stuck h u = counted-none (Row good key most) (λ ys y. y .each) s at n mid count (going-past s mid g n h u)
+      pub row-stuck : length xs < n → NoNext s to floor → Unparsed (Sorted (by-key key) good most) (counted bytes) s at
+      row-stuck h u = counted-none (Sorted (by-key key) good most) (λ ys y. y .each) s at n mid count (going-past s mid g n h u)

@@ -6,13 +6,8 @@ use native.Mathlib.Omega.{arith}
 use native.Mathlib.Nat.{zero-add, suc-add}
 use lib.ListN.{length, drop, length-append}
 use Rattle.region_archive.specs.Rows.{Parsed, Unparsed}
-use Rattle.region_archive.specs.Entries.{bytes-to, SameTo}
+use Rattle.region_archive.specs.Entries.{bytes-to, SameTo, GoodTo}
 use Rattle.region_archive.proofs.Delimits.{Delimits}
-
--- the first k fields of a value are good
-abbrev pub GoodTo : {A : Type 0} → (ℕ → A → Type 0) → ℕ → A → Type 0
-GoodTo good zero x = Unit {0}
-GoodTo good (suc k) x = GoodTo good k x × good k x
 
 module _ {A : Type 0} (good : ℕ → A → Type 0) (bytes : ℕ → A → List ℕ) (same : ℕ → A → A → Type 0)
     (delim : (k : ℕ) → Delimits (good k) (bytes k) (same k))

@@ -1,91 +1,240 @@
--- One field more of a record is read.
+-- One field more of a record is read into its row.
 use mathlib.Core.Path.{_≡_, refl, sym, ap, _∙_, subst}
-use mathlib.Core.List.{List, [], _∷_, _++_, map}
-use Prim.Native.Nat.{ℕ, zero, suc, _+_, _-_, _^_, _≤_, _<_}
+use mathlib.Core.Bool.{Bool, true, false}
+use mathlib.Core.List.{List, [], _∷_, _++_, append-nil}
+use Prim.Native.Nat.{ℕ, zero, suc, _+_, _-_, _*_, _^_, _≤_, _<_}
+use native.Mathlib.Nat.{mul-le-mul-right, suc-mul}
 use native.Mathlib.Omega.{arith}
-use lib.ListN.{length, drop, getD, set, length-set}
-use lib.Seq.{getD-set-same, getD-set-other}
-use Rattle.region_graph.specs.Lists.{All}
+use lib.ListN.{length, take, drop, getD, set, length-set}
+use lib.Seq.{drop-length, getD-set-same, getD-set-other}
+use borrow.Rule.Slice.PartMut.{putMid, post-is}
 use Rattle.region_graph.specs.Model.{Part}
-use Rattle.region_graph.specs.Record.{part-in}
+use Rattle.region_graph.specs.Flat.{Fields, FlatPart}
+use Rattle.region_graph.proofs.Lists.{false-true}
 use Rattle.region_archive.specs.Bytes.{big}
 use Rattle.region_archive.specs.Image.{part-bytes}
-use Rattle.region_archive.specs.Rows.{Answer}
-use Rattle.region_archive.specs.Entries.{SameTo, Fields, ListedPart, part-at, first-width, field-count, FieldGood, field-bytes, FieldSame, PartFits, EntryFits, fields-in}
-use Rattle.region_archive.specs.Sections.{FieldRead}
-use Rattle.region_archive.specs.declared.numbers.NumberAt.{NumberAt}
-use Rattle.region_archive.specs.declared.entries.Entry.{Entry}
+use Rattle.region_archive.specs.Rows.{Parsed, Unparsed, Stands, StandsOr}
+use Rattle.region_archive.specs.Entries.{SameTo, GoodTo, part-at, first-width, field-count, most-in, row-width, part-open, PartGood, first-good, second-good, FieldGood, field-bytes, FieldSame, FlatField}
+use Rattle.region_archive.specs.Sections.{PartRead, FieldRead}
 use Rattle.region_archive.specs.declared.entries.Section.{Section}
-use Rattle.region_archive.specs.declared.sections.PartAt.{PartAt}
-use Rattle.region_archive.proofs.Pieces.{map-length}
-use Rattle.region_archive.proofs.Answers.{answer-map}
+use Rattle.region_archive.specs.declared.entries.Section.the-variants as Section
+use Rattle.region_archive.specs.declared.sections.FieldAt.{FieldAt}
+use Rattle.region_archive.proofs.Delimits.{big-same}
 
-pub all-set : {A : Type 0} (P : A → Type 0) (xs : List A) (n : ℕ) (x : A) → All P xs → P x → All P (set xs n x)
-all-set P [] n x h p = tt
-all-set P (y ∷ xs) zero x h p = (p, h .1)
-all-set P (y ∷ xs) (suc n) x h p = (h .0, all-set P xs n x (h .1) p)
+-- the first number
+module _ (s : Section) (rs : List ℕ) (floor : ℕ) (bytes : List ℕ) (at : ℕ) (old : List ℕ) {w : ℕ} (f : w ≡ first-width s) where
+  abbrev First : Fields → Fields → Type 0
+  First x y = SameTo FieldSame 0 x y × FieldGood s rs floor 0 y
 
-pub map-set : {A B : Type 0} (f : A → B) (xs : List A) (n : ℕ) (x : A) → map f (set xs n x) ≡ set (map f xs) n (f x)
-map-set f [] n x = refl
-map-set f (y ∷ xs) zero x = refl
-map-set {B = B} f (y ∷ xs) (suc n) x = ap (λ (l : List B). f y ∷ l) (map-set f xs n x)
+  pub first-missing : Unparsed (λ m. m < 256 ^ w) (big w) bytes at → FieldRead s rs floor 0 bytes at old old (record { ok = false; next = at })
+  first-missing u = record {
+    size = refl;
+    answer = λ x g h y r k e.
+        u (y .first) r (subst (λ (n : ℕ). y .first < 256 ^ n) (sym f) (k .1 .0)) (e ∙ ap (λ (n : ℕ). big n (y .first) ++ r) (sym f));
+  }
 
--- the parts before the one that is set stay
-same-set : (f : Fields) (n : ℕ) (p : Part) (j : ℕ) → j ≤ n
-    → SameTo FieldSame (suc (suc j)) f (record { first = f .first; second = f .second; parts = set (f .parts) n p })
-same-set f n p zero h = ((tt, refl), refl)
-same-set f n p (suc j) h = (same-set f n p j (omega arith), sym (getD-set-other (f .parts) n j p (Part.listed []) (λ e. omega arith)))
-
-module _ (s : Section) (bytes : List ℕ) (at : ℕ) (old : Entry) (fits : EntryFits old) where
-  pub first-read : {k w : ℕ} (r : NumberAt) → k ≡ 0 → w ≡ first-width s → Answer (λ m. m < 256 ^ w) (big w) bytes at (r .ok) (r .number) (r .next)
-      → FieldRead s k bytes at old (record { ok = r .ok; next = r .next; entry = record { first = r .number; second = old .second; parts = old .parts } })
-  first-read {k} {w} r e f a =
-      let new : Entry = record { first = r .number; second = old .second; parts = old .parts } in
-      subst (λ (n : ℕ). FieldRead s n bytes at old (record { ok = r .ok; next = r .next; entry = new })) (sym e)
-      (record {
-        fits = record { size = fits .size; each = fits .each };
-        answer =
-            answer-map (λ m. m < 256 ^ w) (big w) (λ y. SameTo FieldSame 0 (fields-in old) y × FieldGood s 0 y) (field-bytes s 0) bytes at (r .ok) (r .number)
-            (fields-in new) (r .next)
-            (λ p. record { is-good = (tt, subst (λ (n : ℕ). r .number < 256 ^ n) f (p .is-good)); shape = p .shape ∙ ap (λ (n : ℕ). big n (r .number) ++ drop (r .next) bytes) f; ends = p .ends ∙ ap (λ (n : ℕ). at + length (big n (r .number))) f; room = p .room })
-            (λ u y t h q. u (y .first) t (subst (λ (n : ℕ). y .first < 256 ^ n) (sym f) (h .1)) (q ∙ ap (λ (n : ℕ). big n (y .first) ++ t) (sym f))) a;
-      })
-
-  pub second-read : {k : ℕ} (r : NumberAt) → k ≡ 1 → Answer (λ m. m < 256 ^ 1) (big 1) bytes at (r .ok) (r .number) (r .next)
-      → FieldRead s k bytes at old (record { ok = r .ok; next = r .next; entry = record { first = old .first; second = r .number; parts = old .parts } })
-  second-read {k} r e a =
-      let new : Entry = record { first = old .first; second = r .number; parts = old .parts } in
-      subst (λ (n : ℕ). FieldRead s n bytes at old (record { ok = r .ok; next = r .next; entry = new })) (sym e)
-      (record {
-        fits = record { size = fits .size; each = fits .each };
-        answer =
-            answer-map (λ m. m < 256 ^ 1) (big 1) (λ y. SameTo FieldSame 1 (fields-in old) y × FieldGood s 1 y) (field-bytes s 1) bytes at (r .ok) (r .number)
-            (fields-in new) (r .next) (λ p. record { is-good = ((tt, refl), p .is-good); shape = p .shape; ends = p .ends; room = p .room })
-            (λ u y t h q. u (y .second) t (h .1) q) a;
-      })
-
-  pub part-read : {k : ℕ} (r : PartAt) → 2 ≤ k → k < field-count s → field-count s ≤ 5 → PartFits (r .part)
-      → Answer ListedPart (part-bytes (big 4)) bytes at (r .ok) (part-in (r .part)) (r .next)
-      → FieldRead s k bytes at old (record { ok = r .ok; next = r .next; entry = record { first = old .first; second = old .second; parts = set (old .parts) (k - 2) (r .part) } })
-  part-read {k} r g h five fit a =
-      let new : Entry = record { first = old .first; second = old .second; parts = set (old .parts) (k - 2) (r .part) } in
-      let e : suc (suc (k - 2)) ≡ k = omega arith in
-      subst (λ (n : ℕ). FieldRead s n bytes at old (record { ok = r .ok; next = r .next; entry = new })) e
-      (record {
-        fits = record { size = length-set (old .parts) (k - 2) (r .part) ∙ fits .size; each = all-set PartFits (old .parts) (k - 2) (r .part) (fits .each) fit };
-        answer =
-            answer-map ListedPart (part-bytes (big 4)) (λ y. SameTo FieldSame (suc (suc (k - 2))) (fields-in old) y × ListedPart (part-at y (k - 2)))
-            (λ y. part-bytes (big 4) (part-at y (k - 2))) bytes at (r .ok) (part-in (r .part)) (fields-in new) (r .next)
-            (λ p. record { is-good = (stays, subst ListedPart (sym here) (p .is-good)); shape = p .shape ∙ ap (λ (q : Part). part-bytes (big 4) q ++ drop (r .next) bytes) (sym here); ends = p .ends ∙ ap (λ (q : Part). at + length (part-bytes (big 4) q)) (sym here); room = p .room })
-            (λ u y t h q. u (part-at y (k - 2)) t (h .1) q) a;
-      })
+  pub first-read : {n next : ℕ} → Parsed (λ m. m < 256 ^ w) (big w) bytes at n next → 1 ≤ length old → {b : Bool} → b ≡ first-good s rs floor n
+      → FieldRead s rs floor 0 bytes at old (set old 0 n) (record { ok = b; next = next })
+  first-read {n} {next} q h {b} e = record { size = length-set old 0 n; answer = λ x g k. by x b e }
     where
-      here : getD (map part-in (set (old .parts) (k - 2) (r .part))) (k - 2) (Part.listed []) ≡ part-in (r .part)
-      here =
-          ap (λ (l : List Part). getD l (k - 2) (Part.listed [])) (map-set part-in (old .parts) (k - 2) (r .part))
-          ∙ getD-set-same (map part-in (old .parts)) (k - 2) (part-in (r .part)) (Part.listed []) (omega (arith, map-length part-in (old .parts), fits .size))
+      p : Parsed (λ m. m < 256 ^ first-width s) (big (first-width s)) bytes at n next
+      p = subst (λ (v : ℕ). Parsed (λ m. m < 256 ^ v) (big v) bytes at n next) f q
 
-      stays : SameTo FieldSame (suc (suc (k - 2))) (fields-in old) (record { first = old .first; second = old .second; parts = map part-in (set (old .parts) (k - 2) (r .part)) })
-      stays =
-          subst (λ (l : List Part). SameTo FieldSame (suc (suc (k - 2))) (fields-in old) (record { first = old .first; second = old .second; parts = l }))
-          (sym (map-set part-in (old .parts) (k - 2) (r .part))) (same-set (fields-in old) (k - 2) (part-in (r .part)) (k - 2) (omega arith))
+      other : false ≡ first-good s rs floor n → (x y : Fields) (r : List ℕ) → First x y → drop at bytes ≡ big (first-width s) (y .first) ++ r → ⊥
+      other e x y r k i =
+          let d = big-same (first-width s) n (y .first) (drop next bytes) r (p .is-good) (k .1 .0) (sym (p .shape) ∙ i) in
+          false-true (e ∙ ap (first-good s rs floor) (d .0) ∙ k .1 .1)
+
+      by : (x : Fields) (b : Bool) → b ≡ first-good s rs floor n
+          → StandsOr (First x) (field-bytes s 0) bytes at b (GoodTo (FlatField (most-in s) (set old 0 n)) 1) next
+      by x true e = record {
+        value = record { first = n; second = x .second; parts = x .parts };
+        parsed = record { is-good = (tt, (p .is-good, sym e)); shape = p .shape; ends = p .ends; room = p .room };
+        put = (tt, getD-set-same old 0 n 0 (omega arith));
+      }
+      by x false e = other e x
+
+-- the second number
+module _ (s : Section) (rs : List ℕ) (floor : ℕ) (bytes : List ℕ) (at : ℕ) (old : List ℕ) where
+  abbrev Second : Fields → Fields → Type 0
+  Second x y = SameTo FieldSame 1 x y × FieldGood s rs floor 1 y
+
+  pub second-missing : Unparsed (λ m. m < 256 ^ 1) (big 1) bytes at → FieldRead s rs floor 1 bytes at old old (record { ok = false; next = at })
+  second-missing u = record { size = refl; answer = λ x g h y r k e. u (y .second) r (k .1 .0) e }
+
+  pub second-read : {n next : ℕ} → Parsed (λ m. m < 256 ^ 1) (big 1) bytes at n next → 2 ≤ length old → {b : Bool} → b ≡ second-good s rs floor (getD old 0 0) n
+      → FieldRead s rs floor 1 bytes at old (set old 1 n) (record { ok = b; next = next })
+  second-read {n} {next} p h {b} e =
+      record { size = length-set old 1 n; answer = λ x g k. by x (k .1) b (e ∙ ap (λ (a : ℕ). second-good s rs floor a n) (k .1)) }
+    where
+      other : (x : Fields) → false ≡ second-good s rs floor (x .first) n → (y : Fields) (r : List ℕ) → Second x y → drop at bytes ≡ big 1 (y .second) ++ r → ⊥
+      other x e y r k i =
+          let d = big-same 1 n (y .second) (drop next bytes) r (p .is-good) (k .1 .0) (sym (p .shape) ∙ i) in
+          false-true (e ∙ (λ j. second-good s rs floor (k .0 .1 j) (d .0 j)) ∙ k .1 .1)
+
+      by : (x : Fields) → getD old 0 0 ≡ x .first → (b : Bool) → b ≡ second-good s rs floor (x .first) n
+          → StandsOr (Second x) (field-bytes s 1) bytes at b (GoodTo (FlatField (most-in s) (set old 1 n)) 2) next
+      by x k true e = record {
+        value = record { first = x .first; second = n; parts = x .parts };
+        parsed = record { is-good = ((tt, refl), (p .is-good, sym e)); shape = p .shape; ends = p .ends; room = p .room };
+        put = ((tt, getD-set-other old 1 0 n 0 (λ e. omega arith) ∙ k), getD-set-same old 1 n 0 (omega arith));
+      }
+      by x k false e = other x e
+
+-- a row whose places from some place on are new
+
+-- the places before stay
+front : (i n place : ℕ) (xs ys : List ℕ) → i + n ≤ place → place ≤ length xs → take n (drop i (take place xs ++ ys)) ≡ take n (drop i xs)
+front zero zero place xs ys h k = refl
+front zero (suc n) zero xs ys h k = absurd (omega arith)
+front zero (suc n) (suc place) [] ys h k = absurd (omega arith)
+front zero (suc n) (suc place) (x ∷ xs) ys h k = ap (λ (l : List ℕ). x ∷ l) (front zero n place xs ys (omega arith) (omega arith))
+front (suc i) n zero xs ys h k = absurd (omega arith)
+front (suc i) n (suc place) [] ys h k = absurd (omega arith)
+front (suc i) n (suc place) (x ∷ xs) ys h k = front i n place xs ys (omega arith) (omega arith)
+
+front-at : (i place : ℕ) (xs ys : List ℕ) → i < place → place ≤ length xs → getD (take place xs ++ ys) i 0 ≡ getD xs i 0
+front-at i zero xs ys h k = absurd (omega arith)
+front-at i (suc place) [] ys h k = absurd (omega arith)
+front-at zero (suc place) (x ∷ xs) ys h k = refl
+front-at (suc i) (suc place) (x ∷ xs) ys h k = front-at i place xs ys (omega arith) (omega arith)
+
+-- and those from it on are the new ones
+back : (place : ℕ) (xs ys : List ℕ) → place ≤ length xs → drop (place + 1) (take place xs ++ ys) ≡ drop 1 ys
+back zero xs ys h = refl
+back (suc place) [] ys h = absurd (omega arith)
+back (suc place) (x ∷ xs) ys h =
+    let e : suc place + 1 ≡ suc (place + 1) = omega arith in
+    ap (λ (n : ℕ). drop n (x ∷ (take place xs ++ ys))) e ∙ back place xs ys (omega arith)
+
+back-at : (place : ℕ) (xs ys : List ℕ) → place ≤ length xs → getD (take place xs ++ ys) place 0 ≡ getD ys 0 0
+back-at zero xs ys h = refl
+back-at (suc place) [] ys h = absurd (omega arith)
+back-at (suc place) (x ∷ xs) ys h = back-at place xs ys (omega arith)
+
+-- a part at other places
+part-moves : (xs ys : List ℕ) (i j most : ℕ) → getD ys j 0 ≡ getD xs i 0 → ((n : ℕ) → n ≤ most → take n (drop (j + 1) ys) ≡ take n (drop (i + 1) xs))
+    → (all : Bool) (p : Part) → PartGood most all p → FlatPart xs i p → FlatPart ys j p
+part-moves xs ys i j most e f all (Part.listed ns) g h = (e ∙ h .0, f (length ns) (g .few) ∙ h .1)
+part-moves xs ys i j most e f all Part.everything g h = e ∙ h
+
+-- parts with one set anew
+put-part : List Part → ℕ → Part → List Part
+put-part [] zero p = p ∷ []
+put-part [] (suc j) p = Part.listed [] ∷ put-part [] j p
+put-part (q ∷ ps) zero p = p ∷ ps
+put-part (q ∷ ps) (suc j) p = q ∷ put-part ps j p
+
+put-same : (ps : List Part) (j : ℕ) (p : Part) → getD (put-part ps j p) j (Part.listed []) ≡ p
+unfolding put-part
+put-same [] zero p = refl
+put-same [] (suc j) p = put-same [] j p
+put-same (q ∷ ps) zero p = refl
+put-same (q ∷ ps) (suc j) p = put-same ps j p
+
+put-other : (ps : List Part) (j : ℕ) (p : Part) (i : ℕ) → i < j → getD ps i (Part.listed []) ≡ getD (put-part ps j p) i (Part.listed [])
+unfolding put-part
+put-other ps zero p i h = absurd (omega arith)
+put-other [] (suc j) p zero h = refl
+put-other [] (suc j) p (suc i) h = put-other [] j p i (omega arith)
+put-other (q ∷ ps) (suc j) p zero h = refl
+put-other (q ∷ ps) (suc j) p (suc i) h = put-other ps j p i (omega arith)
+
+abbrev with-part : Fields → ℕ → Part → Fields
+with-part x j p = record { first = x .first; second = x .second; parts = put-part (x .parts) j p }
+
+-- a part, the j-th
+module _ (s : Section) (rs : List ℕ) (floor : ℕ) (bytes : List ℕ) (at : ℕ) (old sub : List ℕ) (j : ℕ) where
+  abbrev place : ℕ → ℕ
+  place i = 2 + i * (most-in s + 1)
+
+  abbrev Nth : Fields → Fields → Type 0
+  Nth x y = SameTo FieldSame (suc (suc j)) x y × FieldGood s rs floor (suc (suc j)) y
+
+  same-with : (x : Fields) (p : Part) (i : ℕ) → i ≤ j → SameTo FieldSame (suc (suc i)) x (with-part x j p)
+  same-with x p zero h = ((tt, refl), refl)
+  same-with x p (suc i) h = (same-with x p i (omega arith), put-other (x .parts) j p i (omega arith))
+
+  module _ (room : place j ≤ length old) where
+    abbrev new : List ℕ
+    new = take (place j) old ++ sub
+
+    flat-with : (x : Fields) (p : Part) (i : ℕ) → i ≤ j → GoodTo (FieldGood s rs floor) (suc (suc i)) x → GoodTo (FlatField (most-in s) old) (suc (suc i)) x
+        → GoodTo (FlatField (most-in s) new) (suc (suc i)) (with-part x j p)
+    flat-with x p zero h g k = ((tt, front-at 0 (place j) old sub (omega arith) room ∙ k .0 .1), front-at 1 (place j) old sub (omega arith) room ∙ k .1)
+    flat-with x p (suc i) h g k = (
+      flat-with x p i (omega arith) (g .0) (k .0),
+      subst (FlatPart new (place i)) (put-other (x .parts) j p i (omega arith))
+          (part-moves old new (place i) (place i) (most-in s) (front-at (place i) (place j) old sub (omega (arith, next)) room)
+          (λ n l. front (place i + 1) n (place j) old sub (omega (arith, next)) room) (part-open s (suc (suc i))) (part-at x i) (g .1) (k .1)),
+    )
+      where
+        up : suc i ≤ j
+        up = omega arith
+
+        next : place i + (most-in s + 1) ≤ place j
+        next = omega (arith, mul-le-mul-right (most-in s + 1) up, suc-mul i (most-in s + 1))
+
+    pub part-read : {all : Bool} → all ≡ part-open s (suc (suc j)) → {r : FieldAt} → {lent : List ℕ} → PartRead (most-in s) all bytes at lent sub r
+        → length new ≡ length old → FieldRead s rs floor (suc (suc j)) bytes at old new r
+    part-read {all} a {r} {lent} q size = record { size = size; answer = λ x g k. by x g k (r .ok) (r .next) (subst (λ (b : Bool). StandsOr (PartGood (most-in s) b) (part-bytes (big 4)) bytes at (r .ok) (FlatPart sub 0) (r .next)) a (q .answer)) }
+      where
+        by : (x : Fields) → GoodTo (FieldGood s rs floor) (suc (suc j)) x → GoodTo (FlatField (most-in s) old) (suc (suc j)) x → (ok : Bool) (next : ℕ)
+            → StandsOr (PartGood (most-in s) (part-open s (suc (suc j)))) (part-bytes (big 4)) bytes at ok (FlatPart sub 0) next
+            → StandsOr (Nth x) (field-bytes s (suc (suc j))) bytes at ok (GoodTo (FlatField (most-in s) new) (suc (suc (suc j)))) next
+        by x g k true next v =
+            let p = v .value in
+            let e : getD (put-part (x .parts) j p) j (Part.listed []) ≡ p = put-same (x .parts) j p in
+            record {
+              value = with-part x j p;
+              parsed =
+                  record {
+                    is-good = (same-with x p j (omega arith), subst (PartGood (most-in s) (part-open s (suc (suc j)))) (sym e) (v .parsed .is-good));
+                    shape = v .parsed .shape ∙ ap (λ (t : Part). part-bytes (big 4) t ++ drop next bytes) (sym e);
+                    ends = v .parsed .ends ∙ ap (λ (t : Part). at + length (part-bytes (big 4) t)) (sym e);
+                    room = v .parsed .room;
+                  };
+              put = (
+                flat-with x p j (omega arith) g k,
+                subst (FlatPart new (place j)) (sym e)
+                    (part-moves sub new 0 (place j) (most-in s) (back-at (place j) old sub room) (λ n l. ap (take n) (back (place j) old sub room))
+                    (part-open s (suc (suc j))) p (v .parsed .is-good) (v .put)),
+              );
+            }
+        by x g k false next u = λ y r h e. u (part-at y j) r (h .1) e
+
+-- the place of a part is within the row
+pub place-room : (s : Section) {m : ℕ} → m ≡ most-in s → (k : ℕ) → 2 ≤ k → k < field-count s
+    → ((2 + (k - 2) * (m + 1)) + (m + 1) ≤ row-width s) × ((2 + (k - 2) * (m + 1)) + (m + 1) ≤ 53)
+place-room s e k h l = subst (λ (m : ℕ). ((2 + (k - 2) * (m + 1)) + (m + 1) ≤ row-width s) × ((2 + (k - 2) * (m + 1)) + (m + 1) ≤ 53)) (sym e) (by s l)
+  where
+    by : (s : Section) → k < field-count s
+        → ((2 + (k - 2) * (most-in s + 1)) + (most-in s + 1) ≤ row-width s) × ((2 + (k - 2) * (most-in s + 1)) + (most-in s + 1) ≤ 53)
+    by Section.Bundles l = (omega arith, omega arith)
+    by Section.Connections l = (omega arith, omega arith)
+
+-- a part was put to its places
+module _ (s : Section) (rs : List ℕ) (floor : ℕ) (bytes : List ℕ) (at : ℕ) (old sub : List ℕ) {m k : ℕ} (e : m ≡ most-in s) (two : 2 ≤ k) where
+  abbrev from : ℕ
+  from = 2 + (k - 2) * (m + 1)
+
+  pub part-put : from ≤ length old → {all : Bool} → all ≡ part-open s k → {lent : List ℕ} {r : FieldAt} → PartRead m all bytes at lent sub r
+      → length (putMid from (length old - from) old sub) ≡ length old → FieldRead s rs floor k bytes at old (putMid from (length old - from) old sub) r
+  part-put room {all} a {lent} {r} q size =
+      subst (λ (l : List ℕ). FieldRead s rs floor k bytes at old l r) (sym whole)
+      (subst (λ (i : ℕ). FieldRead s rs floor i bytes at old (take from old ++ sub) r) two-more
+      (subst (λ (n : ℕ). FieldRead s rs floor (suc (suc (k - 2))) bytes at old (take n old ++ sub) r) (sym here)
+      (part-read s rs floor bytes at old sub (k - 2) (subst (λ (n : ℕ). n ≤ length old) here room)
+      (a ∙ ap (part-open s) (sym two-more)) (subst (λ (n : ℕ). PartRead n all bytes at lent sub r) e q)
+      (subst (λ (n : ℕ). length (take n old ++ sub) ≡ length old) here (sym (ap length whole) ∙ size)))))
+    where
+      two-more : suc (suc (k - 2)) ≡ k
+      two-more = omega arith
+
+      here : from ≡ 2 + (k - 2) * (most-in s + 1)
+      here = ap (λ (n : ℕ). 2 + (k - 2) * (n + 1)) e
+
+      whole : putMid from (length old - from) old sub ≡ take from old ++ sub
+      whole =
+          ap (λ (l : List ℕ). take from old ++ (sub ++ l)) (post-is from (length old) old room ∙ drop-length old)
+          ∙ ap (λ (l : List ℕ). take from old ++ l) (append-nil sub)

@@ -21,15 +21,14 @@ use Rattle.region_graph.proofs.Legal.{all-yes, first-no-stops, first-no-goes-on
 use Rattle.region_archive.specs.Bytes.{big}
 use Rattle.region_archive.specs.Image.{version, body, image}
 use Rattle.region_archive.specs.File.{FileMeaning, means, means-none, is-image, sets, opens, length-field, front-questions, read-number}
-use Rattle.region_archive.specs.Rows.{Parsed, Unparsed}
+use Rattle.region_archive.specs.Rows.{Parsed}
 use Rattle.region_archive.specs.Promise.{Reads, ReadsOver}
-use Rattle.region_archive.specs.Sections.{BodyRead}
-use Rattle.region_archive.specs.declared.sections.SectionAt.{SectionAt}
+use Rattle.region_archive.specs.Sections.{BodyRead, whole, broken}
 use Rattle.region_archive.proofs.Delimits.{head-same}
 use Rattle.region_archive.proofs.Digits.{drop-byte, digits-none, digits-more, digits-all}
-use Rattle.region_archive.proofs.Answers.{byte-stands, answer-stands, answer-fails}
+use Rattle.region_archive.proofs.Answers.{byte-stands}
 use Rattle.region_archive.proofs.Readers.{word-bytes}
-use Rattle.region_archive.proofs.OneImage.{body-same, image-body, one-image, image-front}
+use Rattle.region_archive.proofs.OneImage.{image-body, one-image, image-front}
 
 -- the length field, as the four bytes after the first
 abbrev four : List ℕ → ℕ
@@ -95,22 +94,9 @@ module _ (s : List ℕ) where
         rest : drop 5 s ≡ body m
         rest = p .shape ∙ ap (λ (n : ℕ). body m ++ drop n s) e ∙ ap (λ (l : List ℕ). body m ++ l) (drop-length s) ∙ append-nil (body m)
 
-  -- no body, or one that ends before the file does: no image
-  pub bodiless : Unparsed Legal body s 5 → (m : Model) → Legal m → image m ≡ s → ⊥
-  bodiless u m h e = u m [] h (ap (drop 5) (sym e) ∙ image-body m)
-
-  pub longer : {x : Model} {end : ℕ} → Parsed Legal body s 5 x end → (end ≡ length s → ⊥) → (m : Model) → Legal m → image m ≡ s → ⊥
-  longer {x} {end} p u m h e =
-      let d = body-same x m (drop end s) [] (p .is-good) h (sym (p .shape) ∙ ap (drop 5) (sym e) ∙ image-body m) in
-      u (omega (arith, p .room, sym (length-drop end s) ∙ ap length (d .1)))
-
--- the answer about the body
-module _ {s : List ℕ} {r : SectionAt} (a : BodyRead s 5 r) where
-  pub body-stands : not (r .ok) ≡ false → Parsed Legal body s 5 (meaning (r .graph)) (r .next)
-  body-stands e = answer-stands Legal body s 5 (r .ok) (meaning (r .graph)) (r .next) e (a .answer)
-
-  pub body-fails : not (r .ok) ≡ true → Unparsed Legal body s 5
-  body-fails e = answer-fails Legal body s 5 (r .ok) (meaning (r .graph)) (r .next) e (a .answer)
+  -- no body to the end: no image
+  pub bodiless : ((m : Model) → Legal m → drop 5 s ≡ body m → ⊥) → (m : Model) → Legal m → image m ≡ s → ⊥
+  bodiless u m h e = u m h (ap (drop 5) (sym e) ∙ image-body m ∙ append-nil (body m))
 
 module _ {s : List ℕ} where
   -- the questions about the front come first
@@ -120,9 +106,9 @@ module _ {s : List ℕ} where
   last-asked : (f : FileMeaning s) → not-refused ≡ first-no (front-questions s) → read-number f ≡ first-no (ask broken-layout (is-image f) ∷ [])
   last-asked f e = first-no-goes-on (front-questions s) (ask broken-layout (is-image f) ∷ []) (all-yes (front-questions s) (refl, (refl, tt)) (sym e))
 
-  pub broken : (f : FileMeaning s) → not-refused ≡ first-no (front-questions s) → ((m : Model) → Legal m → image m ≡ s → ⊥) → broken-layout ≡ read-number f
-  broken (means m l e) z u = absurd (u m l e)
-  broken (means-none n) z u = sym (last-asked (means-none n) z)
+  pub broken-file : (f : FileMeaning s) → not-refused ≡ first-no (front-questions s) → ((m : Model) → Legal m → image m ≡ s → ⊥) → broken-layout ≡ read-number f
+  broken-file (means m l e) z u = absurd (u m l e)
+  broken-file (means-none n) z u = sym (last-asked (means-none n) z)
 
   -- an image is read with no refusal
   pub accepted-number : (m : Model) (l : Legal m) (e : image m ≡ s) → not-refused ≡ first-no (front-questions s)
@@ -137,27 +123,42 @@ module _ {s : List ℕ} where
   refused-sets (means m l e) u = absurd (u (sym (accepted (means m l e) m l e .0)))
   refused-sets (means-none n) u = refl
 
-  pub over-refused : {g : Graph} → Valid g → {k : ℕ} → (k ≡ not-refused → ⊥) → ((f : FileMeaning s) → k ≡ read-number f) → ReadsOver g s (record { graph = g; number = k })
-  over-refused {g} v {k} u e = record {
+  -- a refused read gives the empty record
+  pub reads-refused : {r : Changed} {k : ℕ} → (r .number ≡ k) × Empty (r .graph) → (k ≡ not-refused → ⊥) → ((f : FileMeaning s) → k ≡ read-number f) → Reads s r
+  reads-refused {r} {k} (n, z) u e = record {
+    valid = z .valid;
+    says = λ f. record { number = n ∙ e f; next = z .sets ∙ sym (refused-sets f (λ h. u (e f ∙ h))) };
+  }
+
+  -- what the body gave is what the file means
+  pub body-reads : (bytes : (i : ℕ) → getD s i 0 < 256) → not-refused ≡ first-no (front-questions s) → {r : Changed} → BodyRead s 5 r → Reads s r
+  body-reads bytes z {r} (whole m p n v e) = record {
+    valid = v;
+    says = λ f.
+        let a = accepted f m (p .is-good) (image-is s bytes z m p refl) in
+        record { number = n ∙ a .0; next = e ∙ a .1 };
+  }
+  body-reads bytes z {r} (broken u n v) = reads-refused (n, v) (λ e. omega arith) (λ f. broken-file f z (bodiless s u))
+
+  -- over a record at hand, a refused read hands that record back
+  pub over-refused : {g : Graph} → Valid g → {a : Changed} → Reads s a → (a .number ≡ not-refused → ⊥) → ReadsOver g s (record { graph = g; number = a .number })
+  over-refused {g} v {a} h u = record {
     valid = v;
     kept = λ w. refl;
     says = λ f.
-        record { number = e f; next = sym (ap (λ (b : Bool). pick b (sets f) (meaning g)) (ne-eqb (read-number f) not-refused (λ z. u (e f ∙ z)))) };
+        record {
+          number = h .says f .number;
+          next = sym (ap (λ (b : Bool). pick b (sets f) (meaning g)) (ne-eqb (read-number f) not-refused (λ z. u (h .says f .number ∙ z))));
+        };
   }
 
-  pub over-accepted : {g h : Graph} → Valid h → image (meaning h) ≡ s → ReadsOver g s (record { graph = h; number = not-refused })
-  over-accepted {g} {h} v e = record {
-    valid = v;
-    kept = λ w. absurd (w refl);
+  pub over-accepted : {g : Graph} {a : Changed} → Reads s a → a .number ≡ not-refused → ReadsOver g s a
+  over-accepted {g} {a} h e = record {
+    valid = h .valid;
+    kept = λ w. absurd (w e);
     says = λ f.
-        let a = accepted f (meaning h) (v .good) e in
-        record { number = a .0; next = a .1 ∙ sym (ap (λ (b : Bool). pick b (sets f) (meaning g)) (eq-eqb (read-number f) not-refused (sym (a .0)))) };
+        record {
+          number = h .says f .number;
+          next = h .says f .next ∙ sym (ap (λ (b : Bool). pick b (sets f) (meaning g)) (eq-eqb (read-number f) not-refused (sym (h .says f .number) ∙ e)));
+        };
   }
-
-  -- over the empty record, a refused read gives the empty sets
-  pub over-empty : {g : Graph} → Empty g → {r : Changed} → ReadsOver g s r → Reads s r
-  over-empty {g} z o = record { valid = o .valid; says = λ f. record { number = o .says f .number; next = o .says f .next ∙ by f (eqb (read-number f) not-refused) refl } }
-    where
-      by : (f : FileMeaning s) (b : Bool) → eqb (read-number f) not-refused ≡ b → pick b (sets f) (meaning g) ≡ sets f
-      by f true h = refl
-      by f false h = z .sets ∙ sym (refused-sets f (eqb-false (read-number f) not-refused h))

@@ -10,8 +10,6 @@ pub mod Answers
 pub mod FieldLaws
 pub mod RecordLaws
 pub mod Records
-pub mod FieldReads
-pub mod TookLaws
 pub mod Members
 pub mod Images
 pub mod Taking
@@ -21,9 +19,13 @@ pub mod OneImage
 pub mod Tested
 pub mod Longest
 pub mod Meaning
-pub mod Filling
-pub mod RegionReads
+pub mod ListReads
+pub mod FieldTests
+pub mod FieldReads
+pub mod LengthReads
 pub mod RecordReads
+pub mod SectionReads
+pub mod RegionReads
 pub mod BodyReads
 pub mod FileReads
 pub mod QueryLaws

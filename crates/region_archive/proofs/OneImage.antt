@@ -1,15 +1,16 @@
 -- The one image of a legal model: it tells the model, it passes the questions about its front, and it is no longer than 14248 bytes.
 use mathlib.Core.Path.{_≡_, refl, sym, ap, _∙_}
+use mathlib.Core.Bool.{true}
 use mathlib.Core.List.{List, [], _∷_, _++_, append-nil}
 use Prim.Native.Nat.{ℕ, _+_, _-_, _*_, _^_, _≤_, _<_}
 use native.Mathlib.Nat.{mul-le-mul-right}
 use native.Mathlib.Omega.{arith}
 use lib.ListN.{length, drop, length-append}
 use borrow.Author.Tests.{le-leb, eq-eqb}
-use Rattle.region_graph.specs.Size.{regions}
+use Rattle.region_graph.specs.Size.{regions, most-listed}
 use Rattle.region_graph.specs.Refusals.{not-refused}
 use Rattle.region_graph.specs.Lists.{All}
-use Rattle.region_graph.specs.Model.{Model, Part, NumberedPart, Legal, nothing}
+use Rattle.region_graph.specs.Model.{Model, Part, Sorted, NumberedPart, Legal, nothing}
 use Rattle.region_graph.specs.Calls.{first-no, run}
 use Rattle.region_graph.proofs.Lists.{all-map}
 use Rattle.region_routes.specs.Table.{graph-g}
@@ -17,13 +18,13 @@ use Rattle.region_archive.specs.Bounds.{part-bound, bundle-bound, connec
 use Rattle.region_archive.specs.Bytes.{big, each, counted}
 use Rattle.region_archive.specs.Image.{part-bytes, body, image}
 use Rattle.region_archive.specs.File.{length-field, front-questions}
-use Rattle.region_archive.specs.Rows.{Row}
+use Rattle.region_archive.specs.Rows.{by-key}
 use Rattle.region_archive.specs.Entries.{Elem, key, most, LegalElem, elements, record-bytes, section-bytes}
 use Rattle.region_archive.specs.declared.entries.Section.{Section}
 use Rattle.region_archive.specs.declared.entries.Section.the-variants as Section
 use Rattle.region_archive.proofs.Pieces.{big-length, each-length, each-most}
 use Rattle.region_archive.proofs.Delimits.{Delimits, big-same, counted-same}
-use Rattle.region_archive.proofs.RecordLaws.{element-same, part-length, part-listed-of}
+use Rattle.region_archive.proofs.RecordLaws.{element-same, open-part, part-length}
 use Rattle.region_archive.proofs.Records.{bundle-record, connection-record}
 use Rattle.region_archive.proofs.Images.{body-size, image-size}
 use Rattle.region_archive.proofs.Readers.{reader-same, word-bytes, read-body}
@@ -31,10 +32,10 @@ use Rattle.region_archive.proofs.Taking.{legal-rows}
 
 -- the regions of a body, and the elements of a section
 abbrev pub RegionRow : List ℕ → Type 0
-RegionRow rs = Row (λ n. n < regions) (λ n. n) regions rs
+RegionRow rs = Sorted (by-key (λ n. n)) (λ n. n < regions) regions rs
 
 abbrev pub SectionRow : (k : Section) → List ℕ → List (Elem k) → Type 0
-SectionRow k rs xs = Row (LegalElem k rs) (key k) (most k) xs
+SectionRow k rs xs = Sorted (by-key (key k)) (LegalElem k rs) (most k) xs
 
 -- bytes tell the regions
 pub regions-same : Delimits RegionRow (counted (big 1)) _≡_
@@ -63,7 +64,7 @@ list-length xs = omega (arith, each-length (big 4) 4 (big-length 4) xs)
 
 -- a legal part is within its bound
 part-most : (p : Part) → NumberedPart p → length (part-bytes (big 4) p) ≤ part-bound
-part-most p h = part-length p (part-listed-of p h)
+part-most p h = part-length most-listed (omega arith) true p (open-part p h)
 
 -- the most bytes that a record of a section takes
 abbrev record-limit : Section → ℕ

@@ -9,11 +9,17 @@ use native.Mathlib.Decide.{decLt}
 use native.Mathlib.Omega.{arith}
 use lib.ListN.{length, getD, take, drop, length-append, take-append-drop}
 use lib.Seq.{take-suc, take-all}
-use Rattle.region_graph.specs.Lists.{All, keep, count-from}
-use Rattle.region_graph.proofs.Lists.{keep-append, keep-took, keep-left}
+use borrow.Author.Tests.{lt-ltb, ltb-true}
+use Rattle.region_graph.specs.Lists.{All, keep, count-from, ascends}
+use Rattle.region_graph.proofs.Lists.{and-yes, and-fst, and-snd, keep-append, keep-took, keep-left}
 use Rattle.region_archive.specs.Bytes.{big, each}
-use Rattle.region_archive.specs.Rows.{Ascends}
+use Rattle.region_archive.specs.Rows.{by-key}
 use Rattle.region_archive.specs.Entries.{bytes-to}
+
+-- the first key is n or more, and each next key is above the one before it
+abbrev pub Ascends : {A : Type 0} → (A → ℕ) → ℕ → List A → Type 0
+Ascends key n [] = Unit {0}
+Ascends key n (x ∷ xs) = (n ≤ key x) × Ascends key (key x + 1) xs
 
 -- the least key that may come after a list
 abbrev pub floor-of : {A : Type 0} → (A → ℕ) → ℕ → List A → ℕ
@@ -53,6 +59,27 @@ module _ {A : Type 0} where
     pub ascends-back : (n : ℕ) (xs ys : List A) → Ascends key n (xs ++ ys) → Ascends key (floor-of key n xs) ys
     ascends-back n [] ys h = h
     ascends-back n (x ∷ xs) ys h = ascends-back (key x + 1) xs ys (h .1)
+
+    -- from the first element on
+    after-first : (x : A) (xs : List A) → ascends (by-key key) (x ∷ xs) ≡ true → Ascends key (key x + 1) xs
+    after-first x [] e = tt
+    after-first x (y ∷ ys) e = (
+      omega (arith, ltb-true (key x) (key y) (and-fst (by-key key x y) (ascends (by-key key) (y ∷ ys)) e)),
+      after-first y ys (and-snd (by-key key x y) (ascends (by-key key) (y ∷ ys)) e),
+    )
+
+    first-after : (x : A) (xs : List A) → Ascends key (key x + 1) xs → ascends (by-key key) (x ∷ xs) ≡ true
+    first-after x [] h = refl
+    first-after x (y ∷ ys) h = and-yes (lt-ltb (key x) (key y) (omega (arith, h .0))) (first-after y ys (h .1))
+
+    -- each neighbour comes before the next exactly when the keys ascend
+    pub ascends-keys : (xs : List A) → ascends (by-key key) xs ≡ true → Ascends key 0 xs
+    ascends-keys [] e = tt
+    ascends-keys (x ∷ xs) e = (omega arith, after-first x xs e)
+
+    pub keys-ascend : (xs : List A) → Ascends key 0 xs → ascends (by-key key) xs ≡ true
+    keys-ascend [] h = refl
+    keys-ascend (x ∷ xs) h = first-after x xs (h .1)
 
     pub floor-snoc : (n : ℕ) (xs : List A) (x : A) → floor-of key n (xs ++ (x ∷ [])) ≡ key x + 1
     floor-snoc n [] x = refl

@@ -7,19 +7,19 @@ use native.Mathlib.Omega.{arith}
 use lib.ListN.{length, length-append}
 use Rattle.region_graph.specs.Size.{regions}
 use Rattle.region_graph.specs.Lists.{All}
-use Rattle.region_graph.specs.Model.{Model, Part, Legal, NumberedPart, nothing}
+use Rattle.region_graph.specs.Model.{Model, Part, Sorted, Legal, NumberedPart, nothing}
 use Rattle.region_graph.specs.Calls.{Call, after, run, Words, PartWords}
 use Rattle.region_graph.specs.Record.{Valid, store, meaning}
 use Rattle.region_graph.specs.declared.Graph.{Graph}
 use Rattle.region_graph.proofs.Lists.{all-map}
 use Rattle.region_graph.proofs.Legal.{legal-nothing, legal-run}
 use Rattle.region_graph.proofs.Storing.{stores-valid}
-use Rattle.region_archive.specs.Rows.{Ascends, Row}
-use Rattle.region_archive.specs.Entries.{Elem, key, most, LegalElem, filled, elements, call}
+use Rattle.region_archive.specs.Rows.{by-key}
+use Rattle.region_archive.specs.Entries.{Elem, key, most, LegalElem, elements}
 use Rattle.region_archive.specs.declared.entries.Section.{Section}
 use Rattle.region_archive.specs.declared.entries.Section.the-variants as Section
-use Rattle.region_archive.proofs.Pieces.{floor-of, all-append, all-front, all-back, ascends-back}
-use Rattle.region_archive.proofs.Taking.{only, region-taken, region-joined, taken, joined, legal-rows, rows-legal}
+use Rattle.region_archive.proofs.Pieces.{Ascends, ascends-keys, keys-ascend, floor-of, all-append, all-front, all-back, ascends-back}
+use Rattle.region_archive.proofs.Taking.{filled, call, only, region-taken, region-joined, taken, joined, legal-rows, rows-legal}
 
 -- calls one after the other
 run-append : (m : Model) (cs ds : List Call) → run m (cs ++ ds) ≡ run (run m cs) ds
@@ -39,44 +39,46 @@ module _ {A : Type 0} (key : A → ℕ) where
 
 module _ {A : Type 0} (good : A → Type 0) (key : A → ℕ) (most : ℕ) where
   -- the front of a row is a row
-  row-front : (xs ys : List A) → Row good key most (xs ++ ys) → Row good key most xs
+  row-front : (xs ys : List A) → Sorted (by-key key) good most (xs ++ ys) → Sorted (by-key key) good most xs
   row-front xs ys r =
-      record { few = omega (arith, r .few, length-append xs ys); each = all-front good xs ys (r .each); ascend = ascends-front key 0 xs ys (r .ascend) }
+      record { few = omega (arith, r .few, length-append xs ys); each = all-front good xs ys (r .each); ascend = keys-ascend key xs (ascends-front key 0 xs ys (ascends-keys key (xs ++ ys) (r .ascend))) }
 
   -- what a row says of its last element
   record Last (xs : List A) (x : A) : Type 0 where
-    front : Row good key most xs
+    front : Sorted (by-key key) good most xs
     is-good : good x
     room : length xs < most
     rises : floor-of key 0 xs ≤ key x
 
-  row-last : (xs : List A) (x : A) → Row good key most (xs ++ (x ∷ [])) → Last xs x
+  row-last : (xs : List A) (x : A) → Sorted (by-key key) good most (xs ++ (x ∷ [])) → Last xs x
   row-last xs x r =
       record {
         front = row-front xs (x ∷ []) r;
         is-good = all-back good xs (x ∷ []) (r .each) .0;
         room = omega (arith, r .few, length-append xs (x ∷ []));
-        rises = ascends-back key 0 xs (x ∷ []) (r .ascend) .0;
+        rises = ascends-back key 0 xs (x ∷ []) (ascends-keys key (xs ++ (x ∷ [])) (r .ascend)) .0;
       }
 
   -- where each element's call puts it at the end, the calls of a row give the row
   module _ (with : List A → Model) (call : A → Call) (step : (xs : List A) (x : A) → Last xs x → after (with xs) (call x) ≡ with (xs ++ (x ∷ []))) where
-    fills : (xs ys : List A) → Row good key most (xs ++ ys) → run (with xs) (map call ys) ≡ with (xs ++ ys)
+    fills : (xs ys : List A) → Sorted (by-key key) good most (xs ++ ys) → run (with xs) (map call ys) ≡ with (xs ++ ys)
     fills xs [] r = ap with (sym (append-nil xs))
     fills xs (y ∷ ys) r =
         let e : (xs ++ (y ∷ [])) ++ ys ≡ xs ++ (y ∷ ys) = append-assoc xs (y ∷ []) ys in
-        let s : Row good key most ((xs ++ (y ∷ [])) ++ ys) = subst (Row good key most) (sym e) r in
+        let s : Sorted (by-key key) good most ((xs ++ (y ∷ [])) ++ ys) = subst (Sorted (by-key key) good most) (sym e) r in
         ap (λ (m : Model). run m (map call ys)) (step xs y (row-last xs y (row-front (xs ++ (y ∷ [])) ys s))) ∙ fills (xs ++ (y ∷ [])) ys s ∙ ap with e
 
 -- the regions of a row, added in order
-regions-fill : (rs : List ℕ) → Row (λ n. n < regions) (λ n. n) regions rs → run nothing (map Call.add-region rs) ≡ only rs
+regions-fill : (rs : List ℕ) → Sorted (by-key (λ n. n)) (λ n. n < regions) regions rs → run nothing (map Call.add-region rs) ≡ only rs
 regions-fill rs r = fills (λ n. n < regions) (λ n. n) regions only Call.add-region step [] rs r
   where
     step : (xs : List ℕ) (x : ℕ) → Last (λ n. n < regions) (λ n. n) regions xs x → after (only xs) (Call.add-region x) ≡ only (xs ++ (x ∷ []))
-    step xs x l = region-joined xs x (region-taken xs x (l .is-good) (l .rises) (l .front .ascend)) (l .rises) (l .front .ascend)
+    step xs x l =
+        let a = ascends-keys (λ n. n) xs (l .front .ascend) in
+        region-joined xs x (region-taken xs x (l .is-good) (l .rises) a) (l .rises) a
 
 -- a row in a section of a legal model
-filled-legal : (k : Section) (m : Model) (xs : List (Elem k)) → Legal (filled k m []) → Row (LegalElem k (m .regions)) (key k) (most k) xs → Legal (filled k m xs)
+filled-legal : (k : Section) (m : Model) (xs : List (Elem k)) → Legal (filled k m []) → Sorted (by-key (key k)) (LegalElem k (m .regions)) (most k) xs → Legal (filled k m xs)
 filled-legal Section.Bundles m xs l r =
     let h = legal-rows (filled Section.Bundles m []) l in
     rows-legal (filled Section.Bundles m xs) (h .0) (λ k. elim k [ Section.Bundles ↦ r | Section.Connections ↦ h .1 Section.Connections ])
@@ -85,14 +87,15 @@ filled-legal Section.Connections m xs l r =
     rows-legal (filled Section.Connections m xs) (h .0) (λ k. elim k [ Section.Bundles ↦ h .1 Section.Bundles | Section.Connections ↦ r ])
 
 -- the elements of a section, handed to its call in order
-section-fill : (k : Section) (m : Model) (xs : List (Elem k)) → Legal (filled k m []) → Row (LegalElem k (m .regions)) (key k) (most k) xs
+section-fill : (k : Section) (m : Model) (xs : List (Elem k)) → Legal (filled k m []) → Sorted (by-key (key k)) (LegalElem k (m .regions)) (most k) xs
     → run (filled k m []) (map (call k) xs) ≡ filled k m xs
 section-fill k m xs l r = fills (LegalElem k (m .regions)) (key k) (most k) (filled k m) (call k) step [] xs r
   where
     step : (xs : List (Elem k)) (x : Elem k) → Last (LegalElem k (m .regions)) (key k) (most k) xs x → after (filled k m xs) (call k x) ≡ filled k m (xs ++ (x ∷ []))
     step xs x h =
         let g : Legal (filled k m xs) = filled-legal k m xs l (h .front) in
-        joined k m xs x g (taken k m xs x g (h .is-good) (h .rises) (h .front .ascend) (h .room)) (h .front .ascend) (h .rises)
+        let a = ascends-keys (key k) xs (h .front .ascend) in
+        joined k m xs x g (taken k m xs x g (h .is-good) (h .rises) a (h .room)) a (h .rises)
 
 -- the numbers of a legal part have 32 bits
 part-words : (p : Part) → NumberedPart p → PartWords p
@@ -126,7 +129,7 @@ legal-reached m l =
           ∙ section-fill Section.Connections m (m .connections) (filled-legal Section.Bundles m (m .bundles) none (rows .1 Section.Bundles)) (rows .1 Section.Connections);
     }
   where
-    rows : Row (λ n. n < regions) (λ n. n) regions (m .regions) × ((k : Section) → Row (LegalElem k (m .regions)) (key k) (most k) (elements k m))
+    rows : Sorted (by-key (λ n. n)) (λ n. n < regions) regions (m .regions) × ((k : Section) → Sorted (by-key (key k)) (LegalElem k (m .regions)) (most k) (elements k m))
     rows = legal-rows m l
 
     adds : List Call
@@ -145,7 +148,7 @@ legal-reached m l =
     none : Legal (only (m .regions))
     none =
         rows-legal (only (m .regions)) (rows .0)
-        (λ k. elim k [ Section.Bundles ↦ record { few = omega arith; each = tt; ascend = tt } | Section.Connections ↦ record { few = omega arith; each = tt; ascend = tt } ])
+        (λ k. elim k [ Section.Bundles ↦ record { few = omega arith; each = tt; ascend = refl } | Section.Connections ↦ record { few = omega arith; each = tt; ascend = refl } ])
 
 -- a model is legal exactly when some calls from nothing give it
 pub legal-reachable : (m : Model) → Legal m ↔ Reached (λ n. n) m

@@ -1,76 +1,86 @@
 -- The record of a bundle or connection and its fields.
 use mathlib.Core.Path.{_≡_, refl, sym, ap, _∙_, subst}
-use mathlib.Core.Bool.{Bool, true, false}
-use mathlib.Core.List.{List, _∷_, _++_}
-use Prim.Native.Nat.{ℕ, zero, suc, _+_, _-_, _*_, _^_, _≤_, _<_}
+use mathlib.Core.Bool.{Bool, true, false, not, _&&_}
+use mathlib.Core.List.{List, [], _∷_, _++_}
+use Prim.Native.Nat.{ℕ, zero, suc, _+_, _*_, _^_, _≤_, _<_}
 use native.Mathlib.Omega.{arith}
-use lib.ListN.{length, drop, getD, length-append, length-drop}
+use borrow.Author.Tests.{le-leb, leb-true, not-true}
+use lib.Dec.{leb, eqb}
+use lib.ListN.{length, length-append}
 use Rattle.region_graph.specs.Size.{regions, most-listed}
-use Rattle.region_graph.specs.Lists.{All}
+use Rattle.region_graph.specs.Lists.{All, member}
 use Rattle.region_graph.specs.Model.{Part, Word, Numbered, NumberedPart}
-use Rattle.region_graph.proofs.Lists.{member-all}
+use Rattle.region_graph.specs.Flat.{Fields, FlatPart}
+use Rattle.region_graph.proofs.Lists.{and-yes, and-fst, and-snd, member-all, false-true}
 use Rattle.region_archive.specs.Bounds.{part-bound}
 use Rattle.region_archive.specs.Bytes.{big, each, counted}
 use Rattle.region_archive.specs.Image.{part-bytes}
-use Rattle.region_archive.specs.Rows.{Parsed, Answer}
-use Rattle.region_archive.specs.Entries.{bytes-to, SameTo, Fields, Listed, ListedPart, part-at, first-width, field-count, FieldGood, field-bytes, fields-bytes, FieldSame, SameFields, Elem, fields-of, record-bytes, LegalElem}
+use Rattle.region_archive.specs.Entries.{bytes-to, SameTo, GoodTo, part-at, first-width, field-count, most-in, row-width, part-open, PartGood, first-good, second-good, FieldGood, field-bytes, fields-bytes, FieldSame, FlatField, FlatElem, SameFields, Elem, fields-of, record-bytes, key, LegalElem}
 use Rattle.region_archive.specs.declared.entries.Section.{Section}
 use Rattle.region_archive.specs.declared.entries.Section.the-variants as Section
 use Rattle.region_archive.proofs.Pieces.{big-length, each-length}
 use Rattle.region_archive.proofs.Delimits.{Delimits, big-same, counted-same, head-same, tail-same, sized-same}
-use Rattle.region_archive.proofs.Digits.{drop-byte}
-use Rattle.region_archive.proofs.FieldLaws.{GoodTo, to-same, to-moves}
-use Rattle.region_archive.proofs.Sizes.{few-fields}
-use Rattle.region_archive.proofs.Answers.{list-words}
+use Rattle.region_archive.proofs.FieldLaws.{to-same}
+use Rattle.region_archive.proofs.Sizes.{few-fields, narrow-first}
 
 -- parts tell themselves apart
-pub part-same : Delimits ListedPart (part-bytes (big 4)) _≡_
-part-same (Part.listed xs) (Part.listed ys) r t h k e =
-    let d = counted-same Word (big 4) (big-same 4) Listed list-words xs ys r t h k e in
-    (ap Part.listed (d .0), d .1)
-part-same (Part.listed xs) Part.everything r t h k e = absurd (omega (arith, h .few, head-same e))
-part-same Part.everything (Part.listed ys) r t h k e = absurd (omega (arith, k .few, head-same e))
-part-same Part.everything Part.everything r t h k e = (refl, tail-same e)
+module _ (most : ℕ) (few : most ≤ most-listed) (all : Bool) where
+  pub part-same : Delimits (PartGood most all) (part-bytes (big 4)) _≡_
+  part-same (Part.listed xs) (Part.listed ys) r t h k e =
+      let d = counted-same Word (big 4) (big-same 4) (Numbered most) (λ zs n. n .each) xs ys r t h k e in
+      (ap Part.listed (d .0), d .1)
+  part-same (Part.listed xs) Part.everything r t h k e = absurd (omega (arith, h .few, head-same e))
+  part-same Part.everything (Part.listed ys) r t h k e = absurd (omega (arith, k .few, head-same e))
+  part-same Part.everything Part.everything r t h k e = (refl, tail-same e)
 
--- a part that stands at a place, by its first byte
-module _ (s : List ℕ) (at : ℕ) where
-  pub part-everything : drop at s ≡ 255 ∷ drop (at + 1) s → at < length s → Parsed ListedPart (part-bytes (big 4)) s at Part.everything (at + 1)
-  part-everything e h = record { is-good = tt; shape = e; ends = refl; room = omega arith }
+  -- and take at most 65 bytes
+  pub part-length : (p : Part) → PartGood most all p → length (part-bytes (big 4) p) ≤ part-bound
+  part-length (Part.listed xs) h = omega (arith, h .few, each-length (big 4) 4 (big-length 4) xs)
+  part-length Part.everything h = omega arith
 
-  pub part-from-list : ((r : List ℕ) → drop at s ≡ 255 ∷ r → ⊥) → (ok : Bool) (xs : List ℕ) (next : ℕ)
-      → Answer Listed (counted (big 4)) s at ok xs next → Answer ListedPart (part-bytes (big 4)) s at ok (Part.listed xs) next
-  part-from-list u true xs next p = record { is-good = p .is-good; shape = p .shape; ends = p .ends; room = p .room }
-  part-from-list u false xs next n = λ p r h e. other p r h e
-    where
-      other : (p : Part) (r : List ℕ) → ListedPart p → drop at s ≡ part-bytes (big 4) p ++ r → ⊥
-      other (Part.listed ys) r h e = n ys r h e
-      other Part.everything r h e = u r e
+-- a list of a record has few numbers
+pub most-in-few : (s : Section) → most-in s ≤ most-listed
+most-in-few Section.Bundles = omega arith
+most-in-few Section.Connections = omega arith
 
--- the first byte is not that of the sign
-pub not-everything : (s : List ℕ) (at : ℕ) → (at < length s → getD s at 0 ≡ 255 → ⊥) → (r : List ℕ) → drop at s ≡ 255 ∷ r → ⊥
-not-everything s at u r e =
-    let h : at < length s = omega (arith, sym (length-drop at s) ∙ ap length e) in
-    u h (head-same (sym (drop-byte s at h) ∙ e))
+-- a row has places for the two numbers
+pub wide : (s : Section) → 2 ≤ row-width s
+wide Section.Bundles = omega arith
+wide Section.Connections = omega arith
 
+-- the same fields have the same bytes
 module _ (s : Section) where
+  pub field-moved : (k : ℕ) (x y : Fields) → FieldSame k x y → field-bytes s k x ≡ field-bytes s k y
+  field-moved zero x y h = ap (big (first-width s)) h
+  field-moved (suc zero) x y h = ap (big 1) h
+  field-moved (suc (suc k)) x y h = ap (part-bytes (big 4)) h
+
+  to-bytes : (k : ℕ) (x y : Fields) → SameTo FieldSame k x y → bytes-to (field-bytes s) k x ≡ bytes-to (field-bytes s) k y
+  to-bytes zero x y h = refl
+  to-bytes (suc k) x y h = λ i. to-bytes k x y (h .0) i ++ field-moved k x y (h .1) i
+
+  pub same-bytes : (x y : Fields) → SameFields s x y → fields-bytes s x ≡ fields-bytes s y
+  same-bytes x y h = to-bytes (field-count s) x y h
+
+module _ (s : Section) (rs : List ℕ) (floor : ℕ) where
   -- each field tells itself apart
-  pub field-same : (k : ℕ) → Delimits (FieldGood s k) (field-bytes s k) (FieldSame k)
-  field-same zero x y r t h g e = big-same (first-width s) (x .first) (y .first) r t h g e
-  field-same (suc zero) x y r t h g e = big-same 1 (x .second) (y .second) r t h g e
-  field-same (suc (suc k)) x y r t h g e = part-same (part-at x k) (part-at y k) r t h g e
+  pub field-same : (k : ℕ) → Delimits (FieldGood s rs floor k) (field-bytes s k) (FieldSame k)
+  field-same zero x y r t h g e = big-same (first-width s) (x .first) (y .first) r t (h .0) (g .0) e
+  field-same (suc zero) x y r t h g e = big-same 1 (x .second) (y .second) r t (h .0) (g .0) e
+  field-same (suc (suc k)) x y r t h g e = part-same (most-in s) (most-in-few s) _ (part-at x k) (part-at y k) r t h g e
 
   -- what is the same has the same bytes, and is as good
-  pub field-moves : (k : ℕ) (x y : Fields) → SameTo FieldSame (suc k) x y → (field-bytes s k x ≡ field-bytes s k y) × (FieldGood s k x → FieldGood s k y)
-  field-moves zero x y h = (ap (big (first-width s)) (h .1), λ g. subst (λ (n : ℕ). n < 256 ^ first-width s) (h .1) g)
-  field-moves (suc zero) x y h = (ap (big 1) (h .1), λ g. subst (λ (n : ℕ). n < 256) (h .1) g)
-  field-moves (suc (suc k)) x y h = (ap (part-bytes (big 4)) (h .1), λ g. subst ListedPart (h .1) g)
+  pub field-moves : (k : ℕ) (x y : Fields) → SameTo FieldSame (suc k) x y
+      → (field-bytes s k x ≡ field-bytes s k y) × (FieldGood s rs floor k x → FieldGood s rs floor k y)
+  field-moves zero x y h = (field-moved s 0 x y (h .1), λ g. subst (λ (n : ℕ). (n < 256 ^ first-width s) × (first-good s rs floor n ≡ true)) (h .1) g)
+  field-moves (suc zero) x y h = (
+    field-moved s 1 x y (h .1),
+    λ g. (subst (λ (n : ℕ). n < 256) (h .1) (g .0), (λ i. second-good s rs floor (sym (h .0 .1) i) (sym (h .1) i)) ∙ g .1),
+  )
+  field-moves (suc (suc k)) x y h = (field-moved s (suc (suc k)) x y (h .1), λ g. subst (PartGood (most-in s) _) (h .1) g)
 
-  -- the same fields have the same bytes
-  pub same-bytes : (x y : Fields) → SameFields s x y → fields-bytes s x ≡ fields-bytes s y
-  same-bytes x y h = to-moves (FieldGood s) (field-bytes s) FieldSame field-same field-moves (field-count s) x y h .0
-
-  pub fields-same : Delimits (GoodTo (FieldGood s) (field-count s)) (fields-bytes s) (SameFields s)
-  fields-same = to-same (FieldGood s) (field-bytes s) FieldSame field-same field-moves (field-count s)
+  pub fields-same : Delimits (GoodTo (FieldGood s rs floor) (field-count s)) (fields-bytes s) (SameFields s)
+  fields-same = to-same (FieldGood s rs floor) (field-bytes s) FieldSame field-same field-moves (field-count s)
 
 -- elements with the same fields are the same
 listed-same : {xs ys : List ℕ} → Part.listed xs ≡ Part.listed ys → xs ≡ ys
@@ -82,62 +92,152 @@ same-element Section.Bundles x y h =
 same-element Section.Connections x y h =
     λ i. record { source = h .0 .0 .0 .0 .1 i; target = h .0 .0 .0 .1 i; filter = record { bundles = listed-same (h .0 .0 .1) i; packages = h .0 .1 i; services = h .1 i } }
 
-pub same-back : (n : ℕ) (x y : Fields) → SameTo FieldSame n x y → SameTo FieldSame n y x
-same-back zero x y h = tt
-same-back (suc n) x y h = (same-back n x y (h .0), one n (h .1))
-  where
-    one : (k : ℕ) → FieldSame k x y → FieldSame k y x
-    one zero e = sym e
-    one (suc zero) e = sym e
-    one (suc (suc k)) e = sym e
+-- a part that may be everything, and one that may not
+pub open-part : (p : Part) → NumberedPart p → PartGood most-listed true p
+open-part (Part.listed xs) h = h
+open-part Part.everything h = refl
 
-pub same-then : (n : ℕ) (x y z : Fields) → SameTo FieldSame n x y → SameTo FieldSame n y z → SameTo FieldSame n x z
-same-then zero x y z g h = tt
-same-then (suc n) x y z g h = (same-then n x y z (g .0) (h .0), one n (g .1) (h .1))
-  where
-    one : (k : ℕ) → FieldSame k x y → FieldSame k y z → FieldSame k x z
-    one zero e f = e ∙ f
-    one (suc zero) e f = e ∙ f
-    one (suc (suc k)) e f = e ∙ f
+numbered-part : (p : Part) → PartGood most-listed true p → NumberedPart p
+numbered-part (Part.listed xs) h = h
+numbered-part Part.everything h = tt
 
--- a legal element's fields can stand in an archive
-numbered-listed : (most : ℕ) (xs : List ℕ) → most ≤ most-listed → Numbered most xs → Listed xs
-numbered-listed most xs h n = record { few = omega (arith, n .few); words = n .each }
+record IsList (most : ℕ) (p : Part) : Type 0 where
+  numbers : List ℕ
+  is-list : p ≡ Part.listed numbers
+  numbered : Numbered most numbers
 
-pub part-listed-of : (p : Part) → NumberedPart p → ListedPart p
-part-listed-of (Part.listed xs) h = numbered-listed most-listed xs (omega arith) h
-part-listed-of Part.everything h = tt
+list-part : (most : ℕ) (p : Part) → PartGood most false p → IsList most p
+list-part most (Part.listed xs) h = record { numbers = xs; is-list = refl; numbered = h }
+list-part most Part.everything h = false-true h
 
+module _ (rs : List ℕ) (floor : ℕ) where
+  -- the element that has good fields
+  pub record Element (s : Section) (f : Fields) : Type 0 where
+    pub elem : Elem s
+    pub same : SameFields s f (fields-of s elem)
+    pub legal : LegalElem s rs elem
+    pub high : floor ≤ key s elem
+
+  pub element-of : (s : Section) (f : Fields) → GoodTo (FieldGood s rs floor) (field-count s) f → Element s f
+  element-of Section.Bundles f h =
+      let first = h .0 .0 .0 .1 in
+      let second = h .0 .0 .1 in
+      let packages = list-part 8 (part-at f 0) (h .0 .1) in
+      let services = list-part 8 (part-at f 1) (h .1) in
+      record {
+        elem = record { location = f .first; region = f .second; packages = packages .numbers; services = services .numbers };
+        same = ((((tt, refl), refl), packages .is-list), services .is-list);
+        legal =
+            record {
+              location = first .0;
+              region = and-snd (leb floor (f .first)) (member (f .second) rs) (second .1);
+              packages = packages .numbered;
+              services = services .numbered;
+            };
+        high = leb-true floor (f .first) (and-fst (leb floor (f .first)) (member (f .second) rs) (second .1));
+      }
+  element-of Section.Connections f h =
+      let first = h .0 .0 .0 .0 .1 in
+      let second = h .0 .0 .0 .1 in
+      let order = f .first * 256 + f .second in
+      let bundles = list-part 16 (part-at f 0) (h .0 .0 .1) in
+      let ends = and-snd (leb floor order) (not (eqb (f .first) (f .second)) && member (f .second) rs) (second .1) in
+      record {
+        elem =
+            record {
+              source = f .first;
+              target = f .second;
+              filter = record { bundles = bundles .numbers; packages = part-at f 1; services = part-at f 2 };
+            };
+        same = (((((tt, refl), refl), bundles .is-list), refl), refl);
+        legal =
+            record {
+              source = and-snd (leb floor (f .first * 256 + 255)) (member (f .first) rs) (first .1);
+              target = and-snd (not (eqb (f .first) (f .second))) (member (f .second) rs) ends;
+              differ = not-true (eqb (f .first) (f .second)) (and-fst (not (eqb (f .first) (f .second))) (member (f .second) rs) ends);
+              filter =
+                  record {
+                    bundles = bundles .numbered;
+                    packages = numbered-part (part-at f 1) (h .0 .1);
+                    services = numbered-part (part-at f 2) (h .1);
+                  };
+            };
+        high = leb-true floor order (and-fst (leb floor order) (not (eqb (f .first) (f .second)) && member (f .second) rs) (second .1));
+      }
+
+  -- the fields of a legal element are good
+  module _ (small : All (λ r. r < regions) rs) where
+    region-small : (r : ℕ) → member r rs ≡ true → r < regions
+    region-small r e = member-all (λ n. n < regions) r rs small e
+
+    pub element-good : (s : Section) (x : Elem s) → LegalElem s rs x → floor ≤ key s x → GoodTo (FieldGood s rs floor) (field-count s) (fields-of s x)
+    element-good Section.Bundles b l h = (
+      (
+        (
+          (tt, (l .location, and-yes (le-leb floor (b .location) h) refl)),
+          (omega (arith, region-small (b .region) (l .region)), and-yes (le-leb floor (b .location) h) (l .region)),
+        ),
+        l .packages,
+      ),
+      l .services,
+    )
+    element-good Section.Connections c l h = (
+      (
+        (
+          (
+            (tt, (omega (arith, region-small (c .source) (l .source)), and-yes (le-leb floor (c .source * 256 + 255) top) (l .source))),
+            (
+              omega (arith, region-small (c .target) (l .target)),
+              and-yes (le-leb floor (c .source * 256 + c .target) h) (and-yes (ap not (l .differ)) (l .target)),
+            ),
+          ),
+          l .filter .bundles,
+        ),
+        open-part (c .filter .packages) (l .filter .packages),
+      ),
+      open-part (c .filter .services) (l .filter .services),
+    )
+      where
+        top : floor ≤ c .source * 256 + 255
+        top = omega (arith, h, region-small (c .target) (l .target))
+
+-- the numbers of an element stand in a row where its fields do
+pub flat-of : (s : Section) (row : List ℕ) (f : Fields) (x : Elem s) → SameFields s f (fields-of s x) → GoodTo (FlatField (most-in s) row) (field-count s) f
+    → FlatElem s row x
+flat-of Section.Bundles row f x h g = record {
+  first = g .0 .0 .0 .1 ∙ h .0 .0 .0 .1;
+  second = g .0 .0 .1 ∙ h .0 .0 .1;
+  parts = (subst (FlatPart row 2) (h .0 .1) (g .0 .1), (subst (FlatPart row 11) (h .1) (g .1), tt));
+}
+flat-of Section.Connections row f x h g = record {
+  first = g .0 .0 .0 .0 .1 ∙ h .0 .0 .0 .0 .1;
+  second = g .0 .0 .0 .1 ∙ h .0 .0 .0 .1;
+  parts = (
+    subst (FlatPart row 2) (h .0 .0 .1) (g .0 .0 .1),
+    (subst (FlatPart row 19) (h .0 .1) (g .0 .1), (subst (FlatPart row 36) (h .1) (g .1), tt)),
+  );
+}
+
+-- the record of a legal element tells it apart
 module _ (rs : List ℕ) (small : All (λ r. r < regions) rs) where
-  pub element-good : (s : Section) (x : Elem s) → LegalElem s rs x → GoodTo (FieldGood s) (field-count s) (fields-of s x)
-  element-good Section.Bundles b l =
-      ((((tt, l .location), omega (arith, member-all (λ r. r < regions) (b .region) rs small (l .region))), numbered-listed 8 (b .packages) (omega arith) (l .packages)), numbered-listed 8 (b .services) (omega arith) (l .services))
-  element-good Section.Connections c l =
-      (((((tt, omega (arith, member-all (λ r. r < regions) (c .source) rs small (l .source))), omega (arith, member-all (λ r. r < regions) (c .target) rs small (l .target))), numbered-listed most-listed (c .filter .bundles) (omega arith) (l .filter .bundles)), part-listed-of (c .filter .packages) (l .filter .packages)), part-listed-of (c .filter .services) (l .filter .services))
-
-  -- the record of a legal element tells it apart
   pub element-same : (s : Section) → Delimits (LegalElem s rs) (record-bytes s) _≡_
   element-same s = sized-same 2 (LegalElem s rs) (λ y. fields-bytes s (fields-of s y)) _≡_ each-one
     where
       each-one : Delimits (LegalElem s rs) (λ y. fields-bytes s (fields-of s y)) _≡_
       each-one x y r t h k e =
-          let d = fields-same s (fields-of s x) (fields-of s y) r t (element-good s x h) (element-good s y k) e in
+          let d = fields-same s rs 0 (fields-of s x) (fields-of s y) r t (element-good rs 0 small s x h (omega arith)) (element-good rs 0 small s y k (omega arith)) e in
           (same-element s x y (d .0), d .1)
 
 -- how long the fields of a record can be
-pub part-length : (p : Part) → ListedPart p → length (part-bytes (big 4) p) ≤ part-bound
-part-length (Part.listed xs) h = omega (arith, h .few, each-length (big 4) 4 (big-length 4) xs)
-part-length Part.everything h = omega arith
+module _ (s : Section) (rs : List ℕ) (floor : ℕ) where
+  field-length : (k : ℕ) (f : Fields) → FieldGood s rs floor k f → length (field-bytes s k f) ≤ part-bound
+  field-length zero f h = omega (arith, big-length (first-width s) (f .first), narrow-first s)
+  field-length (suc zero) f h = omega arith
+  field-length (suc (suc k)) f h = part-length (most-in s) (most-in-few s) (part-open s (suc (suc k))) (part-at f k) h
 
-field-length : (s : Section) (k : ℕ) (f : Fields) → FieldGood s k f → length (field-bytes s k f) ≤ part-bound
-field-length Section.Bundles zero f h = omega arith
-field-length Section.Connections zero f h = omega arith
-field-length s (suc zero) f h = omega arith
-field-length s (suc (suc k)) f h = part-length (part-at f k) h
+  fields-length : (n : ℕ) (f : Fields) → GoodTo (FieldGood s rs floor) n f → length (bytes-to (field-bytes s) n f) ≤ n * part-bound
+  fields-length zero f h = omega arith
+  fields-length (suc n) f h = rw length-append (omega (arith, field-length n f (h .1), fields-length n f (h .0)))
 
-fields-length : (s : Section) (n : ℕ) (f : Fields) → GoodTo (FieldGood s) n f → length (bytes-to (field-bytes s) n f) ≤ n * part-bound
-fields-length s zero f h = omega arith
-fields-length s (suc n) f h = rw length-append (omega (arith, field-length s n f (h .1), fields-length s n f (h .0)))
-
-pub fields-small : (s : Section) (f : Fields) → GoodTo (FieldGood s) (field-count s) f → length (fields-bytes s f) < 256 ^ 2
-fields-small s f h = omega (arith, fields-length s (field-count s) f h, few-fields s)
+  pub fields-small : (f : Fields) → GoodTo (FieldGood s rs floor) (field-count s) f → length (fields-bytes s f) < 256 ^ 2
+  fields-small f h = omega (arith, fields-length (field-count s) f h, few-fields s)

@@ -5,12 +5,13 @@ use Prim.Native.Nat.{ℕ, zero, suc, _-_, _≤_, _<_}
 use native.Mathlib.Omega.{arith}
 use lib.ListN.{length, getD}
 use Rattle.region_graph.specs.Model.{Model, Bundle, Connection, Part}
+use Rattle.region_graph.specs.Flat.{Fields}
 use Rattle.region_graph.specs.Record.{part-in}
 use Rattle.region_graph.specs.declared.numbers.Numbers.{Numbers}
 use Rattle.region_graph.proofs.Arrays.{getD-map-in}
 use Rattle.region_archive.specs.Bytes.{big, counted, sized}
 use Rattle.region_archive.specs.Image.{version, part-bytes, bundle-fields, connection-fields, body}
-use Rattle.region_archive.specs.Entries.{Fields, field-bytes, fields-bytes, first-width, Elem, fields-of, fields-in, EntryIs, record-bytes, section-bytes}
+use Rattle.region_archive.specs.Entries.{field-bytes, fields-bytes, first-width, Elem, fields-of, fields-in, EntryIs, record-bytes, section-bytes}
 use Rattle.region_archive.specs.declared.entries.Entry.{Entry}
 use Rattle.region_archive.specs.declared.entries.Section.{Section}
 use Rattle.region_archive.specs.declared.entries.Section.the-variants as Section

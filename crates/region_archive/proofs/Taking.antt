@@ -11,42 +11,27 @@ use borrow.Author.Tests.{lt-ltb, le-ltb, ltb-true, le-leb, eq-eqb, ne-eqb}
 use Rattle.region_graph.specs.Size.{regions, most-bundles, most-connections, most-provided, most-listed}
 use Rattle.region_graph.specs.Refusals.{not-refused}
 use Rattle.region_graph.specs.Lists.{All, member, insert, ascends}
-use Rattle.region_graph.specs.Model.{Model, Filter, Part, Connection, NumberedPart, LegalFilter, Legal, bundle-before, connection-before}
+use Rattle.region_graph.specs.Model.{Model, Filter, Part, Connection, Sorted, NumberedPart, LegalFilter, Legal, bundle-before, connection-before}
 use Rattle.region_graph.specs.Calls.{Call, Question, first-no, questions, number, accepted, after, is-region, at-location, joins, part-within, part-ascends, filter-within, filter-ascends}
 use Rattle.region_graph.proofs.Lists.{and-yes, and-left, and-right, and-fst, and-snd, pick-yes, all-map, all-both, member-all}
-use Rattle.region_graph.proofs.Ascending.{none-any}
+use Rattle.region_graph.proofs.Ascending.{none-any, connection-order}
 use Rattle.region_graph.proofs.Legal.{connectable}
-use Rattle.region_archive.specs.Rows.{Ascends, Row}
-use Rattle.region_archive.specs.Entries.{Elem, key, most, LegalElem, filled, elements, call}
+use Rattle.region_archive.specs.Rows.{by-key}
+use Rattle.region_archive.specs.Entries.{Elem, key, most, LegalElem, elements}
 use Rattle.region_archive.specs.declared.entries.Section.{Section}
 use Rattle.region_archive.specs.declared.entries.Section.the-variants as Section
-use Rattle.region_archive.proofs.Pieces.{floor-of, all-back}
+use Rattle.region_archive.proofs.Pieces.{Ascends, floor-of}
 
--- the order by a key: the test of neighbours, and the ascent from a floor
+-- the model with these elements in the section, those before it as they are, and nothing in the one after it
+abbrev pub filled : (s : Section) → Model → List (Elem s) → Model
+filled Section.Bundles m bs = record { regions = m .regions; bundles = bs; connections = [] }
+filled Section.Connections m cs = record { regions = m .regions; bundles = m .bundles; connections = cs }
+
+abbrev pub call : (s : Section) → Elem s → Call
+call Section.Bundles b = Call.install b
+call Section.Connections c = Call.connect c
 
 module _ {A : Type 0} (key : A → ℕ) where
-  abbrev by-key : A → A → Bool
-  by-key a b = ltb (key a) (key b)
-
-  -- from the first element on
-  after-first : (x : A) (xs : List A) → ascends by-key (x ∷ xs) ≡ true → Ascends key (key x + 1) xs
-  after-first x [] e = tt
-  after-first x (y ∷ ys) e =
-      (omega (arith, ltb-true (key x) (key y) (and-fst (by-key x y) (ascends by-key (y ∷ ys)) e)), after-first y ys (and-snd (by-key x y) (ascends by-key (y ∷ ys)) e))
-
-  first-after : (x : A) (xs : List A) → Ascends key (key x + 1) xs → ascends by-key (x ∷ xs) ≡ true
-  first-after x [] h = refl
-  first-after x (y ∷ ys) h = and-yes (lt-ltb (key x) (key y) (omega (arith, h .0))) (first-after y ys (h .1))
-
-  -- each neighbour comes before the next exactly when the keys ascend
-  pub ascends-keys : (xs : List A) → ascends by-key xs ≡ true → Ascends key 0 xs
-  ascends-keys [] e = tt
-  ascends-keys (x ∷ xs) e = (omega arith, after-first x xs e)
-
-  pub keys-ascend : (xs : List A) → Ascends key 0 xs → ascends by-key xs ≡ true
-  keys-ascend [] h = refl
-  keys-ascend (x ∷ xs) h = first-after x xs (h .1)
-
   -- a floor is no lower than where it began
   floor-up : (n : ℕ) (xs : List A) → Ascends key n xs → n ≤ floor-of key n xs
   floor-up n [] h = omega arith
@@ -97,29 +82,10 @@ abbrev Small : (k : Section) → Elem k → Type 0
 Small Section.Bundles b = Unit {0}
 Small Section.Connections c = c .target < 256
 
--- source, then target, is the order of the keys
-connection-key : (a b : Connection) → a .target < 256 → b .target < 256 → connection-before a b ≡ ltb (key Section.Connections a) (key Section.Connections b)
-connection-key a b h g = go (decLt (a .source) (b .source)) (decLt (b .source) (a .source)) (decLt (a .target) (b .target))
-  where
-    p : ℕ
-    p = a .source * 256 + a .target
-
-    q : ℕ
-    q = b .source * 256 + b .target
-
-    go : Dec (a .source < b .source) → Dec (b .source < a .source) → Dec (a .target < b .target) → connection-before a b ≡ ltb p q
-    go (yes s) _ _ = rw (lt-ltb (a .source) (b .source) s) (sym (lt-ltb p q (omega arith)))
-    go (no s) (yes t) _ =
-        rw (le-ltb (a .source) (b .source) (omega arith), ne-eqb (a .source) (b .source) (omega arith)) (sym (le-ltb p q (omega arith)))
-    go (no s) (no t) (yes u) =
-        rw (le-ltb (a .source) (b .source) (omega arith), eq-eqb (a .source) (b .source) (omega arith), lt-ltb (a .target) (b .target) u) (sym (lt-ltb p q (omega arith)))
-    go (no s) (no t) (no u) =
-        rw (le-ltb (a .source) (b .source) (omega arith), eq-eqb (a .source) (b .source) (omega arith), le-ltb (a .target) (b .target) (omega arith)) (sym (le-ltb p q (omega arith)))
-
 -- the order of a section is that of its keys
 before-key : (k : Section) (a b : Elem k) → Small k a → Small k b → before k a b ≡ ltb (key k a) (key k b)
 before-key Section.Bundles a b h g = refl
-before-key Section.Connections a b h g = connection-key a b h g
+before-key Section.Connections a b h g = connection-order 256 a b h g
 
 -- a legal element's regions are below 16
 small : (k : Section) (rs : List ℕ) → All (λ r. r < regions) rs → (x : Elem k) → LegalElem k rs x → Small k x
@@ -142,10 +108,6 @@ pub region-joined : (rs : List ℕ) (r : ℕ) → number (only rs) (Call.add-reg
 region-joined rs r e f a =
     accepted-after (only rs) (Call.add-region r) e
     ∙ ap only (insert-last ltb r rs (fails-below (λ n. n) (ltb r) r rs (λ n g. le-ltb r n (omega arith)) f a))
-
--- the last region is below 16
-pub region-legal : (rs : List ℕ) (r : ℕ) → Legal (only (rs ++ (r ∷ []))) → r < regions
-region-legal rs r l = all-back (λ n. n < regions) rs (r ∷ []) (l .regions-legal .each) .0
 
 -- a legal part, and a legal filter, passes the questions about lists
 part-few : (p : Part) → NumberedPart p → part-within p ≡ true
@@ -207,10 +169,6 @@ section-regions : (k : Section) (m : Model) (xs : List (Elem k)) → Legal (fill
 section-regions Section.Bundles m xs l = l .regions-legal .each
 section-regions Section.Connections m xs l = l .regions-legal .each
 
--- the last element of a section is legal
-pub taken-legal : (k : Section) (m : Model) (xs : List (Elem k)) (x : Elem k) → Legal (filled k m (xs ++ (x ∷ []))) → LegalElem k (m .regions) x
-taken-legal k m xs x l = all-back (LegalElem k (m .regions)) xs (x ∷ []) (section-legal k m (xs ++ (x ∷ [])) l) .0
-
 -- an element that was accepted is small enough for its key
 taken-small : (k : Section) (m : Model) (xs : List (Elem k)) (x : Elem k) → All (λ r. r < regions) (m .regions) → number (filled k m xs) (call k x) ≡ not-refused → Small k x
 taken-small Section.Bundles m xs x n e = tt
@@ -238,41 +196,31 @@ section-ascends k rs n xs h =
     ascends-same (Small k) (before k) (by-key (key k)) (before-key k) xs (all-map (LegalElem k rs) (Small k) (small k rs n) xs h)
 
 -- a legal model's regions and sections are rows
-pub legal-rows : (m : Model) → Legal m → Row (λ n. n < regions) (λ n. n) regions (m .regions) × ((k : Section) → Row (LegalElem k (m .regions)) (key k) (most k) (elements k m))
-legal-rows m l = (
-  record { few = l .regions-legal .few; each = l .regions-legal .each; ascend = ascend },
-  row,
-)
+pub legal-rows : (m : Model) → Legal m
+    → Sorted (by-key (λ n. n)) (λ n. n < regions) regions (m .regions) × ((k : Section) → Sorted (by-key (key k)) (LegalElem k (m .regions)) (most k) (elements k m))
+legal-rows m l = (l .regions-legal, row)
   where
-    ascend : Ascends (λ n. n) 0 (m .regions)
-    ascend = ascends-keys (λ n. n) (m .regions) (l .regions-legal .ascend)
-
-    row : (k : Section) → Row (LegalElem k (m .regions)) (key k) (most k) (elements k m)
-    row Section.Bundles = record { few = l .bundles-legal .few; each = l .bundles-legal .each; ascend = ascends-keys (key Section.Bundles) (m .bundles) (l .bundles-legal .ascend) }
+    row : (k : Section) → Sorted (by-key (key k)) (LegalElem k (m .regions)) (most k) (elements k m)
+    row Section.Bundles = l .bundles-legal
     row Section.Connections =
         record {
           few = l .connections-legal .few;
           each = l .connections-legal .each;
-          ascend = ascends-keys (key Section.Connections) (m .connections) (sym (section-ascends Section.Connections (m .regions) (l .regions-legal .each) (m .connections) (l .connections-legal .each)) ∙ l .connections-legal .ascend);
+          ascend = sym (section-ascends Section.Connections (m .regions) (l .regions-legal .each) (m .connections) (l .connections-legal .each)) ∙ l .connections-legal .ascend;
         }
 
 -- and a model whose regions and sections are rows is legal
-pub rows-legal : (m : Model) → Row (λ n. n < regions) (λ n. n) regions (m .regions) → ((k : Section) → Row (LegalElem k (m .regions)) (key k) (most k) (elements k m)) → Legal m
+pub rows-legal : (m : Model) → Sorted (by-key (λ n. n)) (λ n. n < regions) regions (m .regions)
+    → ((k : Section) → Sorted (by-key (key k)) (LegalElem k (m .regions)) (most k) (elements k m)) → Legal m
 rows-legal m r s =
     record {
-      regions-legal = record { few = r .few; each = r .each; ascend = keys-ascend (λ n. n) (m .regions) (r .ascend) };
-      bundles-legal =
-          record {
-            few = s Section.Bundles .few;
-            each = s Section.Bundles .each;
-            ascend = keys-ascend (key Section.Bundles) (m .bundles) (s Section.Bundles .ascend);
-          };
+      regions-legal = r;
+      bundles-legal = s Section.Bundles;
       connections-legal =
           record {
             few = s Section.Connections .few;
             each = s Section.Connections .each;
             ascend =
-                section-ascends Section.Connections (m .regions) (r .each) (m .connections) (s Section.Connections .each)
-                ∙ keys-ascend (key Section.Connections) (m .connections) (s Section.Connections .ascend);
+                section-ascends Section.Connections (m .regions) (r .each) (m .connections) (s Section.Connections .each) ∙ s Section.Connections .ascend;
           };
     }

@@ -1,12 +1,14 @@
 -- A record of an archive as its fields: two numbers, then parts. The record of a bundle has four fields, that of a connection five.
 use mathlib.Core.Path.{_≡_}
+use mathlib.Core.Bool.{Bool, true, false, not, _&&_}
 use mathlib.Core.List.{List, [], _∷_, _++_, map}
 use Prim.Native.Nat.{ℕ, zero, suc, _+_, _*_, _≤_, _<_, _^_}
+use lib.Dec.{leb, ltb, eqb}
 use lib.ListN.{length, getD}
 use Rattle.region_graph.specs.Size.{most-listed, most-provided, most-bundles, most-connections, all-sign}
-use Rattle.region_graph.specs.Lists.{All}
-use Rattle.region_graph.specs.Model.{Model, Bundle, Part, Connection, Word, LegalBundle, LegalConnection}
-use Rattle.region_graph.specs.Calls.{Call}
+use Rattle.region_graph.specs.Lists.{All, member}
+use Rattle.region_graph.specs.Model.{Model, Bundle, Part, Connection, Numbered, LegalBundle, LegalConnection}
+use Rattle.region_graph.specs.Flat.{Fields, fields-of-bundle, fields-of-connection, FlatPart, FlatFields, bundle-width, connection-width}
 use Rattle.region_graph.specs.Record.{part-in}
 use Rattle.region_graph.specs.declared.numbers.Numbers.{Numbers}
 use Rattle.region_graph.specs.declared.numbers.Provided.{Provided}
@@ -28,22 +30,12 @@ module _ {A : Type 0} where
   SameTo same zero x y = Unit {0}
   SameTo same (suc k) x y = SameTo same k x y × same k x y
 
-pub record Fields : Type 0 where
-  pub first : ℕ
-  pub second : ℕ
-  pub parts : List Part
+  abbrev pub GoodTo : (ℕ → A → Type 0) → ℕ → A → Type 0
+  GoodTo good zero x = Unit {0}
+  GoodTo good (suc k) x = GoodTo good k x × good k x
 
 abbrev pub part-at : Fields → ℕ → Part
 part-at f k = getD (f .parts) k (Part.listed [])
-
--- a list and a part as they can stand in an archive
-pub record Listed (xs : List ℕ) : Type 0 where
-  pub few : length xs ≤ most-listed
-  pub words : All Word xs
-
-abbrev pub ListedPart : Part → Type 0
-ListedPart (Part.listed xs) = Listed xs
-ListedPart Part.everything = Unit {0}
 
 -- the bytes of a record's first number, and the count of its fields
 abbrev pub first-width : Section → ℕ
@@ -54,12 +46,16 @@ abbrev pub field-count : Section → ℕ
 field-count Section.Bundles = 4
 field-count Section.Connections = 5
 
-module _ (s : Section) where
-  abbrev pub FieldGood : ℕ → Fields → Type 0
-  FieldGood zero f = f .first < 256 ^ first-width s
-  FieldGood (suc zero) f = f .second < 256
-  FieldGood (suc (suc k)) f = ListedPart (part-at f k)
+-- how many numbers a list of a record may have, and how many a record takes in a flat list
+abbrev pub most-in : Section → ℕ
+most-in Section.Bundles = most-provided
+most-in Section.Connections = most-listed
 
+abbrev pub row-width : Section → ℕ
+row-width Section.Bundles = bundle-width
+row-width Section.Connections = connection-width
+
+module _ (s : Section) where
   abbrev pub field-bytes : ℕ → Fields → List ℕ
   field-bytes zero f = big (first-width s) (f .first)
   field-bytes (suc zero) f = big 1 (f .second)
@@ -79,10 +75,8 @@ Elem Section.Bundles = Bundle
 Elem Section.Connections = Connection
 
 abbrev pub fields-of : (s : Section) → Elem s → Fields
-fields-of Section.Bundles b =
-    record { first = b .location; second = b .region; parts = Part.listed (b .packages) ∷ Part.listed (b .services) ∷ [] }
-fields-of Section.Connections c =
-    record { first = c .source; second = c .target; parts = Part.listed (c .filter .bundles) ∷ c .filter .packages ∷ c .filter .services ∷ [] }
+fields-of Section.Bundles b = fields-of-bundle b
+fields-of Section.Connections c = fields-of-connection c
 
 abbrev pub record-bytes : (s : Section) → Elem s → List ℕ
 record-bytes s x = sized 2 (λ y. fields-bytes s (fields-of s y)) x
@@ -103,11 +97,6 @@ abbrev pub LegalElem : (s : Section) → List ℕ → Elem s → Type 0
 LegalElem Section.Bundles rs b = LegalBundle rs b
 LegalElem Section.Connections rs c = LegalConnection rs c
 
--- the model with these elements in the section, those before it as they are, and nothing in the one after it
-abbrev pub filled : (s : Section) → Model → List (Elem s) → Model
-filled Section.Bundles m bs = record { regions = m .regions; bundles = bs; connections = [] }
-filled Section.Connections m cs = record { regions = m .regions; bundles = m .bundles; connections = cs }
-
 abbrev pub elements : (s : Section) → Model → List (Elem s)
 elements Section.Bundles m = m .bundles
 elements Section.Connections m = m .connections
@@ -115,9 +104,9 @@ elements Section.Connections m = m .connections
 abbrev pub section-bytes : (s : Section) → Model → List ℕ
 section-bytes s m = counted (record-bytes s) (elements s m)
 
-abbrev pub call : (s : Section) → Elem s → Call
-call Section.Bundles b = Call.install b
-call Section.Connections c = Call.connect c
+-- two values have the same fields
+abbrev pub SameFields : Section → Fields → Fields → Type 0
+SameFields s x y = SameTo FieldSame (field-count s) x y
 
 -- the engine's value of a record
 pub record ListFits (most n : ℕ) (items : List ℕ) : Type 0 where
@@ -150,11 +139,49 @@ pub record EntryFits (e : Entry) : Type 0 where
 abbrev pub fields-in : Entry → Fields
 fields-in e = record { first = e .first; second = e .second; parts = map part-in (e .parts) }
 
--- two values have the same fields
-abbrev pub SameFields : Section → Fields → Fields → Type 0
-SameFields s x y = SameTo FieldSame (field-count s) x y
-
 -- the value has the fields of an element
 pub record EntryIs (s : Section) (e : Entry) (x : Elem s) : Type 0 where
   pub fits : EntryFits e
   pub same : SameFields s (fields-in e) (fields-of s x)
+
+-- what the reader asks of a record field by field, in a graph with regions rs, where orders are at least `floor`
+
+-- a connection starts in a region of the graph, and its ends differ
+abbrev pub source-in : Section → List ℕ → ℕ → Bool
+source-in Section.Bundles rs first = true
+source-in Section.Connections rs first = member first rs
+
+abbrev pub ends-differ : Section → ℕ → ℕ → Bool
+ends-differ Section.Bundles first second = true
+ends-differ Section.Connections first second = not (eqb first second)
+
+-- everything may stand in the last two fields of a connection
+abbrev pub part-open : Section → ℕ → Bool
+part-open Section.Bundles field = false
+part-open Section.Connections field = ltb 2 field
+
+abbrev pub PartGood : ℕ → Bool → Part → Type 0
+PartGood most all (Part.listed xs) = Numbered most xs
+PartGood most all Part.everything = all ≡ true
+
+module _ (s : Section) (rs : List ℕ) (floor : ℕ) where
+  -- some second number gives an order that is high enough
+  abbrev pub first-good : ℕ → Bool
+  first-good first = leb floor (field-key s first 255) && source-in s rs first
+
+  abbrev pub second-good : ℕ → ℕ → Bool
+  second-good first second = leb floor (field-key s first second) && (ends-differ s first second && member second rs)
+
+  abbrev pub FieldGood : ℕ → Fields → Type 0
+  FieldGood zero f = (f .first < 256 ^ first-width s) × (first-good (f .first) ≡ true)
+  FieldGood (suc zero) f = (f .second < 256) × (second-good (f .first) (f .second) ≡ true)
+  FieldGood (suc (suc k)) f = PartGood (most-in s) (part-open s (suc (suc k))) (part-at f k)
+
+-- a field's numbers at their places in a row
+abbrev pub FlatField : ℕ → List ℕ → ℕ → Fields → Type 0
+FlatField most row zero f = getD row 0 0 ≡ f .first
+FlatField most row (suc zero) f = getD row 1 0 ≡ f .second
+FlatField most row (suc (suc k)) f = FlatPart row (2 + k * (most + 1)) (part-at f k)
+
+abbrev pub FlatElem : (s : Section) → List ℕ → Elem s → Type 0
+FlatElem s row x = FlatFields (most-in s) row (fields-of s x)

@@ -1,55 +1,68 @@
 -- What the private functions promise of an archive's records and sections.
 use mathlib.Core.Path.{_≡_}
 use mathlib.Core.Bool.{Bool, true, false}
-use mathlib.Core.List.{List, []}
-use Prim.Native.Nat.{ℕ, _<_}
+use mathlib.Core.List.{List, _++_}
+use Prim.Native.Nat.{ℕ, suc, _+_, _-_, _≤_, _<_, _^_}
+use lib.ListN.{length, take, drop}
 use Rattle.region_graph.specs.Size.{regions}
-use Rattle.region_graph.specs.Refusals.{not-refused}
-use Rattle.region_graph.specs.Model.{Model, Legal}
+use Rattle.region_graph.specs.Sets.{members}
+use Rattle.region_graph.specs.Refusals.{not-refused, broken-layout}
+use Rattle.region_graph.specs.Model.{Model, Part, Sorted, Numbered, Legal}
 use Rattle.region_graph.specs.Record.{Valid, meaning}
-use Rattle.region_graph.specs.Promise.{Follows}
-use Rattle.region_graph.specs.declared.Graph.{Graph}
+use Rattle.region_graph.specs.Promise.{Empty}
 use Rattle.region_graph.specs.declared.Changed.{Changed}
+use Rattle.region_graph.specs.Flat.{Fields, FlatPart, Flat}
 use Rattle.region_archive.specs.Bytes.{big, counted}
-use Rattle.region_archive.specs.Image.{body}
-use Rattle.region_archive.specs.Rows.{Parsed, Unparsed, Answer, Row}
-use Rattle.region_archive.specs.Entries.{SameTo, Fields, FieldGood, field-bytes, FieldSame, Elem, SameFields, fields-of, record-bytes, key, most, LegalElem, filled, call, EntryFits, fields-in}
-use Rattle.region_archive.specs.declared.entries.Entry.{Entry}
+use Rattle.region_archive.specs.Image.{part-bytes, body}
+use Rattle.region_archive.specs.Rows.{Parsed, StandsOr, by-key}
+use Rattle.region_archive.specs.Entries.{SameTo, GoodTo, PartGood, FieldGood, field-bytes, FieldSame, FlatField, FlatElem, Elem, record-bytes, key, most, most-in, row-width, LegalElem}
 use Rattle.region_archive.specs.declared.entries.Section.{Section}
 use Rattle.region_archive.specs.declared.sections.FieldAt.{FieldAt}
+use Rattle.region_archive.specs.declared.sections.LengthAt.{LengthAt}
+use Rattle.region_archive.specs.declared.sections.RegionsAt.{RegionsAt}
 use Rattle.region_archive.specs.declared.sections.SectionAt.{SectionAt}
 
--- field k was read at a place: the fields before it stay
-pub record FieldRead (s : Section) (k : ℕ) (bytes : List ℕ) (at : ℕ) (old : Entry) (r : FieldAt) : Type 0 where
-  pub fits : EntryFits (r .entry)
-  pub answer : Answer (λ y. SameTo FieldSame k (fields-in old) y × FieldGood s k y) (field-bytes s k) bytes at (r .ok) (fields-in (r .entry)) (r .next)
+-- a list, and a part, was read at a place into the first places of a row
+pub record ListRead (most : ℕ) (bytes : List ℕ) (at : ℕ) (old new : List ℕ) (r : FieldAt) : Type 0 where
+  pub size : length new ≡ length old
+  pub answer : StandsOr (Numbered most) (counted (big 4)) bytes at (r .ok) (λ xs. FlatPart new 0 (Part.listed xs)) (r .next)
 
--- the element with these fields was handed to its call, or there is none, the number is a refusal's and the record stays
-pub data Took (s : Section) (g : Graph) (f : Fields) (r : Changed) : Type 0 where
-  called : (x : Elem s) → SameFields s f (fields-of s x) → Follows g (call s x) r → Took s g f r
-  unlike : ((x : Elem s) → SameFields s f (fields-of s x) → ⊥) → (r .number ≡ not-refused → ⊥) → r .graph ≡ g → Took s g f r
+pub record PartRead (most : ℕ) (all : Bool) (bytes : List ℕ) (at : ℕ) (old new : List ℕ) (r : FieldAt) : Type 0 where
+  pub size : length new ≡ length old
+  pub answer : StandsOr (PartGood most all) (part-bytes (big 4)) bytes at (r .ok) (FlatPart new 0) (r .next)
 
--- the elements of a section stand at a place, and the record means the model with them in it
-pub record Stands {A : Type 0} (good : A → Type 0) (key : A → ℕ) (most : ℕ) (bytes : A → List ℕ) (with : List A → Model) (s : List ℕ) (at : ℕ) (r : SectionAt) : Type 0 where
-  pub rows : List A
-  pub parsed : Parsed (Row good key most) (counted bytes) s at rows (r .next)
-  pub means : meaning (r .graph) ≡ with rows
+-- field k was read at a place, for a record whose fields before it are those of x: these stay
+pub record FieldRead (s : Section) (rs : List ℕ) (floor k : ℕ) (bytes : List ℕ) (at : ℕ) (old new : List ℕ) (r : FieldAt) : Type 0 where
+  pub size : length new ≡ length old
+  pub answer : (x : Fields) → GoodTo (FieldGood s rs floor) k x → GoodTo (FlatField (most-in s) old) k x
+      → StandsOr (λ y. SameTo FieldSame k x y × FieldGood s rs floor k y) (field-bytes s k) bytes at (r .ok) (GoodTo (FlatField (most-in s) new) (suc k)) (r .next)
 
-abbrev pub StandsOr : {A : Type 0} → (A → Type 0) → (A → ℕ) → ℕ → (A → List ℕ) → (List A → Model) → List ℕ → ℕ → SectionAt → Bool → Type 0
-StandsOr good key most bytes with s at r true = Stands good key most bytes with s at r
-StandsOr good key most bytes with s at r false = Unparsed (Row good key most) (counted bytes) s at
+-- a length of two bytes stands at a place, with as many bytes after it
+pub record LengthStands (bytes : List ℕ) (at : ℕ) (r : LengthAt) : Type 0 where
+  pub parsed : Parsed (λ n. n < 256 ^ 2) (big 2) bytes at (r .stop - r .next) (r .next)
+  pub forward : r .next ≤ r .stop
+  pub room : r .stop ≤ length bytes
+
+abbrev pub LengthOr : List ℕ → ℕ → LengthAt → Bool → Type 0
+LengthOr bytes at r true = LengthStands bytes at r
+LengthOr bytes at r false = (n : ℕ) (l : List ℕ) → n < 256 ^ 2 → n ≤ length l → drop at bytes ≡ big 2 n ++ l → ⊥
+
+abbrev pub LengthRead : List ℕ → ℕ → LengthAt → Type 0
+LengthRead bytes at r = LengthOr bytes at r (r .ok)
 
 -- the regions were read at a place
-pub record RegionsRead (s : List ℕ) (at : ℕ) (r : SectionAt) : Type 0 where
-  pub valid : Valid (r .graph)
-  pub answer : StandsOr (λ n. n < regions) (λ n. n) regions (big 1) (λ rs. record { regions = rs; bundles = []; connections = [] }) s at r (r .ok)
+pub record RegionsRead (bytes : List ℕ) (at : ℕ) (list : List ℕ) (r : RegionsAt) : Type 0 where
+  pub room : r .count ≤ length list
+  pub answer : StandsOr (Sorted (by-key (λ n. n)) (λ n. n < regions) regions) (counted (big 1)) bytes at (r .ok)
+      (λ rs. (take (r .count) list ≡ rs) × (members (r .set) ≡ rs)) (r .next)
 
--- a section was read at a place, for a record that has nothing in it yet
-pub record SectionRead (k : Section) (g : Graph) (s : List ℕ) (at : ℕ) (r : SectionAt) : Type 0 where
-  pub valid : Valid (r .graph)
-  pub answer : StandsOr (LegalElem k (meaning g .regions)) (key k) (most k) (record-bytes k) (filled k (meaning g)) s at r (r .ok)
+-- a section was read at a place, in a graph with regions rs
+pub record SectionRead (k : Section) (rs : List ℕ) (bytes : List ℕ) (at : ℕ) (rows : List ℕ) (r : SectionAt) : Type 0 where
+  pub room : r .count ≤ length rows
+  pub answer : StandsOr (Sorted (by-key (key k)) (LegalElem k rs) (most k)) (counted (record-bytes k)) bytes at (r .ok)
+      (Flat (row-width k) (FlatElem k) (take (r .count) rows)) (r .next)
 
--- a body was read at a place
-pub record BodyRead (s : List ℕ) (at : ℕ) (r : SectionAt) : Type 0 where
-  pub valid : Valid (r .graph)
-  pub answer : Answer Legal body s at (r .ok) (meaning (r .graph)) (r .next)
+-- a body was read at a place, to the end: the graph of the model whose body it is, or a refusal and the empty graph where it is none's
+pub data BodyRead (s : List ℕ) (at : ℕ) (r : Changed) : Type 0 where
+  whole : (m : Model) → Parsed Legal body s at m (length s) → r .number ≡ not-refused → Valid (r .graph) → meaning (r .graph) ≡ m → BodyRead s at r
+  broken : ((m : Model) → Legal m → drop at s ≡ body m → ⊥) → r .number ≡ broken-layout → Empty (r .graph) → BodyRead s at r

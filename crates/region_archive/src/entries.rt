@@ -1,21 +1,19 @@
 // A record of an archive as a value: two numbers and up to three parts.
 ghost use mathlib.Core.Path.{_≡_};
-ghost use Prim.Native.Nat.{_≤_};
-ghost use lib.Dec.{eqb};
-ghost use lib.ListN.{length, take};
-ghost use Rattle.region_graph.specs.Size.{«most-listed», «all-sign»};
-ghost use Rattle.region_graph.specs.Record.{Valid, meaning, «store-numbers», «provided-of», «part-in», «bundle-in», «connection-in»};
-ghost use Rattle.region_graph.specs.Promise.{part};
-ghost use Rattle.region_archive.specs.Entries.{NumbersFit, ProvidedFits, PartFits, BundleFits, ConnectionFits, EntryFits, EntryIs, «field-key», «field-count», «first-width», most, elements};
+ghost use lib.ListN.{length};
+ghost use Rattle.region_graph.specs.Record.{Valid, meaning, «store-numbers», «provided-of», «bundle-in», «connection-in»};
+ghost use Rattle.region_archive.specs.Entries.{«field-key», «field-count», «first-width», most, «most-in», «row-width», elements, ProvidedFits, BundleFits, ConnectionFits, EntryIs};
 use region_graph::Graph;
 use region_graph::Numbers;
 use region_graph::Provided;
 use region_graph::StoredBundle;
 use region_graph::StoredConnection;
-use region_graph::size::EVERYTHING;
+use region_graph::flat::BUNDLE_WIDTH;
+use region_graph::flat::CONNECTION_WIDTH;
 use region_graph::size::MOST_BUNDLES;
 use region_graph::size::MOST_CONNECTIONS;
 use region_graph::size::MOST_LISTED;
+use region_graph::size::MOST_PROVIDED;
 
 // The sections of an archive whose records have fields.
 pub enum Section {
@@ -28,26 +26,6 @@ pub struct Entry {
     pub first: u32,
     pub second: u32,
     pub parts: [Numbers; 3],
-}
-
-pub fn no_part() -> Numbers
-    ensures { λ r. ⌜ NumbersFit r ⌝ }
-{
-    Numbers {
-        count: 0,
-        items: [0u32; MOST_LISTED],
-    }
-}
-
-// How many numbers a part lists.
-pub fn listed(list: Numbers) -> usize
-    requires { ⌜ PartFits list ⌝ }
-    ensures { λ r. ⌜ (r ≤ most-listed) × (part-in list ≡ part (eqb (list .count) all-sign) (take r (list .items))) ⌝ }
-{
-    if list.count == EVERYTHING {
-        return 0;
-    }
-    list.count
 }
 
 // What a bundle brings, in as many places as a part has.
@@ -63,17 +41,6 @@ fn widened(list: Provided) -> Numbers
         i += 1;
     }
     Numbers { count: i, items }
-}
-
-pub fn no_entry() -> Entry
-    ensures { λ r. ⌜ EntryFits r ⌝ }
-{
-    let none = no_part();
-    Entry {
-        first: 0,
-        second: 0,
-        parts: [none; 3],
-    }
 }
 
 // How many records a section may have.
@@ -103,6 +70,26 @@ pub fn first_width(section: Section) -> usize
     match section {
         Section::Bundles => 4,
         Section::Connections => 1,
+    }
+}
+
+// How many numbers a list of a record may have.
+pub fn most_in(section: Section) -> usize
+    ensures { λ r. ⌜ r ≡ most-in section ⌝ }
+{
+    match section {
+        Section::Bundles => MOST_PROVIDED,
+        Section::Connections => MOST_LISTED,
+    }
+}
+
+// How many numbers a record takes in a flat list.
+pub fn width(section: Section) -> usize
+    ensures { λ r. ⌜ r ≡ row-width section ⌝ }
+{
+    match section {
+        Section::Bundles => BUNDLE_WIDTH,
+        Section::Connections => CONNECTION_WIDTH,
     }
 }
 

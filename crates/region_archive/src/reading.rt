@@ -1,9 +1,10 @@
-// The reader: the front of the file, then its body.
+// The reader: the front of the file, then its body as lists of numbers, and the graph of these.
 ghost use mathlib.Core.Path.{_≡_};
 ghost use Prim.Native.Nat.{_≤_};
 ghost use lib.ListN.{length};
 ghost use Rattle.region_graph.specs.Record.{Valid};
 ghost use Rattle.region_graph.specs.Calls.{«first-no»};
+ghost use Rattle.region_graph.specs.Promise.{Empty};
 ghost use Rattle.region_archive.specs.File.{«front-questions»};
 ghost use Rattle.region_archive.specs.Promise.{Reads, ReadsOver};
 ghost use Rattle.region_archive.specs.Sections.{BodyRead};
@@ -11,15 +12,19 @@ use crate::FRONT;
 use crate::VERSION;
 use crate::entries::Section;
 use crate::numbers::value;
-use crate::sections::SectionAt;
 use crate::sections::regions_at;
 use crate::sections::section_at;
 use region_graph::Changed;
 use region_graph::Graph;
+use region_graph::flat::BUNDLE_WIDTH;
+use region_graph::flat::CONNECTION_WIDTH;
 use region_graph::refusals::BROKEN_LAYOUT;
 use region_graph::refusals::NOT_AN_ARCHIVE;
 use region_graph::refusals::NOT_REFUSED;
 use region_graph::refusals::WRONG_LENGTH;
+use region_graph::size::MOST_BUNDLES;
+use region_graph::size::MOST_CONNECTIONS;
+use region_graph::size::REGIONS;
 
 // The number that the version and the length field give.
 fn front(bytes: &[u8]) -> u32
@@ -39,23 +44,56 @@ fn front(bytes: &[u8]) -> u32
     NOT_REFUSED
 }
 
-// The body at a place, whatever follows it.
-fn body_at(bytes: &[u8], at: usize) -> SectionAt
+// A refusal's number and the empty graph.
+fn refused(number: u32) -> Changed
+    ensures { λ r. ⌜ (r .number ≡ number) × Empty (r .graph) ⌝ }
+{
+    let empty = Graph::empty();
+    Changed {
+        graph: empty,
+        number,
+    }
+}
+
+// The graph of the body that stands from a place to the end, or a refusal's number and the empty graph.
+fn body_at(bytes: &[u8], at: usize) -> Changed
     requires { ⌜ at ≤ length (now bytes) ⌝ }
     ensures { λ r. ⌜ BodyRead (now (bytes .entry)) at r ⌝ }
 {
-    let empty = Graph::empty();
-    let regions = regions_at(bytes, at, empty);
+    let mut list = [0u32; REGIONS];
+    let mut bundles = [0u32; MOST_BUNDLES * BUNDLE_WIDTH];
+    let mut connections = [0u32; MOST_CONNECTIONS * CONNECTION_WIDTH];
+    let regions = regions_at(bytes, at, &mut list);
     if !regions.ok {
-        return regions;
+        return refused(BROKEN_LAYOUT);
     }
-    let graph = regions.graph;
-    let bundles = section_at(bytes, regions.next, Section::Bundles, graph);
-    if !bundles.ok {
-        return bundles;
+    let set = regions.set;
+    let b = section_at(bytes, regions.next, Section::Bundles, set, &mut bundles);
+    if !b.ok {
+        return refused(BROKEN_LAYOUT);
     }
-    let graph = bundles.graph;
-    section_at(bytes, bundles.next, Section::Connections, graph)
+    let c = section_at(bytes, b.next, Section::Connections, set, &mut connections);
+    if !c.ok {
+        return refused(BROKEN_LAYOUT);
+    }
+    if c.next != bytes.len() {
+        return refused(BROKEN_LAYOUT);
+    }
+    let l = regions.count;
+    let m = b.count;
+    let n = c.count;
+    Graph::of_flat(&list[..l], &bundles[..m], &connections[..n])
+}
+
+// The graph whose image the bytes are, or a refusal's number and the empty graph.
+pub fn read(bytes: &[u8]) -> Changed
+    ensures { λ r. ⌜ Reads (now (bytes .entry)) r ⌝ }
+{
+    let number = front(bytes);
+    if number != NOT_REFUSED {
+        return refused(number);
+    }
+    body_at(bytes, FRONT)
 }
 
 // The graph whose image the bytes are, or a refusal's number and the graph that was at hand.
@@ -63,34 +101,12 @@ pub fn read_over(graph: Graph, bytes: &[u8]) -> Changed
     requires { ⌜ Valid graph ⌝ }
     ensures { λ r. ⌜ ReadsOver graph (now (bytes .entry)) r ⌝ }
 {
-    let number = front(bytes);
-    if number != NOT_REFUSED {
-        return Changed { graph, number };
-    }
-    let body = body_at(bytes, FRONT);
-    if !body.ok {
+    let archive = read(bytes);
+    if archive.number != NOT_REFUSED {
         return Changed {
             graph,
-            number: BROKEN_LAYOUT,
+            number: archive.number,
         };
     }
-    if body.next != bytes.len() {
-        return Changed {
-            graph,
-            number: BROKEN_LAYOUT,
-        };
-    }
-    let read = body.graph;
-    Changed {
-        graph: read,
-        number: NOT_REFUSED,
-    }
-}
-
-// The graph whose image the bytes are, or a refusal's number and the empty graph.
-pub fn read(bytes: &[u8]) -> Changed
-    ensures { λ r. ⌜ Reads (now (bytes .entry)) r ⌝ }
-{
-    let empty = Graph::empty();
-    read_over(empty, bytes)
+    archive
 }

@@ -1,262 +1,275 @@
-// The sections of an archive at a place. A reading function says whether its value stands there, the place after it, and the value.
+// The sections of an archive at a place. A reading function says whether its value stands there and the place after it, and puts the
+// value's numbers into lent places.
 ghost use mathlib.Core.Path.{_≡_};
-ghost use mathlib.Core.List.{[]};
-ghost use Prim.Native.Nat.{_≤_, _<_};
+ghost use mathlib.Core.Bool.{Bool};
+ghost use Prim.Native.Nat.{_≤_, _<_, _+_, _*_};
 ghost use lib.ListN.{length};
-ghost use Rattle.region_graph.specs.Record.{Valid, meaning, «numbers-of», «part-in»};
-ghost use Rattle.region_graph.specs.Promise.{Empty};
-ghost use Rattle.region_archive.specs.Bytes.{big, counted};
-ghost use Rattle.region_archive.specs.Image.{«part-bytes»};
-ghost use Rattle.region_archive.specs.Rows.{Answer};
-ghost use Rattle.region_archive.specs.Entries.{NumbersFit, PartFits, EntryFits, Listed, ListedPart, «fields-in», «field-count», filled};
-ghost use Rattle.region_archive.specs.Sections.{FieldRead, Took, RegionsRead, SectionRead};
-use crate::entries::Entry;
+ghost use Rattle.region_graph.specs.Size.{regions, «most-listed»};
+ghost use Rattle.region_graph.specs.Sets.{members};
+ghost use Rattle.region_archive.specs.Entries.{«field-count», «first-good», «second-good», «part-open», most, «most-in», «row-width»};
+ghost use Rattle.region_archive.specs.Sections.{ListRead, PartRead, FieldRead, LengthRead, RegionsRead, SectionRead};
 use crate::entries::Section;
 use crate::entries::fields;
 use crate::entries::first_width;
 use crate::entries::limit;
-use crate::entries::listed;
-use crate::entries::no_entry;
-use crate::entries::no_part;
+use crate::entries::most_in;
 use crate::entries::order;
+use crate::entries::width;
 use crate::numbers::count_at;
 use crate::numbers::number_at;
-use region_graph::Changed;
-use region_graph::Graph;
-use region_graph::Numbers;
-use region_graph::refusals::BROKEN_LAYOUT;
-use region_graph::refusals::NOT_REFUSED;
+use region_graph::region_set::has;
+use region_graph::region_set::is_region;
+use region_graph::region_set::one;
 use region_graph::size::EVERYTHING;
-use region_graph::size::MOST_LISTED;
 use region_graph::size::REGIONS;
-
-pub struct ListAt {
-    pub ok: bool,
-    pub next: usize,
-    pub numbers: Numbers,
-}
-
-pub struct PartAt {
-    pub ok: bool,
-    pub next: usize,
-    pub part: Numbers,
-}
 
 pub struct FieldAt {
     pub ok: bool,
     pub next: usize,
-    pub entry: Entry,
+}
+
+pub struct RegionsAt {
+    pub ok: bool,
+    pub next: usize,
+    pub count: usize,
+    pub set: u64,
 }
 
 pub struct SectionAt {
     pub ok: bool,
     pub next: usize,
-    pub graph: Graph,
+    pub count: usize,
 }
 
-// The list at a place: a count, then its numbers.
-fn list_at(bytes: &[u8], at: usize) -> ListAt
-    requires { ⌜ at ≤ length (now bytes) ⌝ }
-    ensures { λ r. ⌜ NumbersFit (r .numbers) × Answer Listed (counted (big 4)) (now (bytes .entry)) at (r .ok) (numbers-of (r .numbers)) (r .next) ⌝ }
+// The list at a place: a count, then its numbers in ascending order.
+fn list_at(bytes: &[u8], at: usize, most: usize, row: &mut [u32]) -> FieldAt
+    requires { ⌜ (at ≤ length (now bytes)) × ((most ≤ most-listed) × (most + 1 ≤ length (now row))) ⌝ }
+    ensures { λ r. ⌜ ListRead most (now (bytes .entry)) at (now (row .entry)) (now (row .exit)) r ⌝ }
 {
-    let none = no_part();
-    let count = count_at(bytes, at, MOST_LISTED);
+    let count = count_at(bytes, at, most);
     if !count.ok {
-        return ListAt {
+        return FieldAt {
             ok: false,
             next: at,
-            numbers: none,
         };
     }
     let total = count.number as usize;
-    let mut items = [0u32; MOST_LISTED];
+    row[0] = count.number;
     let mut to = count.next;
+    let mut least: u64 = 0;
     let mut n: usize = 0;
     while n < total {
         let read = number_at(bytes, to, 4);
         if !read.ok {
-            return ListAt {
+            return FieldAt {
                 ok: false,
                 next: at,
-                numbers: none,
             };
         }
-        items[n] = read.number;
-        to = read.next;
+        let number = read.number as u64;
+        if number < least {
+            return FieldAt {
+                ok: false,
+                next: at,
+            };
+        }
         n += 1;
+        row[n] = read.number;
+        to = read.next;
+        least = number + 1;
     }
-    ListAt {
-        ok: true,
-        next: to,
-        numbers: Numbers { count: n, items },
-    }
+    FieldAt { ok: true, next: to }
 }
 
-// The part at a place: a list, or the sign for everything.
-fn part_at(bytes: &[u8], at: usize) -> PartAt
-    requires { ⌜ at ≤ length (now bytes) ⌝ }
-    ensures { λ r. ⌜ PartFits (r .part) × Answer ListedPart (part-bytes (big 4)) (now (bytes .entry)) at (r .ok) (part-in (r .part)) (r .next) ⌝ }
+// The part at a place: a list, or the sign for everything where it may stand.
+fn part_at(bytes: &[u8], at: usize, most: usize, all: bool, row: &mut [u32]) -> FieldAt
+    requires { ⌜ (at ≤ length (now bytes)) × ((most ≤ most-listed) × (most + 1 ≤ length (now row))) ⌝ }
+    ensures { λ r. ⌜ PartRead most all (now (bytes .entry)) at (now (row .entry)) (now (row .exit)) r ⌝ }
 {
     if at < bytes.len() {
         if bytes[at] == 255 {
-            let part = Numbers {
-                count: EVERYTHING,
-                items: [0u32; MOST_LISTED],
-            };
+            row[0] = 255;
             let next = at + 1;
-            return PartAt {
-                ok: true,
-                next,
-                part,
-            };
+            return FieldAt { ok: all, next };
         }
     }
-    let list = list_at(bytes, at);
-    let part = list.numbers;
-    PartAt {
-        ok: list.ok,
-        next: list.next,
-        part,
-    }
+    list_at(bytes, at, most, row)
 }
 
-// The record with one field more, read at a place.
-fn field_at(bytes: &[u8], at: usize, section: Section, field: usize, entry: Entry) -> FieldAt
-    requires { ⌜ EntryFits entry ⌝ }
-    requires { ⌜ (at ≤ length (now bytes)) × (field < field-count section) ⌝ }
-    ensures { λ r. ⌜ FieldRead section field (now (bytes .entry)) at entry r ⌝ }
+// Whether a record may start with a number, where orders are at least so high.
+fn first_good(section: Section, first: u32, regions: u64, least: u64) -> bool
+    ensures { λ r. ⌜ r ≡ first-good section (members regions) least first ⌝ }
 {
-    let mut parts = entry.parts;
-    match field {
-        0 => {
-            let width = first_width(section);
-            let read = number_at(bytes, at, width);
-            FieldAt {
-                ok: read.ok,
-                next: read.next,
-                entry: Entry {
-                    first: read.number,
-                    second: entry.second,
-                    parts,
-                },
-            }
-        }
-        1 => {
-            let read = number_at(bytes, at, 1);
-            FieldAt {
-                ok: read.ok,
-                next: read.next,
-                entry: Entry {
-                    first: entry.first,
-                    second: read.number,
-                    parts,
-                },
-            }
-        }
-        _ => {
-            let read = part_at(bytes, at);
-            let part = read.part;
-            parts[field - 2] = part;
-            FieldAt {
-                ok: read.ok,
-                next: read.next,
-                entry: Entry {
-                    first: entry.first,
-                    second: entry.second,
-                    parts,
-                },
-            }
-        }
+    if order(section, first, 255) < least {
+        return false;
+    }
+    match section {
+        Section::Bundles => true,
+        Section::Connections => has(regions, first),
     }
 }
 
-// Installs the bundle that a record has; a list that is everything breaks the layout.
-fn install(graph: Graph, entry: Entry) -> Changed
-    requires { ⌜ Valid graph ⌝ }
-    requires { ⌜ EntryFits entry ⌝ }
-    ensures { λ r. ⌜ Took Section.Bundles graph (fields-in entry) r ⌝ }
+// Whether a record may have these two numbers.
+fn second_good(section: Section, first: u32, second: u32, regions: u64, least: u64) -> bool
+    ensures { λ r. ⌜ r ≡ second-good section (members regions) least first second ⌝ }
 {
-    let packages = entry.parts[0];
-    let services = entry.parts[1];
-    if packages.count == EVERYTHING {
-        return Changed {
-            graph,
-            number: BROKEN_LAYOUT,
-        };
+    if order(section, first, second) < least {
+        return false;
     }
-    if services.count == EVERYTHING {
-        return Changed {
-            graph,
-            number: BROKEN_LAYOUT,
-        };
+    match section {
+        Section::Bundles => has(regions, second),
+        Section::Connections => {
+            if first == second {
+                return false;
+            }
+            has(regions, second)
+        }
     }
-    let a = packages.items;
-    let b = services.items;
-    let m = packages.count;
-    let n = services.count;
-    graph.install(entry.second, entry.first, &a[..m], &b[..n])
 }
 
-// Makes the connection that a record has; a bundle part that is everything breaks the layout.
-fn connect(graph: Graph, entry: Entry) -> Changed
-    requires { ⌜ Valid graph ⌝ }
-    requires { ⌜ EntryFits entry ⌝ }
-    ensures { λ r. ⌜ Took Section.Connections graph (fields-in entry) r ⌝ }
-{
-    let bundles = entry.parts[0];
-    let packages = entry.parts[1];
-    let services = entry.parts[2];
-    if bundles.count == EVERYTHING {
-        return Changed {
-            graph,
-            number: BROKEN_LAYOUT,
-        };
-    }
-    let m = listed(packages);
-    let n = listed(services);
-    let a = bundles.items;
-    let b = packages.items;
-    let c = services.items;
-    let l = bundles.count;
-    graph.connect(
-        entry.first,
-        entry.second,
-        &a[..l],
-        packages.count == EVERYTHING,
-        &b[..m],
-        services.count == EVERYTHING,
-        &c[..n],
-    )
-}
-
-// The graph with what a record has.
-fn take(graph: Graph, section: Section, entry: Entry) -> Changed
-    requires { ⌜ Valid graph ⌝ }
-    requires { ⌜ EntryFits entry ⌝ }
-    ensures { λ r. ⌜ Took section graph (fields-in entry) r ⌝ }
+// Whether the sign for everything may stand in a field.
+fn part_open(section: Section, field: usize) -> bool
+    ensures { λ r. ⌜ r ≡ part-open section field ⌝ }
 {
     match section {
-        Section::Bundles => install(graph, entry),
-        Section::Connections => connect(graph, entry),
+        Section::Bundles => false,
+        Section::Connections => 2 < field,
     }
 }
 
-// The regions at a place: a count, then their numbers.
-pub fn regions_at(bytes: &[u8], from: usize, empty: Graph) -> SectionAt
-    requires { ⌜ Empty empty ⌝ }
-    requires { ⌜ from ≤ length (now bytes) ⌝ }
-    ensures { λ r. ⌜ RegionsRead (now (bytes .entry)) from r ⌝ }
+// The first number of a record, at a place.
+fn first_at(
+    bytes: &[u8],
+    at: usize,
+    section: Section,
+    regions: u64,
+    least: u64,
+    row: &mut [u32],
+) -> FieldAt
+    requires { ⌜ (at ≤ length (now bytes)) × (2 ≤ length (now row)) ⌝ }
+    ensures { λ r. ⌜ FieldRead section (members regions) least 0 (now (bytes .entry)) at (now (row .entry)) (now (row .exit)) r ⌝ }
+{
+    let width = first_width(section);
+    let read = number_at(bytes, at, width);
+    if !read.ok {
+        return FieldAt {
+            ok: false,
+            next: at,
+        };
+    }
+    let number = read.number;
+    row[0] = number;
+    let ok = first_good(section, number, regions, least);
+    FieldAt {
+        ok,
+        next: read.next,
+    }
+}
+
+// The second number of a record, at a place.
+fn second_at(
+    bytes: &[u8],
+    at: usize,
+    section: Section,
+    regions: u64,
+    least: u64,
+    row: &mut [u32],
+) -> FieldAt
+    requires { ⌜ (at ≤ length (now bytes)) × (2 ≤ length (now row)) ⌝ }
+    ensures { λ r. ⌜ FieldRead section (members regions) least 1 (now (bytes .entry)) at (now (row .entry)) (now (row .exit)) r ⌝ }
+{
+    let read = number_at(bytes, at, 1);
+    if !read.ok {
+        return FieldAt {
+            ok: false,
+            next: at,
+        };
+    }
+    let number = read.number;
+    let first = row[0];
+    row[1] = number;
+    let ok = second_good(section, first, number, regions, least);
+    FieldAt {
+        ok,
+        next: read.next,
+    }
+}
+
+// A field of a record, at a place.
+fn field_at(
+    bytes: &[u8],
+    at: usize,
+    section: Section,
+    field: usize,
+    regions: u64,
+    least: u64,
+    row: &mut [u32],
+) -> FieldAt
+    requires { ⌜ (at ≤ length (now bytes)) × ((field < field-count section) × (length (now row) ≡ row-width section)) ⌝ }
+    ensures { λ r. ⌜ FieldRead section (members regions) least field (now (bytes .entry)) at (now (row .entry)) (now (row .exit)) r ⌝ }
+{
+    match field {
+        0 => first_at(bytes, at, section, regions, least, row),
+        1 => second_at(bytes, at, section, regions, least, row),
+        _ => {
+            let most = most_in(section);
+            let all = part_open(section, field);
+            let place = 2 + (field - 2) * (most + 1);
+            part_at(bytes, at, most, all, &mut row[place..])
+        }
+    }
+}
+
+pub struct LengthAt {
+    pub ok: bool,
+    pub next: usize,
+    pub stop: usize,
+}
+
+// The length of a record at a place, the place after it, and the place where the record stops, which the bytes must reach.
+fn length_at(bytes: &[u8], at: usize) -> LengthAt
+    requires { ⌜ at ≤ length (now bytes) ⌝ }
+    ensures { λ r. ⌜ LengthRead (now (bytes .entry)) at r ⌝ }
+{
+    let size = number_at(bytes, at, 2);
+    if !size.ok {
+        return LengthAt {
+            ok: false,
+            next: at,
+            stop: at,
+        };
+    }
+    let length = size.number as usize;
+    if bytes.len() - size.next < length {
+        return LengthAt {
+            ok: false,
+            next: at,
+            stop: at,
+        };
+    }
+    LengthAt {
+        ok: true,
+        next: size.next,
+        stop: size.next + length,
+    }
+}
+
+// The regions at a place: a count, then their numbers in ascending order.
+pub fn regions_at(bytes: &[u8], from: usize, list: &mut [u32]) -> RegionsAt
+    requires { ⌜ (from ≤ length (now bytes)) × (regions ≤ length (now list)) ⌝ }
+    ensures { λ r. ⌜ RegionsRead (now (bytes .entry)) from (now (list .exit)) r ⌝ }
 {
     let count = count_at(bytes, from, REGIONS);
     if !count.ok {
-        return SectionAt {
+        return RegionsAt {
             ok: false,
             next: from,
-            graph: empty,
+            count: 0,
+            set: 0,
         };
     }
     let total = count.number as usize;
-    let mut graph = empty;
+    let mut set: u64 = 0;
     let mut at = count.next;
     let mut least: u32 = 0;
     let mut n: usize = 0;
@@ -269,28 +282,34 @@ pub fn regions_at(bytes: &[u8], from: usize, empty: Graph) -> SectionAt
         if region < least {
             break;
         }
-        let added = graph.add_region(region);
-        if added.number != NOT_REFUSED {
+        if !is_region(region) {
             break;
         }
-        graph = added.graph;
+        set = set | one(region);
+        list[n] = region;
         at = read.next;
         least = region + 1;
         n += 1;
     }
-    SectionAt {
+    RegionsAt {
         ok: n == total,
         next: at,
-        graph,
+        count: n,
+        set,
     }
 }
 
-// A section at a place, for a graph that has nothing in it yet: a count, then records. Each record has the length of its fields and the
-// fields. The first byte that breaks the layout ends both loops.
-pub fn section_at(bytes: &[u8], from: usize, section: Section, start: Graph) -> SectionAt
-    requires { ⌜ Valid start ⌝ }
-    requires { ⌜ (from ≤ length (now bytes)) × (filled section (meaning start) [] ≡ meaning start) ⌝ }
-    ensures { λ r. ⌜ SectionRead section start (now (bytes .entry)) from r ⌝ }
+// A section at a place: a count, then records in ascending order. Each record has the length of its fields and the fields. The first byte
+// that breaks the layout ends both loops.
+pub fn section_at(
+    bytes: &[u8],
+    from: usize,
+    section: Section,
+    regions: u64,
+    rows: &mut [u32],
+) -> SectionAt
+    requires { ⌜ (from ≤ length (now bytes)) × (most section * row-width section ≤ length (now rows)) ⌝ }
+    ensures { λ r. ⌜ SectionRead section (members regions) (now (bytes .entry)) from (now (rows .exit)) r ⌝ }
 {
     let most = limit(section);
     let count = count_at(bytes, from, most);
@@ -298,53 +317,54 @@ pub fn section_at(bytes: &[u8], from: usize, section: Section, start: Graph) -> 
         return SectionAt {
             ok: false,
             next: from,
-            graph: start,
+            count: 0,
         };
     }
     let total = count.number as usize;
     let field_count = fields(section);
-    let mut graph = start;
+    let wide = width(section);
     let mut at = count.next;
     let mut least: u64 = 0;
+    let mut base: usize = 0;
     let mut n: usize = 0;
-    let clear = no_entry();
     'records: while n < total {
-        let size = number_at(bytes, at, 2);
-        if !size.ok {
+        let length = length_at(bytes, at);
+        if !length.ok {
             break 'records;
         }
-        let mut entry = clear;
-        let mut to = size.next;
+        let stop = length.stop;
+        let end = base + wide;
+        let mut to = length.next;
         let mut field: usize = 0;
         'fields: while field < field_count {
-            let read = field_at(bytes, to, section, field, entry);
+            let read = field_at(
+                &bytes[..stop],
+                to,
+                section,
+                field,
+                regions,
+                least,
+                &mut rows[base..end],
+            );
             if !read.ok {
                 break 'records;
             }
-            entry = read.entry;
             to = read.next;
             field += 1;
         }
-        if size.number as usize != to - size.next {
+        if to != stop {
             break 'records;
         }
-        let order = order(section, entry.first, entry.second);
-        if order < least {
-            break 'records;
-        }
-        let changed = take(graph, section, entry);
-        // A refused call hands the graph back as it was.
-        graph = changed.graph;
-        if changed.number != NOT_REFUSED {
-            break 'records;
-        }
+        let first = rows[base];
+        let second = rows[base + 1];
+        least = order(section, first, second) + 1;
         at = to;
-        least = order + 1;
+        base = end;
         n += 1;
     }
     SectionAt {
         ok: n == total,
         next: at,
-        graph,
+        count: base,
     }
 }

@@ -1,16 +1,23 @@
+use mathlib.Core.Path.{sym, _∙_}
 use borrow.Author.Needs.{needs}
-use Rattle.region_archive.proofs.FileReads.{over-empty}
+use Rattle.region_archive.proofs.FileReads.{stopped, reads-refused, long-enough, body-reads}
 use Rattle.region_archive.proofs.reading.read.Statement.{statement}
 use Rattle.region_archive.proofs.reading.read.Tie as tie
 
-empty-requires : tie.Need-empty-requires
-empty-requires c κs = search needs
+front-requires : tie.Need-front-requires
+front-requires c κs = search needs
 
-read-over-requires : tie.Need-read-over-requires
-read-over-requires c κs = search needs
+refused-requires : tie.Need-refused-requires
+refused-requires c κs = search needs
 
 returns : tie.Need-returns
-returns c = over-empty (c .before .empty .ensures) (c .read-over .ensures)
+returns c = reads-refused (c .refused .ensures) (c .before .if1 .taken) (λ f. stopped f (c .before .before .front .ensures) (c .before .if1 .taken))
+
+body-at-requires : tie.Need-body-at-requires
+body-at-requires c κs = long-enough (c .before .before .before .args .bytes .now) (λ i. c .before .before .shared-slice-known .given i .fits) (sym (c .if1 .left) ∙ c .before .front .ensures)
+
+returns-2 : tie.Need-returns-2
+returns-2 c = body-reads (λ i. c .before .before .before .shared-slice-known .given i .fits) (sym (c .before .if1 .left) ∙ c .before .before .front .ensures) (c .body-at .ensures)
 
 pub read-spec : {M : Type 1} → statement M
-read-spec = tie.close (tie.spec empty-requires read-over-requires returns)
+read-spec = tie.close (tie.spec front-requires refused-requires returns body-at-requires returns-2)

@@ -1,94 +1,166 @@
-use mathlib.Core.Path.{refl}
-use Prim.Native.Nat.{_≤_, _-_}
+use mathlib.Core.Path.{_≡_, refl, _∙_}
+use Prim.Native.Nat.{_≤_, _<_, _-_}
 use native.Mathlib.Omega.{arith}
 use borrow.Author.Needs.{needs}
-use Rattle.region_graph.specs.Size.{most-listed}
-use Rattle.region_graph.specs.Model.{Word}
-use Rattle.region_graph.specs.Record.{numbers-of}
+use lib.ListN.{length, set, length-set}
+use Rattle.region_graph.specs.Model.{Word, Numbered}
 use Rattle.region_archive.specs.Bytes.{big}
-use Rattle.region_archive.specs.Entries.{Listed}
-use Rattle.region_archive.proofs.Delimits.{run-none, big-same}
-use Rattle.region_archive.proofs.Answers.{Count, count-stands, no-count, number-stands, number-fails, Numbering, numbering-more, list-end, list-stuck}
+use Rattle.region_archive.proofs.Delimits.{big-same, no-next, low-next}
+use Rattle.region_archive.proofs.Answers.{Count, count-stands, no-count, number-stands, number-fails}
+use Rattle.region_archive.proofs.ListReads.{Numbering, numbering-start, numbering-more, list-end, list-stuck}
 use Rattle.region_archive.proofs.sections.list_at.Statement.{statement}
 use Rattle.region_archive.proofs.sections.list_at.Tie as tie
 
 abbrev Inv-loop : tie.InvT-loop
-Inv-loop bytes at none total items₀ to₀ n₀ items to n = (n ≤ total) × ((total ≤ most-listed) × Numbering bytes to₀ n items to)
+Inv-loop bytes at most row₀ total to₀ least₀ n₀ row to least n = (n ≤ total) × ((total ≤ most) × Numbering most bytes to₀ total (length row₀) n row to least)
 
 abbrev μ-loop : tie.MeasureT-loop
-μ-loop bytes at none total items₀ to₀ n₀ items to n = total - n
+μ-loop bytes at most row₀ total to₀ least₀ n₀ row to least n = total - n
+
+-- a count of at most so many is a byte
+few : (c : tie.Start Inv-loop μ-loop) → c .args .most < 256
+few c = omega (arith, c .pre .1 .0)
 
 -- the count stands at the place
 counts : (c : tie.Else1 Inv-loop μ-loop)
-    → (let a = c .before .before .before .before .before .args in let r = c .before .before .count-at .result in
-    Count most-listed (omega arith) (a .bytes .now) (a .at) (r .number) (r .next))
+    → (let s = c .before .before .before .before .before in let r = c .before .before .count-at .result in
+    Count (s .args .most) (few s) (s .args .bytes .now) (s .args .at) (r .number) (r .next))
 counts c =
-    let a = c .before .before .before .before .before .args in
+    let s = c .before .before .before .before .before in
     let r = c .before .before .count-at in
-    count-stands most-listed (omega arith) (a .bytes .now) (a .at) (r .result) (c .if1 .left) (r .ensures)
+    count-stands (s .args .most) (few s) (s .args .bytes .now) (s .args .at) (r .result) (c .if1 .left) (r .ensures)
 
-no-part-requires : tie.Need-no-part-requires Inv-loop μ-loop
-no-part-requires c κs = search needs
+-- the row is as long as it was
+kept : (c : tie.At-loop Inv-loop μ-loop) → length (c .loop .row) ≡ length (c .before .before .before .before .before .before .before .args .row .now)
+kept c =
+    c .loop .inv .1 .1 .size-is ∙ length-set (c .before .before .before .before .before .before .before .args .row .now) 0 (c .before .before .before .before .count-at .result .number)
 
+-- and has places for the numbers
+inside : (c : tie.At-loop Inv-loop μ-loop)
+    → c .loop .n < length (set (c .before .before .before .before .before .before .before .args .row .now) 0 (c .before .before .before .before .count-at .result .number))
+inside c = omega (arith, kept c, c .loop .inv .1 .1 .size-is, c .loop .inv .0, c .loop .inv .1 .0, c .before .before .before .before .before .before .before .pre .1 .1)
+
+-- src/sections.rt:49:9
 count-at-requires : tie.Need-count-at-requires Inv-loop μ-loop
-count-at-requires c κs = search needs
+count-at-requires c κs = (c .before .before .pre .0, omega (arith, c .before .before .pre .1 .0))
 
+-- src/sections.rt:51:9
 returns : tie.Need-returns Inv-loop μ-loop
 returns c =
-    let a = c .before .before .before .before .before .args in
+    let s = c .before .before .before .before .before in
+    let a = s .args in
     let r = c .before .before .count-at in
-    (c .before .before .before .no-part .ensures, no-count most-listed (omega arith) (a .bytes .now) (a .at) Listed (big 4) (λ xs h. h .few) (r .result) (c .if1 .taken) (r .ensures))
+    record { size = refl; answer = no-count (a .most) (few s) (a .bytes .now) (a .at) (Numbered (a .most)) (big 4) (λ xs h. h .few) (r .result) (c .if1 .taken) (r .ensures) }
 
+-- src/sections.rt:56:17
 cast-total : tie.Need-cast-total Inv-loop μ-loop
 cast-total c = search needs
 
+-- src/sections.rt:57:5
+slice-write-row : tie.Need-slice-write-row Inv-loop μ-loop
+slice-write-row c = search needs
+
+-- src/sections.rt:61:5
 loop-holds : tie.Need-loop-holds Inv-loop μ-loop
 loop-holds c =
     let p = counts (c .before) in
-    (omega arith, (p .is-good, record { size = refl; run = run-none Word (big 4) (big-same 4) (c .before .before .before .before .before .before .args .bytes .now) _ (p .room) }))
+    let a = c .before .before .before .before .before .before .args in
+    let r = c .before .before .before .count-at .result in
+    let one : 1 ≤ length (a .row .now) = omega (arith, c .before .before .before .before .before .before .pre .1 .1) in
+    (omega arith, (p .is-good, numbering-start (a .most) (a .bytes .now) (r .next) (r .number) (a .row .now) (p .room) one))
 
+-- src/sections.rt:62:13
 number-at-requires : tie.Need-number-at-requires Inv-loop μ-loop
-number-at-requires c κs = (c .before .loop .inv .1 .1 .run .room, omega arith)
+number-at-requires c κs = (c .before .loop .inv .1 .1 .going .run .room, omega arith)
 
+-- src/sections.rt:64:13
+same-length : tie.Need-same-length Inv-loop μ-loop
+same-length c = kept (c .before .before .before .before)
+
+-- src/sections.rt:64:13
 returns-2 : tie.Need-returns-2 Inv-loop μ-loop
 returns-2 c =
     let a = c .before .before .before .before .before .before .before .before .before .before .before .args in
     let l = c .before .before .before .before .loop in
-    let r = c .before .before .number-at in (
-      c .before .before .before .before .before .before .before .before .before .no-part .ensures,
-      list-stuck (a .bytes .now) (a .at) (counts (c .before .before .before .before .before .before)) (l .inv .1 .1) (omega arith) (number-fails 4 (a .bytes .now) (l .to) (r .result) (c .if2 .taken) (r .ensures)),
-    )
+    let r = c .before .before .number-at in
+    record {
+      size = kept (c .before .before .before .before);
+      answer =
+          list-stuck (a .most) (few (c .before .before .before .before .before .before .before .before .before .before .before)) (a .bytes .now) (a .at) (counts (c .before .before .before .before .before .before)) (l .inv .1 .1) (inside (c .before .before .before .before)) (c .before .before .before .loop-test .taken)
+          (no-next Word (big 4) (big-same 4) (λ n. n) (a .most) (a .bytes .now) (l .to) (number-fails 4 (a .bytes .now) (l .to) (r .result) (c .if2 .taken) (r .ensures)) (l .least));
+    }
 
-mul-items : tie.Need-mul-items Inv-loop μ-loop
-mul-items c = search needs
+-- src/sections.rt:69:22
+cast-number : tie.Need-cast-number Inv-loop μ-loop
+cast-number c = search needs
 
-array-write-items : tie.Need-array-write-items Inv-loop μ-loop
-array-write-items c = search needs
+-- src/sections.rt:71:13
+same-length-2 : tie.Need-same-length-2 Inv-loop μ-loop
+same-length-2 c = kept (c .before .before .before .before .before .before)
 
+-- src/sections.rt:71:13
+returns-3 : tie.Need-returns-3 Inv-loop μ-loop
+returns-3 c =
+    let a = c .before .before .before .before .before .before .before .before .before .before .before .before .before .args in
+    let l = c .before .before .before .before .before .before .loop in
+    let r = c .before .before .before .before .number-at in
+    record {
+      size = kept (c .before .before .before .before .before .before);
+      answer =
+          list-stuck (a .most) (few (c .before .before .before .before .before .before .before .before .before .before .before .before .before)) (a .bytes .now) (a .at) (counts (c .before .before .before .before .before .before .before .before)) (l .inv .1 .1) (inside (c .before .before .before .before .before .before)) (c .before .before .before .before .before .loop-test .taken)
+          (low-next Word (big 4) (big-same 4) (λ n. n) (a .most) (r .result .number) (number-stands 4 (a .bytes .now) (l .to) (r .result) (c .before .before .if2 .left) (r .ensures)) (c .if3 .taken));
+    }
+
+-- src/sections.rt:76:9
 add-n : tie.Need-add-n Inv-loop μ-loop
 add-n c = search needs
 
+-- src/sections.rt:77:9
+mul-row : tie.Need-mul-row Inv-loop μ-loop
+mul-row c = omega (arith, c .before .before .before .before .before .before .loop .inv .1 .0, c .before .before .before .before .before .before .before .before .before .before .before .before .before .pre .1 .0, c .before .before .before .before .before .loop-test .taken)
+
+-- src/sections.rt:77:9
+slice-write-row-2 : tie.Need-slice-write-row-2 Inv-loop μ-loop
+slice-write-row-2 c = omega (arith, kept (c .before .before .before .before .before .before), c .before .before .before .before .before .before .loop .inv .1 .0, c .before .before .before .before .before .loop-test .taken, c .before .before .before .before .before .before .before .before .before .before .before .before .before .pre .1 .1)
+
+-- src/sections.rt:79:17
+add-least : tie.Need-add-least Inv-loop μ-loop
+add-least c =
+    let a = c .before .before .before .before .before .before .before .before .before .before .before .before .before .args in
+    let r = c .before .before .before .before .number-at in
+    omega (arith, number-stands 4 (a .bytes .now) (c .before .before .before .before .before .before .loop .to) (r .result) (c .before .before .if2 .left) (r .ensures) .is-good)
+
+-- src/sections.rt:61:5
 loop-less : tie.Need-loop-less Inv-loop μ-loop
 loop-less c = search needs
 
+-- src/sections.rt:61:5
 loop-again : tie.Need-loop-again Inv-loop μ-loop
 loop-again c =
-    let a = c .before .before .before .before .before .before .before .before .before .before .before .args in
-    let l = c .before .before .before .before .loop in
-    let r = c .before .before .number-at in (
-      omega arith,
+    let a = c .before .before .before .before .before .before .before .before .before .before .before .before .before .args in
+    let l = c .before .before .before .before .before .before .loop in
+    let r = c .before .before .before .before .number-at in (
+      omega (arith, c .before .before .before .before .before .loop-test .taken),
       (
         l .inv .1 .0,
-        numbering-more (l .inv .1 .1) (omega (arith, l .inv .1 .0)) (number-stands 4 (a .bytes .now) (l .to) (r .result) (c .if2 .left) (r .ensures)),
+        numbering-more (a .most) (l .inv .1 .1) (omega (arith, c .before .before .before .before .before .loop-test .taken, l .inv .1 .0, c .before .before .before .before .before .before .before .before .before .before .before .before .before .pre .1 .1, length-set (a .row .now) 0 (c .before .before .before .before .before .before .before .before .before .before .count-at .result .number)))
+            (number-stands 4 (a .bytes .now) (l .to) (r .result) (c .before .before .if2 .left) (r .ensures)) (c .if3 .left),
       ),
     )
 
-returns-3 : tie.Need-returns-3 Inv-loop μ-loop
-unfolding numbers-of
-returns-3 c =
+-- src/sections.rt:45:1
+same-length-3 : tie.Need-same-length-3 Inv-loop μ-loop
+same-length-3 c = kept (c .before)
+
+-- src/sections.rt:45:1
+returns-4 : tie.Need-returns-4 Inv-loop μ-loop
+returns-4 c =
     let a = c .before .before .before .before .before .before .before .before .args in
     let l = c .before .loop in
-    (record { count = omega (arith, l .inv .1 .0); size = l .inv .1 .1 .size }, list-end (a .bytes .now) (a .at) (counts (c .before .before .before)) (l .inv .1 .1) (omega arith))
+    record {
+      size = kept (c .before);
+      answer = list-end (a .most) (few (c .before .before .before .before .before .before .before .before)) (a .bytes .now) (a .at) (counts (c .before .before .before)) (l .inv .1 .1) (inside (c .before)) (omega (arith, l .inv .0, c .loop-test .left));
+    }
 
 pub list-at-spec : {M : Type 1} → statement M
 list-at-spec =
@@ -96,16 +168,22 @@ list-at-spec =
     (tie.spec
     Inv-loop
     μ-loop
-    no-part-requires
     count-at-requires
     returns
     cast-total
+    slice-write-row
     loop-holds
     number-at-requires
+    same-length
     returns-2
-    mul-items
-    array-write-items
+    cast-number
+    same-length-2
+    returns-3
     add-n
+    mul-row
+    slice-write-row-2
+    add-least
     loop-less
     loop-again
-    returns-3)
+    same-length-3
+    returns-4)

@@ -8,7 +8,7 @@ use lib.Dec.{leb}
 use Rattle.region_graph.specs.Lists.{member}
 use Rattle.region_graph.specs.Sets.{has, members}
 use Rattle.region_graph.proofs.Lists.{and-left, and-right}
-use Rattle.region_graph.proofs.FlatLaws.{member-members}
+use Rattle.region_graph.proofs.Storing.{has-member}
 use Rattle.region_archive.specs.Entries.{field-key, source-in, ends-differ, first-good, second-good}
 use Rattle.region_archive.specs.declared.entries.Section.{Section}
 use Rattle.region_archive.specs.declared.entries.Section.the-variants as Section
@@ -30,7 +30,7 @@ module _ (s : Section) (x floor a b : ℕ) where
 
   pub first-connection : s ≡ Section.Connections → {k : ℕ} → k ≡ field-key s a b → floor ≤ k → {t : Bool} → t ≡ has x a
       → t ≡ (leb floor (field-key s a b) && source-in s (members x) a)
-  first-connection f e h g = high-order e h (g ∙ sym (member-members x a) ∙ sym (ap (λ (t : Section). source-in t (members x) a) f))
+  first-connection f e h g = high-order e h (g ∙ has-member x a ∙ sym (ap (λ (t : Section). source-in t (members x) a) f))
 
   -- the ends are equal
   pub second-equal : s ≡ Section.Connections → {k : ℕ} → k ≡ field-key s a b → floor ≤ k → a ≡ b → false ≡ second-good s (members x) floor a b
@@ -38,7 +38,7 @@ module _ (s : Section) (x floor a b : ℕ) where
       sym (and-right (high e h) (and-left (member b (members x)) (ap (λ (t : Section). ends-differ t a b) f ∙ ap not (eq-eqb a b g))))
 
   second-has : ends-differ s a b ≡ true → {k : ℕ} → k ≡ field-key s a b → floor ≤ k → {t : Bool} → t ≡ has x b → t ≡ second-good s (members x) floor a b
-  second-has d e h g = high-order e h (g ∙ sym (member-members x b) ∙ sym (ap (λ (v : Bool). v && member b (members x)) d))
+  second-has d e h g = high-order e h (g ∙ has-member x b ∙ sym (ap (λ (v : Bool). v && member b (members x)) d))
 
   pub second-bundle : s ≡ Section.Bundles → {k : ℕ} → k ≡ field-key s a b → floor ≤ k → {t : Bool} → t ≡ has x b → t ≡ second-good s (members x) floor a b
   second-bundle f = second-has (ap (λ (t : Section). ends-differ t a b) f)

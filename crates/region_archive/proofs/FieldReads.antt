@@ -13,7 +13,7 @@ use Rattle.region_graph.specs.Flat.{Fields, FlatPart}
 use Rattle.region_graph.proofs.Lists.{false-true}
 use Rattle.region_archive.specs.Bytes.{big}
 use Rattle.region_archive.specs.Image.{part-bytes}
-use Rattle.region_archive.specs.Rows.{Parsed, Unparsed, Stands, StandsOr}
+use Rattle.region_archive.specs.Rows.{Parsed, Unparsed, StandsOr}
 use Rattle.region_archive.specs.Entries.{SameTo, GoodTo, part-at, first-width, field-count, most-in, row-width, part-open, PartGood, first-good, second-good, FieldGood, field-bytes, FieldSame, FlatField}
 use Rattle.region_archive.specs.Sections.{PartRead, FieldRead}
 use Rattle.region_archive.specs.declared.entries.Section.{Section}

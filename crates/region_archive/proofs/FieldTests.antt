@@ -9,7 +9,7 @@ use Rattle.region_graph.specs.Lists.{member}
 use Rattle.region_graph.specs.Sets.{has, members}
 use Rattle.region_graph.proofs.Lists.{and-left, and-right}
 use Rattle.region_graph.proofs.Storing.{has-member}
-use Rattle.region_archive.specs.Entries.{field-key, source-in, ends-differ, first-good, second-good}
+use Rattle.region_archive.specs.Entries.{field-key, source-in, ends-differ, second-good}
 use Rattle.region_archive.specs.declared.entries.Section.{Section}
 use Rattle.region_archive.specs.declared.entries.Section.the-variants as Section
 

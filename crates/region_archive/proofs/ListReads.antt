@@ -2,21 +2,19 @@
 use mathlib.Core.Path.{_≡_, refl, sym, ap, _∙_, subst}
 use mathlib.Core.Bool.{Bool, true, false}
 use mathlib.Core.List.{List, [], _∷_, _++_}
-use Prim.Native.Nat.{ℕ, suc, _+_, _-_, _≤_, _<_}
+use Prim.Native.Nat.{ℕ, _+_, _-_, _≤_, _<_}
 use native.Mathlib.Numerals.{add-one}
 use native.Mathlib.Omega.{arith}
 use lib.ListN.{length, take, drop, getD, set, length-set, length-drop}
 use lib.Seq.{length-take-le, getD-set-same, getD-set-other}
 use Rattle.region_graph.specs.Size.{most-listed, all-sign}
-use Rattle.region_graph.specs.Model.{Part, Word, Sorted, Numbered}
+use Rattle.region_graph.specs.Model.{Part, Word, Numbered}
 use Rattle.region_graph.specs.Flat.{FlatPart}
 use Rattle.region_graph.proofs.Lists.{false-true}
 use Rattle.region_archive.specs.Bytes.{big, counted}
 use Rattle.region_archive.specs.Image.{part-bytes}
-use Rattle.region_archive.specs.Rows.{Parsed, Unparsed, Stands, StandsOr, by-key}
+use Rattle.region_archive.specs.Rows.{Parsed, Unparsed, Stands, StandsOr}
 use Rattle.region_archive.specs.Entries.{PartGood}
-use Rattle.region_archive.specs.Sections.{ListRead, PartRead}
-use Rattle.region_archive.specs.declared.sections.FieldAt.{FieldAt}
 use Rattle.region_archive.proofs.Delimits.{Going, NoNext, big-same, head-same, going-none, going-more, row-parsed, row-stuck}
 use Rattle.region_archive.proofs.Digits.{drop-byte}
 use Rattle.region_archive.proofs.Answers.{Count, count-byte, take-set}

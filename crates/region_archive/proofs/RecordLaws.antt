@@ -1,7 +1,7 @@
 -- The record of a bundle or connection and its fields.
 use mathlib.Core.Path.{_≡_, refl, sym, ap, _∙_, subst}
 use mathlib.Core.Bool.{Bool, true, false, not, _&&_}
-use mathlib.Core.List.{List, [], _∷_, _++_}
+use mathlib.Core.List.{List, _++_}
 use Prim.Native.Nat.{ℕ, zero, suc, _+_, _*_, _^_, _≤_, _<_}
 use native.Mathlib.Omega.{arith}
 use borrow.Author.Tests.{le-leb, leb-true, not-true}
@@ -13,7 +13,7 @@ use Rattle.region_graph.specs.Model.{Part, Word, Numbered, NumberedPart}
 use Rattle.region_graph.specs.Flat.{Fields, FlatPart}
 use Rattle.region_graph.proofs.Lists.{and-yes, and-fst, and-snd, member-all, false-true}
 use Rattle.region_archive.specs.Bounds.{part-bound}
-use Rattle.region_archive.specs.Bytes.{big, each, counted}
+use Rattle.region_archive.specs.Bytes.{big, each}
 use Rattle.region_archive.specs.Image.{part-bytes}
 use Rattle.region_archive.specs.Entries.{bytes-to, SameTo, GoodTo, part-at, first-width, field-count, most-in, row-width, part-open, PartGood, first-good, second-good, FieldGood, field-bytes, fields-bytes, FieldSame, FlatField, FlatElem, SameFields, Elem, fields-of, record-bytes, key, LegalElem}
 use Rattle.region_archive.specs.declared.entries.Section.{Section}

@@ -1,5 +1,5 @@
 -- The next record of a section: the ways in which none stands at a place, and the one that does.
-use mathlib.Core.Path.{_≡_, refl, sym, ap, _∙_, subst}
+use mathlib.Core.Path.{_≡_, sym, ap, _∙_, subst}
 use mathlib.Core.Bool.{Bool, true, false, not}
 use mathlib.Core.List.{List, [], _++_, append-nil, append-assoc}
 use Prim.Native.Nat.{ℕ, suc, _+_, _-_, _^_, _≤_, _<_}
@@ -7,7 +7,7 @@ use native.Mathlib.Numerals.{add-one}
 use native.Mathlib.Omega.{arith}
 use borrow.Author.Tests.{not-true, not-false}
 use lib.ListN.{length, take, drop, length-append, length-drop, take-append-drop, drop-of-length-le}
-use lib.Seq.{length-take-le, take-at, drop-drop, drop-append-le}
+use lib.Seq.{length-take-le, take-at, drop-append-le}
 use Rattle.region_graph.specs.Size.{regions}
 use Rattle.region_graph.specs.Lists.{All}
 use Rattle.region_graph.specs.Flat.{Fields}

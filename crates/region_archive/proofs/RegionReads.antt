@@ -4,23 +4,22 @@ use mathlib.Core.Bool.{Bool, true, false, not, _||_}
 use mathlib.Core.List.{List, [], _∷_, _++_}
 use Prim.Native.Nat.{ℕ, _+_, _^_, _≤_, _<_}
 use native.Mathlib.Omega.{arith}
-use borrow.Author.Tests.{eqb-true, eqb-false, ltb-false, ltb-true}
+use borrow.Author.Tests.{eqb-true, eqb-false}
 use lib.Bits.{bitOr}
-use lib.Dec.{eqb, ltb}
-use lib.ListN.{length, take, drop, set, length-set}
+use lib.Dec.{eqb}
+use lib.ListN.{length, take, drop, set}
 use lib.Seq.{length-take-le}
 use Rattle.region_graph.specs.Size.{regions}
 use Rattle.region_graph.specs.Lists.{member}
 use Rattle.region_graph.specs.Sets.{one, set-of, members}
-use Rattle.region_graph.specs.Model.{Sorted}
 use Rattle.region_graph.proofs.Lists.{any-append, eqb-sym}
 use Rattle.region_graph.proofs.Bits.{set-ext, set-join, set-none}
 use Rattle.region_graph.proofs.Storing.{regions-back}
 use Rattle.region_archive.specs.Bytes.{big, counted}
-use Rattle.region_archive.specs.Rows.{Parsed, Unparsed, Answer, Stands, by-key}
+use Rattle.region_archive.specs.Rows.{Parsed, Unparsed, Answer, Stands}
 use Rattle.region_archive.specs.Sections.{RegionsRead}
 use Rattle.region_archive.specs.declared.numbers.NumberAt.{NumberAt}
-use Rattle.region_archive.proofs.Delimits.{Delimits, Going, NoNext, big-same, going-none, going-more, no-next, low-next, row-parsed, row-stuck}
+use Rattle.region_archive.proofs.Delimits.{Delimits, Going, NoNext, big-same, going-none, going-more, row-parsed, row-stuck}
 use Rattle.region_archive.proofs.Answers.{count-stands, count-byte, no-count, take-set}
 use Rattle.region_archive.proofs.OneImage.{RegionRow}
 use Rattle.region_archive.proofs.SectionReads.{stands-or}

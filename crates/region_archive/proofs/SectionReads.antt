@@ -24,7 +24,7 @@ use Rattle.region_archive.specs.declared.numbers.NumberAt.{NumberAt}
 use Rattle.region_archive.specs.declared.entries.Section.{Section}
 use Rattle.region_archive.specs.declared.entries.Section.the-variants as Section
 use Rattle.region_archive.specs.declared.sections.LengthAt.{LengthAt}
-use Rattle.region_archive.proofs.Delimits.{Going, NoNext, going-none, going-more, row-parsed, row-stuck}
+use Rattle.region_archive.proofs.Delimits.{Going, going-none, going-more, row-parsed, row-stuck}
 use Rattle.region_archive.proofs.Answers.{count-stands, count-byte, no-count}
 use Rattle.region_archive.proofs.RecordLaws.{Element, element-of, element-same, flat-of}
 use Rattle.region_archive.proofs.RecordReads.{FieldsRead, NoRecord, record-stands}

@@ -2,18 +2,18 @@
 use mathlib.Core.Path.{_≡_, refl, sym, ap, _∙_}
 use mathlib.Core.Bool.{Bool, true, false, not}
 use mathlib.Core.List.{List, [], _∷_, _++_}
-use Prim.Native.Nat.{ℕ, _+_, _-_, _*_, _≤_, _<_}
+use Prim.Native.Nat.{ℕ, _+_, _-_, _≤_, _<_}
 use native.Mathlib.Omega.{arith}
-use native.Mathlib.Decide.{decLt, ℕ-discrete}
+use native.Mathlib.Decide.{ℕ-discrete}
 use lib.Dec.{ltb, eqb}
 use lib.ListN.{length}
-use borrow.Author.Tests.{lt-ltb, le-ltb, ltb-true, le-leb, eq-eqb, ne-eqb}
+use borrow.Author.Tests.{lt-ltb, le-ltb, le-leb, eq-eqb, ne-eqb}
 use Rattle.region_graph.specs.Size.{regions, most-bundles, most-connections, most-provided, most-listed}
 use Rattle.region_graph.specs.Refusals.{not-refused}
 use Rattle.region_graph.specs.Lists.{All, member, insert, ascends}
 use Rattle.region_graph.specs.Model.{Model, Filter, Part, Connection, Sorted, NumberedPart, LegalFilter, Legal, bundle-before, connection-before}
 use Rattle.region_graph.specs.Calls.{Call, Question, first-no, questions, number, accepted, after, is-region, at-location, joins, part-within, part-ascends, filter-within, filter-ascends}
-use Rattle.region_graph.proofs.Lists.{and-yes, and-left, and-right, and-fst, and-snd, pick-yes, all-map, all-both, member-all}
+use Rattle.region_graph.proofs.Lists.{and-yes, and-left, and-right, pick-yes, all-map, all-both, member-all}
 use Rattle.region_graph.proofs.Ascending.{none-any, connection-order}
 use Rattle.region_graph.proofs.Legal.{connectable}
 use Rattle.region_archive.specs.Rows.{by-key}

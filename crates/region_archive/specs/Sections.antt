@@ -15,7 +15,7 @@ use Rattle.region_graph.specs.Flat.{Fields, FlatPart, Flat}
 use Rattle.region_archive.specs.Bytes.{big, counted}
 use Rattle.region_archive.specs.Image.{part-bytes, body}
 use Rattle.region_archive.specs.Rows.{Parsed, StandsOr, by-key}
-use Rattle.region_archive.specs.Entries.{SameTo, GoodTo, PartGood, FieldGood, field-bytes, FieldSame, FlatField, FlatElem, Elem, record-bytes, key, most, most-in, row-width, LegalElem}
+use Rattle.region_archive.specs.Entries.{SameTo, GoodTo, PartGood, FieldGood, field-bytes, FieldSame, FlatField, FlatElem, record-bytes, key, most, most-in, row-width, LegalElem}
 use Rattle.region_archive.specs.declared.entries.Section.{Section}
 use Rattle.region_archive.specs.declared.sections.FieldAt.{FieldAt}
 use Rattle.region_archive.specs.declared.sections.LengthAt.{LengthAt}

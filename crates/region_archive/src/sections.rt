@@ -1,12 +1,11 @@
 // The sections of an archive at a place. A reading function says whether its value stands there and the place after it, and puts the
 // value's numbers into lent places.
 ghost use mathlib.Core.Path.{_≡_};
-ghost use mathlib.Core.Bool.{Bool};
 ghost use Prim.Native.Nat.{_≤_, _<_, _+_, _*_};
 ghost use lib.ListN.{length};
 ghost use Rattle.region_graph.specs.Size.{regions, «most-listed»};
 ghost use Rattle.region_graph.specs.Sets.{members};
-ghost use Rattle.region_archive.specs.Entries.{«field-count», «first-good», «second-good», «part-open», most, «most-in», «row-width»};
+ghost use Rattle.region_archive.specs.Entries.{«field-count», «first-good», «second-good», «part-open», most, «row-width»};
 ghost use Rattle.region_archive.specs.Sections.{ListRead, PartRead, FieldRead, LengthRead, RegionsRead, SectionRead};
 use crate::entries::Section;
 use crate::entries::fields;
@@ -20,7 +19,6 @@ use crate::numbers::number_at;
 use region_graph::region_set::has;
 use region_graph::region_set::is_region;
 use region_graph::region_set::one;
-use region_graph::size::EVERYTHING;
 use region_graph::size::REGIONS;
 
 pub struct FieldAt {

@@ -6,42 +6,21 @@ use Rattle.region_archive.proofs.BodyReads.{no-body, no-regions, no-bun
 use Rattle.region_archive.proofs.reading.body_at.Statement.{statement}
 use Rattle.region_archive.proofs.reading.body_at.Tie as tie
 
-slice-aggregate-regions-at : tie.Need-slice-aggregate-regions-at
-slice-aggregate-regions-at c = search needs
-
-regions-at-requires : tie.Need-regions-at-requires
-regions-at-requires c κs = search needs
-
-refused-requires : tie.Need-refused-requires
-refused-requires c κs = search needs
-
 returns : tie.Need-returns
 returns c =
     let a = c .before .before .before .before .before .before .before .args in
     no-body (a .bytes .now) (a .at) (c .refused .ensures) (no-regions (a .bytes .now) (a .at) (regions-fail (c .before .before .before .before .regions-at .ensures) (c .before .if1 .taken)))
 
-slice-aggregate-section-at : tie.Need-slice-aggregate-section-at
-slice-aggregate-section-at c = search needs
-
 section-at-requires : tie.Need-section-at-requires
 section-at-requires c κs = (regions-stand (c .before .before .before .before .regions-at .ensures) (c .before .if1 .left) .parsed .room, omega arith)
-
-refused-requires-2 : tie.Need-refused-requires-2
-refused-requires-2 c κs = search needs
 
 returns-2 : tie.Need-returns-2
 returns-2 c =
     let a = c .before .before .before .before .before .before .before .before .before .before .before .before .args in
     no-body (a .bytes .now) (a .at) (c .refused2 .ensures) (no-bundles-read (c .before .before .before .before .before .before .before .before .before .regions-at .ensures) (c .before .before .before .before .before .before .if1 .left) (c .before .before .before .before .section-at .ensures) (c .before .if2 .taken))
 
-slice-aggregate-section-at-2 : tie.Need-slice-aggregate-section-at-2
-slice-aggregate-section-at-2 c = search needs
-
 section-at-requires-2 : tie.Need-section-at-requires-2
 section-at-requires-2 c κs = (section-stands refl (c .before .before .before .before .section-at .ensures) (c .before .if2 .left) .parsed .room, omega arith)
-
-refused-requires-3 : tie.Need-refused-requires-3
-refused-requires-3 c κs = search needs
 
 returns-3 : tie.Need-returns-3
 returns-3 c =
@@ -49,35 +28,20 @@ returns-3 c =
     no-body (a .bytes .now) (a .at) (c .refused3 .ensures)
     (no-connections-read (c .before .before .before .before .before .before .before .before .before .before .before .before .before .before .regions-at .ensures) (c .before .before .before .before .before .before .before .before .before .before .before .if1 .left) (c .before .before .before .before .before .before .before .before .before .section-at .ensures) (c .before .before .before .before .before .before .if2 .left) (c .before .before .before .before .section-at2 .ensures) (c .before .if3 .taken))
 
-refused-requires-4 : tie.Need-refused-requires-4
-refused-requires-4 c κs = search needs
-
 returns-4 : tie.Need-returns-4
 returns-4 c =
     let a = c .before .before .before .before .before .before .before .before .before .before .before .before .before .before .before .before .before .before .before .args in
     let t = three-sections (c .before .before .before .before .before .before .before .before .before .before .before .before .before .before .before .before .regions-at .ensures) (c .before .before .before .before .before .before .before .before .before .before .before .before .before .if1 .left) (c .before .before .before .before .before .before .before .before .before .before .before .section-at .ensures) (c .before .before .before .before .before .before .before .before .if2 .left) (c .before .before .before .before .before .before .section-at2 .ensures) (c .before .before .before .if3 .left) in
     longer (a .bytes .now) (a .at) (c .refused4 .ensures) (t .parsed) (c .before .if4 .taken)
 
-array-share-prefix-list : tie.Need-array-share-prefix-list
-array-share-prefix-list c = search needs
-
 slice-aggregate-of-flat : tie.Need-slice-aggregate-of-flat
 slice-aggregate-of-flat c = let r = c .before .before .before .before .before .before .before .before .before .before .before .before .before .before .before .before .regions-at in sym (length-take-le (r .result .count) (r .last .1 .1 .0) (r .ensures .room))
-
-array-share-prefix-bundles : tie.Need-array-share-prefix-bundles
-array-share-prefix-bundles c = search needs
 
 slice-aggregate-of-flat-2 : tie.Need-slice-aggregate-of-flat-2
 slice-aggregate-of-flat-2 c = let r = c .before .before .before .before .before .before .before .before .before .before .before .before .section-at in sym (length-take-le (r .result .count) (r .last .1 .1 .1 .1 .0) (r .ensures .room))
 
-array-share-prefix-connections : tie.Need-array-share-prefix-connections
-array-share-prefix-connections c = search needs
-
 slice-aggregate-of-flat-3 : tie.Need-slice-aggregate-of-flat-3
 slice-aggregate-of-flat-3 c = let r = c .before .before .before .before .before .before .before .before .section-at2 in sym (length-take-le (r .result .count) (r .last .1 .1 .1 .1 .0) (r .ensures .room))
-
-of-flat-requires : tie.Need-of-flat-requires
-of-flat-requires c κs = search needs
 
 returns-5 : tie.Need-returns-5
 returns-5 c =
@@ -88,25 +52,25 @@ pub body-at-spec : {M : Type 1} → statement M
 body-at-spec =
     tie.close
     (tie.spec
-    slice-aggregate-regions-at
-    regions-at-requires
-    refused-requires
+    (λ c. search needs)
+    (λ c κs. search needs)
+    (λ c κs. search needs)
     returns
-    slice-aggregate-section-at
+    (λ c. search needs)
     section-at-requires
-    refused-requires-2
+    (λ c κs. search needs)
     returns-2
-    slice-aggregate-section-at-2
+    (λ c. search needs)
     section-at-requires-2
-    refused-requires-3
+    (λ c κs. search needs)
     returns-3
-    refused-requires-4
+    (λ c κs. search needs)
     returns-4
-    array-share-prefix-list
+    (λ c. search needs)
     slice-aggregate-of-flat
-    array-share-prefix-bundles
+    (λ c. search needs)
     slice-aggregate-of-flat-2
-    array-share-prefix-connections
+    (λ c. search needs)
     slice-aggregate-of-flat-3
-    of-flat-requires
+    (λ c κs. search needs)
     returns-5)

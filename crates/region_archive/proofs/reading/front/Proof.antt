@@ -7,17 +7,8 @@ use Rattle.region_archive.proofs.reading.front.Tie as tie
 returns : tie.Need-returns
 returns c = front-short (c .before .before .args .bytes .now) (c .if1 .taken)
 
-value-requires : tie.Need-value-requires
-value-requires c κs = search needs
-
 returns-2 : tie.Need-returns-2
 returns-2 c = front-other (c .before .before .before .before .args .bytes .now) (omega (arith, c .before .before .if1 .left)) (c .before .value .ensures) (c .if2 .taken)
-
-value-requires-2 : tie.Need-value-requires-2
-value-requires-2 c κs = search needs
-
-sub-if3 : tie.Need-sub-if3
-sub-if3 c = search needs
 
 returns-3 : tie.Need-returns-3
 returns-3 c = front-misfit (c .before .before .before .before .before .before .args .bytes .now) (omega (arith, c .before .before .before .before .if1 .left)) (c .before .before .before .value .ensures) (c .before .before .if2 .left) (c .before .value2 .ensures) (c .if3 .taken)
@@ -28,4 +19,4 @@ returns-4 c = front-fine (c .before .before .before .before .before .before .arg
 pub front-spec : {M : Type 1} → statement M
 front-spec =
     tie.close
-    (tie.spec returns value-requires returns-2 value-requires-2 sub-if3 returns-3 returns-4)
+    (tie.spec returns (λ c κs. search needs) returns-2 (λ c κs. search needs) (λ c. search needs) returns-3 returns-4)

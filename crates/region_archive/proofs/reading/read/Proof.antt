@@ -4,12 +4,6 @@ use Rattle.region_archive.proofs.FileReads.{stopped, reads-refused, lon
 use Rattle.region_archive.proofs.reading.read.Statement.{statement}
 use Rattle.region_archive.proofs.reading.read.Tie as tie
 
-front-requires : tie.Need-front-requires
-front-requires c κs = search needs
-
-refused-requires : tie.Need-refused-requires
-refused-requires c κs = search needs
-
 returns : tie.Need-returns
 returns c = reads-refused (c .refused .ensures) (c .before .if1 .taken) (λ f. stopped f (c .before .before .front .ensures) (c .before .if1 .taken))
 
@@ -20,4 +14,4 @@ returns-2 : tie.Need-returns-2
 returns-2 c = body-reads (λ i. c .before .before .before .shared-slice-known .given i .fits) (sym (c .before .if1 .left) ∙ c .before .before .front .ensures) (c .body-at .ensures)
 
 pub read-spec : {M : Type 1} → statement M
-read-spec = tie.close (tie.spec front-requires refused-requires returns body-at-requires returns-2)
+read-spec = tie.close (tie.spec (λ c κs. search needs) (λ c κs. search needs) returns body-at-requires returns-2)

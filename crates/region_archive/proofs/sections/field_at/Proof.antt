@@ -1,5 +1,5 @@
 use mathlib.Core.Path.{_≡_, sym, subst}
-use Prim.Native.Nat.{ℕ, _+_, _-_, _*_, _≤_, _<_}
+use Prim.Native.Nat.{ℕ, _+_, _-_, _*_, _≤_}
 use native.Mathlib.Omega.{arith}
 use borrow.Author.Needs.{needs}
 use lib.ListN.{length}
@@ -28,12 +28,6 @@ first-at-requires c κs = (c .before .before .before .before .pre .0, omega (ari
 second-at-requires : tie.Need-second-at-requires
 second-at-requires c κs = (c .before .before .before .before .pre .0, omega (arith, c .before .before .before .before .pre .1 .1, wide (c .before .before .before .before .args .section)))
 
-most-in-requires : tie.Need-most-in-requires
-most-in-requires c κs = search needs
-
-part-open-requires : tie.Need-part-open-requires
-part-open-requires c κs = search needs
-
 sub-place : tie.Need-sub-place
 sub-place c = two c
 
@@ -54,9 +48,6 @@ sub-part-at c = omega (arith, room c .0, c .before .before .before .before .befo
 
 part-part-at-start : tie.Need-part-part-at-start
 part-part-at-start c = omega (arith, room c .0, c .before .before .before .before .before .pre .1 .1)
-
-part-part-at-end : tie.Need-part-part-at-end
-part-part-at-end c = search needs
 
 part-at-requires : tie.Need-part-at-requires
 part-at-requires c κs =
@@ -110,8 +101,8 @@ field-at-spec =
     (tie.spec
     first-at-requires
     second-at-requires
-    most-in-requires
-    part-open-requires
+    (λ c κs. search needs)
+    (λ c κs. search needs)
     sub-place
     add-place
     mul-place
@@ -119,7 +110,7 @@ field-at-spec =
     mul-part-at
     sub-part-at
     part-part-at-start
-    part-part-at-end
+    (λ c. search needs)
     part-at-requires
     same-length
     returns

@@ -1,6 +1,5 @@
 use native.Mathlib.Omega.{arith}
 use borrow.Author.Needs.{needs}
-use lib.ListN.{length-set}
 use Rattle.region_graph.specs.Sets.{members}
 use Rattle.region_archive.proofs.Answers.{number-stands, number-fails}
 use Rattle.region_archive.proofs.Sizes.{narrow-first}
@@ -8,9 +7,6 @@ use Rattle.region_archive.proofs.FieldReads.{first-missing, first-read}
 use borrow.Author.Needs.{needs}
 use Rattle.region_archive.proofs.sections.first_at.Statement.{statement}
 use Rattle.region_archive.proofs.sections.first_at.Tie as tie
-
-first-width-requires : tie.Need-first-width-requires
-first-width-requires c κs = search needs
 
 number-at-requires : tie.Need-number-at-requires
 number-at-requires c κs = (c .before .before .before .pre .0, omega (arith, c .first-width .ensures, narrow-first (c .before .before .before .args .section)))
@@ -21,15 +17,6 @@ returns c =
     let r = c .before .before .number-at in
     first-missing (a .section) (members (a .regions)) (a .least) (a .bytes .now) (a .at) (a .row .now) (c .before .before .before .first-width .ensures)
     (number-fails (c .before .before .before .first-width .result) (a .bytes .now) (a .at) (r .result) (c .if1 .taken) (r .ensures))
-
-slice-write-row : tie.Need-slice-write-row
-slice-write-row c = search needs
-
-first-good-requires : tie.Need-first-good-requires
-first-good-requires c κs = search needs
-
-same-length : tie.Need-same-length
-same-length c = search needs
 
 returns-2 : tie.Need-returns-2
 returns-2 c =
@@ -42,10 +29,10 @@ pub first-at-spec : {M : Type 1} → statement M
 first-at-spec =
     tie.close
     (tie.spec
-    first-width-requires
+    (λ c κs. search needs)
     number-at-requires
     returns
-    slice-write-row
-    first-good-requires
-    same-length
+    (λ c. search needs)
+    (λ c κs. search needs)
+    (λ c. search needs)
     returns-2)

@@ -6,20 +6,11 @@ use borrow.Author.Needs.{needs}
 use Rattle.region_archive.proofs.sections.first_good.Statement.{statement}
 use Rattle.region_archive.proofs.sections.first_good.Tie as tie
 
-order-requires : tie.Need-order-requires
-order-requires c κs = search needs
-
 returns : tie.Need-returns
 returns c = let a = c .before .before .args in low-order (a .section) (a .regions) (a .least) (a .first) 255 (source-in (a .section) (members (a .regions)) (a .first)) (c .before .order .ensures) (c .if1 .taken)
 
 enum-told : tie.Need-enum-told
 enum-told c = search needs
-
-enum-told-2 : tie.Need-enum-told-2
-enum-told-2 c = search needs
-
-has-requires : tie.Need-has-requires
-has-requires c κs = search needs
 
 returns-2 : tie.Need-returns-2
 returns-2 c = let a = c .before .before .before .before .args in first-bundle (a .section) (a .regions) (a .least) (a .first) 255 (c .enum-told .given .1) (c .before .before .before .order .ensures) (c .before .before .if1 .left)
@@ -30,4 +21,4 @@ returns-3 c = let a = c .before .before .before .before .before .args in first-c
 pub first-good-spec : {M : Type 1} → statement M
 first-good-spec =
     tie.close
-    (tie.spec order-requires returns enum-told enum-told-2 has-requires returns-2 returns-3)
+    (tie.spec (λ c κs. search needs) returns enum-told (λ c. search needs) (λ c κs. search needs) returns-2 returns-3)

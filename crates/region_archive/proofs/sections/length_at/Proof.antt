@@ -6,23 +6,14 @@ use borrow.Author.Needs.{needs}
 use Rattle.region_archive.proofs.sections.length_at.Statement.{statement}
 use Rattle.region_archive.proofs.sections.length_at.Tie as tie
 
-number-at-requires : tie.Need-number-at-requires
-number-at-requires c κs = search needs
-
 returns : tie.Need-returns
 returns c = let a = c .before .before .before .before .args in let r = c .before .before .number-at in no-length (a .bytes .now) (a .at) (number-fails 2 (a .bytes .now) (a .at) (r .result) (c .if1 .taken) (r .ensures))
-
-cast-length : tie.Need-cast-length
-cast-length c = search needs
 
 sub-if2 : tie.Need-sub-if2
 sub-if2 c = omega (arith, number-stands 2 (c .before .before .before .before .before .before .args .bytes .now) (c .before .before .before .before .before .before .args .at) (c .before .before .before .before .number-at .result) (c .before .before .if1 .left) (c .before .before .before .before .number-at .ensures) .room)
 
 returns-2 : tie.Need-returns-2
 returns-2 c = let a = c .before .before .before .before .before .before .before .args in let r = c .before .before .before .before .before .number-at in short-length (a .bytes .now) (a .at) (number-stands 2 (a .bytes .now) (a .at) (r .result) (c .before .before .before .if1 .left) (r .ensures)) (c .if2 .taken)
-
-add-t6 : tie.Need-add-t6
-add-t6 c = search needs
 
 returns-3 : tie.Need-returns-3
 returns-3 c =
@@ -32,4 +23,4 @@ returns-3 c =
 
 pub length-at-spec : {M : Type 1} → statement M
 length-at-spec =
-    tie.close (tie.spec number-at-requires returns cast-length sub-if2 returns-2 add-t6 returns-3)
+    tie.close (tie.spec (λ c κs. search needs) returns (λ c. search needs) sub-if2 returns-2 (λ c. search needs) returns-3)

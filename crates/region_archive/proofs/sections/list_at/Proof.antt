@@ -53,13 +53,7 @@ returns c =
     record { size = refl; answer = no-count (a .most) (few s) (a .bytes .now) (a .at) (Numbered (a .most)) (big 4) (λ xs h. h .few) (r .result) (c .if1 .taken) (r .ensures) }
 
 -- src/sections.rt:56:17
-cast-total : tie.Need-cast-total Inv-loop μ-loop
-cast-total c = search needs
-
 -- src/sections.rt:57:5
-slice-write-row : tie.Need-slice-write-row Inv-loop μ-loop
-slice-write-row c = search needs
-
 -- src/sections.rt:61:5
 loop-holds : tie.Need-loop-holds Inv-loop μ-loop
 loop-holds c =
@@ -91,9 +85,6 @@ returns-2 c =
     }
 
 -- src/sections.rt:69:22
-cast-number : tie.Need-cast-number Inv-loop μ-loop
-cast-number c = search needs
-
 -- src/sections.rt:71:13
 same-length-2 : tie.Need-same-length-2 Inv-loop μ-loop
 same-length-2 c = kept (c .before .before .before .before .before .before)
@@ -112,9 +103,6 @@ returns-3 c =
     }
 
 -- src/sections.rt:76:9
-add-n : tie.Need-add-n Inv-loop μ-loop
-add-n c = search needs
-
 -- src/sections.rt:77:9
 mul-row : tie.Need-mul-row Inv-loop μ-loop
 mul-row c = omega (arith, c .before .before .before .before .before .before .loop .inv .1 .0, c .before .before .before .before .before .before .before .before .before .before .before .before .before .pre .1 .0, c .before .before .before .before .before .loop-test .taken)
@@ -131,9 +119,6 @@ add-least c =
     omega (arith, number-stands 4 (a .bytes .now) (c .before .before .before .before .before .before .loop .to) (r .result) (c .before .before .if2 .left) (r .ensures) .is-good)
 
 -- src/sections.rt:61:5
-loop-less : tie.Need-loop-less Inv-loop μ-loop
-loop-less c = search needs
-
 -- src/sections.rt:61:5
 loop-again : tie.Need-loop-again Inv-loop μ-loop
 loop-again c =
@@ -170,20 +155,20 @@ list-at-spec =
     μ-loop
     count-at-requires
     returns
-    cast-total
-    slice-write-row
+    (λ c. search needs)
+    (λ c. search needs)
     loop-holds
     number-at-requires
     same-length
     returns-2
-    cast-number
+    (λ c. search needs)
     same-length-2
     returns-3
-    add-n
+    (λ c. search needs)
     mul-row
     slice-write-row-2
     add-least
-    loop-less
+    (λ c. search needs)
     loop-again
     same-length-3
     returns-4)

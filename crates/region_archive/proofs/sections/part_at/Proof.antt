@@ -12,18 +12,6 @@ use borrow.Author.Needs.{needs}
 use Rattle.region_archive.proofs.sections.part_at.Statement.{statement}
 use Rattle.region_archive.proofs.sections.part_at.Tie as tie
 
-shared-slice-read-if2 : tie.Need-shared-slice-read-if2
-shared-slice-read-if2 c = search needs
-
-slice-write-row : tie.Need-slice-write-row
-slice-write-row c = search needs
-
-add-next : tie.Need-add-next
-add-next c = search needs
-
-same-length : tie.Need-same-length
-same-length c = search needs
-
 returns : tie.Need-returns
 returns c =
     let s = c .before .before .before .before .before in
@@ -35,12 +23,6 @@ returns c =
           (drop-byte (a .bytes .now) (a .at) (omega arith) ∙ ap (λ (n : ℕ). n ∷ drop (a .at + 1) (a .bytes .now)) (c .if2 .taken)) (omega arith)
           (set (a .row .now) 0 255) (getD-set-same (a .row .now) 0 255 0 (omega (arith, s .pre .1 .1)));
     }
-
-list-at-requires : tie.Need-list-at-requires
-list-at-requires c κs = search needs
-
-same-length-2 : tie.Need-same-length-2
-same-length-2 c = search needs
 
 returns-2 : tie.Need-returns-2
 returns-2 c =
@@ -59,11 +41,11 @@ pub part-at-spec : {M : Type 1} → statement M
 part-at-spec =
     tie.close
     (tie.spec
-    shared-slice-read-if2
-    slice-write-row
-    add-next
-    same-length
+    (λ c. search needs)
+    (λ c. search needs)
+    (λ c. search needs)
+    (λ c. search needs)
     returns
-    list-at-requires
-    same-length-2
+    (λ c κs. search needs)
+    (λ c. search needs)
     returns-2)

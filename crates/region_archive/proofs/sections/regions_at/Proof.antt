@@ -1,4 +1,4 @@
-use mathlib.Core.Path.{_≡_, refl, sym, ap, _∙_, subst}
+use mathlib.Core.Path.{_≡_, refl, sym, _∙_, subst}
 use mathlib.Core.Logic.{⊎-elim}
 use Prim.Native.Nat.{ℕ, _+_, _-_, _≤_, _<_}
 use native.Mathlib.Omega.{arith}
@@ -28,9 +28,6 @@ returns c =
     let r = c .before .before .count-at in
     regions-missing (a .bytes .now) (a .from) (r .result) (r .ensures) (c .if1 .taken) (a .list .now)
 
-cast-total : tie.Need-cast-total Inv-loop μ-loop
-cast-total c = search needs
-
 loop-holds : tie.Need-loop-holds Inv-loop μ-loop
 loop-holds c =
     let a = c .before .before .before .before .before .before .args in
@@ -40,12 +37,6 @@ loop-holds c =
 
 number-at-requires : tie.Need-number-at-requires Inv-loop μ-loop
 number-at-requires c κs = (c .before .loop .inv .1 .1 .1 .going .run .room, omega arith)
-
-is-region-requires : tie.Need-is-region-requires Inv-loop μ-loop
-is-region-requires c κs = search needs
-
-one-requires : tie.Need-one-requires Inv-loop μ-loop
-one-requires c κs = search needs
 
 mul-list : tie.Need-mul-list Inv-loop μ-loop
 mul-list c = omega (arith, c .before .before .before .before .before .before .before .before .loop .inv .1 .0, c .before .before .before .before .before .before .before .loop-test .taken)
@@ -109,11 +100,11 @@ regions-at-spec =
     μ-loop
     count-at-requires
     returns
-    cast-total
+    (λ c. search needs)
     loop-holds
     number-at-requires
-    is-region-requires
-    one-requires
+    (λ c κs. search needs)
+    (λ c κs. search needs)
     mul-list
     slice-write-list
     add-least

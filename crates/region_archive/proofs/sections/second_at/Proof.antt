@@ -1,4 +1,3 @@
-use native.Mathlib.Omega.{arith}
 use borrow.Author.Needs.{needs}
 use Rattle.region_graph.specs.Sets.{members}
 use Rattle.region_archive.proofs.Answers.{number-stands, number-fails}
@@ -7,27 +6,12 @@ use borrow.Author.Needs.{needs}
 use Rattle.region_archive.proofs.sections.second_at.Statement.{statement}
 use Rattle.region_archive.proofs.sections.second_at.Tie as tie
 
-number-at-requires : tie.Need-number-at-requires
-number-at-requires c κs = search needs
-
 returns : tie.Need-returns
 returns c =
     let a = c .before .before .before .before .before .args in
     let r = c .before .before .number-at in
     second-missing (a .section) (members (a .regions)) (a .least) (a .bytes .now) (a .at) (a .row .now)
     (number-fails 1 (a .bytes .now) (a .at) (r .result) (c .if1 .taken) (r .ensures))
-
-slice-read-first : tie.Need-slice-read-first
-slice-read-first c = search needs
-
-slice-write-row : tie.Need-slice-write-row
-slice-write-row c = search needs
-
-second-good-requires : tie.Need-second-good-requires
-second-good-requires c κs = search needs
-
-same-length : tie.Need-same-length
-same-length c = search needs
 
 returns-2 : tie.Need-returns-2
 returns-2 c =
@@ -40,10 +24,10 @@ pub second-at-spec : {M : Type 1} → statement M
 second-at-spec =
     tie.close
     (tie.spec
-    number-at-requires
+    (λ c κs. search needs)
     returns
-    slice-read-first
-    slice-write-row
-    second-good-requires
-    same-length
+    (λ c. search needs)
+    (λ c. search needs)
+    (λ c κs. search needs)
+    (λ c. search needs)
     returns-2)

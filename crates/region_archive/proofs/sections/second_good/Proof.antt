@@ -8,9 +8,6 @@ use borrow.Author.Needs.{needs}
 use Rattle.region_archive.proofs.sections.second_good.Statement.{statement}
 use Rattle.region_archive.proofs.sections.second_good.Tie as tie
 
-order-requires : tie.Need-order-requires
-order-requires c κs = search needs
-
 returns : tie.Need-returns
 returns c =
     let a = c .before .before .args in
@@ -20,17 +17,8 @@ returns c =
 enum-told : tie.Need-enum-told
 enum-told c = search needs
 
-has-requires : tie.Need-has-requires
-has-requires c κs = search needs
-
-enum-told-2 : tie.Need-enum-told-2
-enum-told-2 c = search needs
-
 returns-2 : tie.Need-returns-2
 returns-2 c = let a = c .before .before .before .before .before .args in second-equal (a .section) (a .regions) (a .least) (a .first) (a .second) (c .before .enum-told2 .given .1) (c .before .before .before .before .order .ensures) (c .before .before .before .if1 .left) (c .if2 .taken)
-
-has-requires-2 : tie.Need-has-requires-2
-has-requires-2 c κs = search needs
 
 returns-3 : tie.Need-returns-3
 returns-3 c = let a = c .before .before .before .before .before .args in second-bundle (a .section) (a .regions) (a .least) (a .first) (a .second) (c .before .enum-told .given .1) (c .before .before .before .before .order .ensures) (c .before .before .before .if1 .left) (c .has .ensures)
@@ -42,12 +30,12 @@ pub second-good-spec : {M : Type 1} → statement M
 second-good-spec =
     tie.close
     (tie.spec
-    order-requires
+    (λ c κs. search needs)
     returns
     enum-told
-    has-requires
-    enum-told-2
+    (λ c κs. search needs)
+    (λ c. search needs)
     returns-2
-    has-requires-2
+    (λ c κs. search needs)
     returns-3
     returns-4)

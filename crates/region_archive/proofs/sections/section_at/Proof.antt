@@ -1,12 +1,12 @@
 use mathlib.Core.Path.{_≡_, refl, sym, ap, _∙_, subst}
 use mathlib.Core.List.{List}
 use mathlib.Core.Logic.{⊎-elim}
-use Prim.Native.Nat.{ℕ, _+_, _-_, _≤_, _<_}
+use Prim.Native.Nat.{ℕ, _+_, _-_, _≤_}
 use native.Mathlib.Nat.{mul-le-mul-right}
 use native.Mathlib.Omega.{arith}
 use borrow.Author.Needs.{needs}
-use borrow.Rule.Slice.PartMut.{midOf, putMid, mid-len, take-put, same-len-mid}
-use lib.ListN.{length, take, getD}
+use borrow.Rule.Slice.PartMut.{midOf, mid-len, take-put, same-len-mid}
+use lib.ListN.{length, take}
 use lib.Seq.{length-take-le}
 use Rattle.region_graph.specs.Sets.{members}
 use Rattle.region_graph.proofs.FlatLaws.{members-small}
@@ -62,9 +62,6 @@ room c =
 stands : (c : tie.Else2 Inv-fields μ-fields Inv-records μ-records) → LengthStands (c .before .before .before .before .before .before .before .before .before .before .before .before .before .before .args .bytes .now) (c .before .before .before .before .records .at) (c .before .before .length-at .result)
 stands c = length-stands (c .before .before .before .before .before .before .before .before .before .before .before .before .before .before .args .bytes .now) (c .before .before .before .before .records .at) (c .before .before .length-at .result) (c .if2 .left) (c .before .before .length-at .ensures)
 
-limit-requires : tie.Need-limit-requires Inv-fields μ-fields Inv-records μ-records
-limit-requires c κs = search needs
-
 count-at-requires : tie.Need-count-at-requires Inv-fields μ-fields Inv-records μ-records
 count-at-requires c κs = (c .before .before .before .pre .0, omega (arith, c .limit .ensures, most-small (c .before .before .before .args .section)))
 
@@ -72,15 +69,6 @@ returns : tie.Need-returns Inv-fields μ-fields Inv-records μ-records
 returns c =
     let a = c .before .before .before .before .before .before .args in
     section-missing (a .section) (members (a .regions)) (members-small (a .regions)) (a .bytes .now) (a .from) (c .before .before .count-at .result) (counted (c .before .before)) (c .if1 .taken) (a .rows .now)
-
-cast-total : tie.Need-cast-total Inv-fields μ-fields Inv-records μ-records
-cast-total c = search needs
-
-fields-requires : tie.Need-fields-requires Inv-fields μ-fields Inv-records μ-records
-fields-requires c κs = search needs
-
-width-requires : tie.Need-width-requires Inv-fields μ-fields Inv-records μ-records
-width-requires c κs = search needs
 
 records-holds : tie.Need-records-holds Inv-fields μ-fields Inv-records μ-records
 records-holds c =
@@ -174,9 +162,6 @@ mul-second c = omega (arith, room (c .before .before .before .before .before .be
 
 slice-read-second : tie.Need-slice-read-second Inv-fields μ-fields Inv-records μ-records
 slice-read-second c = omega (arith, room (c .before .before .before .before .before .before .before .before) .0, c .before .before .before .before .fields .inv .1 .1 .0, c .before .before .before .before .before .before .before .before .before .before .width .ensures, wide (c .before .before .before .before .before .before .before .before .before .before .before .before .before .before .before .before .before .before .before .args .section))
-
-order-requires : tie.Need-order-requires Inv-fields μ-fields Inv-records μ-records
-order-requires c κs = search needs
 
 -- all fields were read
 done : (c : tie.After-order Inv-fields μ-fields Inv-records μ-records)
@@ -301,12 +286,12 @@ section-at-spec =
     μ-fields
     Inv-records
     μ-records
-    limit-requires
+    (λ c κs. search needs)
     count-at-requires
     returns
-    cast-total
-    fields-requires
-    width-requires
+    (λ c. search needs)
+    (λ c κs. search needs)
+    (λ c κs. search needs)
     records-holds
     length-at-requires
     add-end
@@ -325,7 +310,7 @@ section-at-spec =
     add-second
     mul-second
     slice-read-second
-    order-requires
+    (λ c κs. search needs)
     add-least
     add-n
     records-less

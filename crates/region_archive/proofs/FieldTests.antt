@@ -9,7 +9,7 @@ use Rattle.region_graph.specs.Lists.{member}
 use Rattle.region_graph.specs.Sets.{has, members}
 use Rattle.region_graph.proofs.Lists.{and-left, and-right}
 use Rattle.region_graph.proofs.Storing.{has-member}
-use Rattle.region_archive.specs.Entries.{field-key, source-in, ends-differ, second-good}
+use Rattle.region_archive.specs.Entries.{field-key, source-held, ends-differ, second-good}
 use Rattle.region_archive.specs.declared.entries.Section.{Section}
 use Rattle.region_archive.specs.declared.entries.Section.the-variants as Section
 
@@ -25,12 +25,12 @@ module _ (s : Section) (x floor a b : ℕ) where
   high-order : {k : ℕ} {t u : Bool} → k ≡ field-key s a b → floor ≤ k → t ≡ u → t ≡ (leb floor (field-key s a b) && u)
   high-order {u = u} e h f = f ∙ sym (ap (λ (v : Bool). v && u) (high e h))
 
-  pub first-bundle : s ≡ Section.Bundles → {k : ℕ} → k ≡ field-key s a b → floor ≤ k → true ≡ (leb floor (field-key s a b) && source-in s (members x) a)
-  first-bundle f e h = high-order e h (sym (ap (λ (t : Section). source-in t (members x) a) f))
+  pub first-bundle : s ≡ Section.Bundles → {k : ℕ} → k ≡ field-key s a b → floor ≤ k → true ≡ (leb floor (field-key s a b) && source-held s (members x) a)
+  first-bundle f e h = high-order e h (sym (ap (λ (t : Section). source-held t (members x) a) f))
 
   pub first-connection : s ≡ Section.Connections → {k : ℕ} → k ≡ field-key s a b → floor ≤ k → {t : Bool} → t ≡ has x a
-      → t ≡ (leb floor (field-key s a b) && source-in s (members x) a)
-  first-connection f e h g = high-order e h (g ∙ has-member x a ∙ sym (ap (λ (t : Section). source-in t (members x) a) f))
+      → t ≡ (leb floor (field-key s a b) && source-held s (members x) a)
+  first-connection f e h g = high-order e h (g ∙ has-member x a ∙ sym (ap (λ (t : Section). source-held t (members x) a) f))
 
   -- the ends are equal
   pub second-equal : s ≡ Section.Connections → {k : ℕ} → k ≡ field-key s a b → floor ≤ k → a ≡ b → false ≡ second-good s (members x) floor a b

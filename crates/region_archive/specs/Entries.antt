@@ -147,9 +147,9 @@ pub record EntryIs (s : Section) (e : Entry) (x : Elem s) : Type 0 where
 -- what the reader asks of a record field by field, in a graph with regions rs, where orders are at least `floor`
 
 -- a connection starts in a region of the graph, and its ends differ
-abbrev pub source-in : Section → List ℕ → ℕ → Bool
-source-in Section.Bundles rs first = true
-source-in Section.Connections rs first = member first rs
+abbrev pub source-held : Section → List ℕ → ℕ → Bool
+source-held Section.Bundles rs first = true
+source-held Section.Connections rs first = member first rs
 
 abbrev pub ends-differ : Section → ℕ → ℕ → Bool
 ends-differ Section.Bundles first second = true
@@ -167,7 +167,7 @@ PartGood most all Part.everything = all ≡ true
 module _ (s : Section) (rs : List ℕ) (floor : ℕ) where
   -- some second number gives an order that is high enough
   abbrev pub first-good : ℕ → Bool
-  first-good first = leb floor (field-key s first 255) && source-in s rs first
+  first-good first = leb floor (field-key s first 255) && source-held s rs first
 
   abbrev pub second-good : ℕ → ℕ → Bool
   second-good first second = leb floor (field-key s first second) && (ends-differ s first second && member second rs)

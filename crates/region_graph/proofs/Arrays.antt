@@ -8,8 +8,8 @@ use native.Mathlib.Nat.{sub-zero}
 use native.Mathlib.Omega.{arith}
 use borrow.Author.Tests.{eq-eqb, ne-eqb}
 use lib.Dec.{eqb}
-use lib.ListN.{length, getD, take, drop, set, replicate, length-append, length-replicate, length-map, length-set, length-drop, List·getD-append, List·getD-map}
-use lib.Seq.{take-suc, drop-cons, set-at, append-snoc, take-at, drop-at, take-length, drop-length, take-take, take-set-le, set-split, getD-take, length-take-le, drop-append-add}
+use lib.ListN.{length, getD, take, drop, set, replicate, length-append, length-replicate, length-map, length-set, length-drop, List·getD-append}
+use lib.Seq.{take-suc, drop-cons, set-at, append-snoc, take-at, drop-at, take-length, drop-length, take-take, take-set-le, set-split, getD-take, length-take-le}
 use Rattle.region_graph.specs.Lists.{All, keep, any, member, position}
 use Rattle.region_graph.specs.Record.{places}
 use Rattle.region_graph.proofs.Lists.{all-at, any-here, any-later, any-end, keep-took, keep-left, map-append, any-found, any-missed, any-fewer, any-as-many}

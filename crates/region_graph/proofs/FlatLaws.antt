@@ -14,7 +14,7 @@ use Rattle.region_graph.specs.Sets.{has, members}
 use Rattle.region_graph.specs.Model.{Bundle, Part, Connection, Word, Numbered, NumberedPart, LegalBundle, LegalConnection}
 use Rattle.region_graph.specs.Record.{store-numbers, store-provided, store-part, store-bundle, store-connection}
 use Rattle.region_graph.specs.Flat.{FlatPart}
-use Rattle.region_graph.specs.Found.{Found, FlatList, FlatBundle, FlatConnection}
+use Rattle.region_graph.specs.Decoded.{Decoded, FlatList, FlatBundle, FlatConnection}
 use Rattle.region_graph.specs.declared.numbers.Numbers.{Numbers}
 use Rattle.region_graph.specs.declared.numbers.Provided.{Provided}
 use Rattle.region_graph.proofs.Lists.{false-true, all-of, all-kept}
@@ -36,12 +36,12 @@ module _ (row : List ℕ) (at : ℕ) where
 
   module _ (most count : ℕ) (c : count ≡ getD row at 0) where
     -- a count past the limit
-    pub list-long : most < count → Found length (Numbered most) (FlatList row at) false 0
-    list-long l = Found.none (λ ns g h. omega (arith, g .few, h .0)) refl
+    pub list-long : most < count → Decoded length (Numbered most) (FlatList row at) false 0
+    list-long l = Decoded.none (λ ns g h. omega (arith, g .few, h .0)) refl
 
     -- the numbers that the count says
     pub list-found : {ok : Bool} → count ≤ most → at + (most + 1) ≤ length row → ((i : ℕ) → Word (getD row i 0))
-        → ok ≡ ascends ltb (span row at count) → Found length (Numbered most) (FlatList row at) ok count
+        → ok ≡ ascends ltb (span row at count) → Decoded length (Numbered most) (FlatList row at) ok count
     list-found {ok} l room words e = go ok (e ∙ ap (ascends ltb) (span-take row at count))
       where
         ns : List ℕ
@@ -58,26 +58,26 @@ module _ (row : List ℕ) (at : ℕ) where
             all-of Word 0 ns (λ i h.
             subst Word (sym (getD-take count (drop (at + 1) row) i 0 (omega (arith, long)) ∙ getD-drop (at + 1) row i 0)) (words (at + 1 + i)))
 
-        go : (b : Bool) → b ≡ ascends ltb ns → Found length (Numbered most) (FlatList row at) b count
-        go true t = Found.found ns (record { few = omega (arith, long); each = each; ascend = sym t }) is refl (sym long)
-        go false t = Found.none (λ ys g h. false-true (t ∙ ap (ascends ltb) (list-same ns ys is h) ∙ g .ascend)) refl
+        go : (b : Bool) → b ≡ ascends ltb ns → Decoded length (Numbered most) (FlatList row at) b count
+        go true t = Decoded.found ns (record { few = omega (arith, long); each = each; ascend = sym t }) is refl (sym long)
+        go false t = Decoded.none (λ ys g h. false-true (t ∙ ap (ascends ltb) (list-same ns ys is h) ∙ g .ascend)) refl
 
   -- and what is stored of them
   pub list-stored : {B : Type 0} {put : List ℕ → B} {Good : List ℕ → Type 0} {ok : Bool} {b : B} {count : ℕ} → b ≡ put (span row at count)
-      → Found length Good (FlatList row at) ok count → Found put Good (FlatList row at) ok b
-  list-stored {put = put} {count = count} e (Found.found ns g h t f) =
-      Found.found ns g h t (e ∙ ap put (span-take row at count) ∙ ap (λ (n : ℕ). put (take n (drop (at + 1) row))) f ∙ ap put (h .1))
-  list-stored e (Found.none f t) = Found.none f t
+      → Decoded length Good (FlatList row at) ok count → Decoded put Good (FlatList row at) ok b
+  list-stored {put = put} {count = count} e (Decoded.found ns g h t f) =
+      Decoded.found ns g h t (e ∙ ap put (span-take row at count) ∙ ap (λ (n : ℕ). put (take n (drop (at + 1) row))) f ∙ ap put (h .1))
+  list-stored e (Decoded.none f t) = Decoded.none f t
 
   -- a part at a place
 
-  pub part-all : {b : Numbers} → getD row at 0 ≡ all-sign → b ≡ store-part Part.everything → Found store-part NumberedPart (FlatPart row at) true b
-  part-all e f = Found.found Part.everything tt e refl f
+  pub part-all : {b : Numbers} → getD row at 0 ≡ all-sign → b ≡ store-part Part.everything → Decoded store-part NumberedPart (FlatPart row at) true b
+  part-all e f = Decoded.found Part.everything tt e refl f
 
-  pub part-listed : {ok : Bool} {b : Numbers} → (getD row at 0 ≡ all-sign → ⊥) → Found store-numbers (Numbered most-listed) (FlatList row at) ok b
-      → Found store-part NumberedPart (FlatPart row at) ok b
-  part-listed n (Found.found ns g h t f) = Found.found (Part.listed ns) g h t f
-  part-listed n (Found.none f t) = Found.none none t
+  pub part-listed : {ok : Bool} {b : Numbers} → (getD row at 0 ≡ all-sign → ⊥) → Decoded store-numbers (Numbered most-listed) (FlatList row at) ok b
+      → Decoded store-part NumberedPart (FlatPart row at) ok b
+  part-listed n (Decoded.found ns g h t f) = Decoded.found (Part.listed ns) g h t f
+  part-listed n (Decoded.none f t) = Decoded.none none t
     where
       none : (p : Part) → NumberedPart p → FlatPart row at p → ⊥
       none (Part.listed ns) g h = f ns g h
@@ -109,44 +109,44 @@ module _ (x : ℕ) where
 
   module _ (row : List ℕ) where
     pub bundle-found : {p s : Provided} {a b t : Bool} → Word (getD row 0 0)
-        → Found store-provided (Numbered most-provided) (FlatList row 2) a p
-        → Found store-provided (Numbered most-provided) (FlatList row (2 + (most-provided + 1))) b s → t ≡ has x (getD row 1 0)
-        → Found store-bundle (LegalBundle (members x)) (FlatBundle row) ((a && b) && t)
+        → Decoded store-provided (Numbered most-provided) (FlatList row 2) a p
+        → Decoded store-provided (Numbered most-provided) (FlatList row (2 + (most-provided + 1))) b s → t ≡ has x (getD row 1 0)
+        → Decoded store-bundle (LegalBundle (members x)) (FlatBundle row) ((a && b) && t)
         (record { location = getD row 0 0; region = getD row 1 0; packages = p; services = s })
-    bundle-found w (Found.none f u) s t = Found.none (λ y g h. f (y .packages) (g .packages) (h .parts .0)) (rw u)
-    bundle-found w (Found.found ps gp hp u e) (Found.none f v) t = Found.none (λ y g h. f (y .services) (g .services) (h .parts .1 .0)) (rw (u, v))
-    bundle-found {t = true} w (Found.found ps gp hp u e) (Found.found ss gs hs v f) t =
-        Found.found (record { location = getD row 0 0; region = getD row 1 0; packages = ps; services = ss })
+    bundle-found w (Decoded.none f u) s t = Decoded.none (λ y g h. f (y .packages) (g .packages) (h .parts .0)) (rw u)
+    bundle-found w (Decoded.found ps gp hp u e) (Decoded.none f v) t = Decoded.none (λ y g h. f (y .services) (g .services) (h .parts .1 .0)) (rw (u, v))
+    bundle-found {t = true} w (Decoded.found ps gp hp u e) (Decoded.found ss gs hs v f) t =
+        Decoded.found (record { location = getD row 0 0; region = getD row 1 0; packages = ps; services = ss })
         (record { location = w; region = region-in t refl; packages = gp; services = gs })
         (record { first = refl; second = refl; parts = (hp, (hs, tt)) }) (rw (u, v))
         (λ i. record { location = getD row 0 0; region = getD row 1 0; packages = e i; services = f i })
-    bundle-found {t = false} w (Found.found ps gp hp u e) (Found.found ss gs hs v f) t =
-        Found.none (λ y g h. region-out t (h .second) (g .region)) (rw (u, v))
+    bundle-found {t = false} w (Decoded.found ps gp hp u e) (Decoded.found ss gs hs v f) t =
+        Decoded.none (λ y g h. region-out t (h .second) (g .region)) (rw (u, v))
 
     pub connection-found : {n p s : Numbers} {a b c : Bool} (t u : Bool)
-        → Found store-numbers (Numbered most-listed) (FlatList row 2) a n
-        → Found store-part NumberedPart (FlatPart row (2 + (most-listed + 1))) b p
-        → Found store-part NumberedPart (FlatPart row (2 + 2 * (most-listed + 1))) c s → t ≡ has x (getD row 0 0) → u ≡ has x (getD row 1 0)
-        → Found store-connection (LegalConnection (members x)) (FlatConnection row)
+        → Decoded store-numbers (Numbered most-listed) (FlatList row 2) a n
+        → Decoded store-part NumberedPart (FlatPart row (2 + (most-listed + 1))) b p
+        → Decoded store-part NumberedPart (FlatPart row (2 + 2 * (most-listed + 1))) c s → t ≡ has x (getD row 0 0) → u ≡ has x (getD row 1 0)
+        → Decoded store-connection (LegalConnection (members x)) (FlatConnection row)
         (((a && b) && c) && ((t && u) && not (eqb (getD row 0 0) (getD row 1 0))))
         (record { source = getD row 0 0; target = getD row 1 0; bundles = n; packages = p; services = s })
-    connection-found t u (Found.none f v) p s i j = Found.none (λ y g h. f (y .filter .bundles) (g .filter .bundles) (h .parts .0)) (rw v)
-    connection-found t u (Found.found ns gn hn v e) (Found.none f w) s i j =
-        Found.none (λ y g h. f (y .filter .packages) (g .filter .packages) (h .parts .1 .0)) (rw (v, w))
-    connection-found t u (Found.found ns gn hn v e) (Found.found ps gp hp w f) (Found.none k z) i j =
-        Found.none (λ y g h. k (y .filter .services) (g .filter .services) (h .parts .1 .1 .0)) (rw (v, w, z))
-    connection-found {n} {p} {s} t u (Found.found ns gn hn v e) (Found.found ps gp hp w f) (Found.found ss gs hs z k) i j =
+    connection-found t u (Decoded.none f v) p s i j = Decoded.none (λ y g h. f (y .filter .bundles) (g .filter .bundles) (h .parts .0)) (rw v)
+    connection-found t u (Decoded.found ns gn hn v e) (Decoded.none f w) s i j =
+        Decoded.none (λ y g h. f (y .filter .packages) (g .filter .packages) (h .parts .1 .0)) (rw (v, w))
+    connection-found t u (Decoded.found ns gn hn v e) (Decoded.found ps gp hp w f) (Decoded.none k z) i j =
+        Decoded.none (λ y g h. k (y .filter .services) (g .filter .services) (h .parts .1 .1 .0)) (rw (v, w, z))
+    connection-found {n} {p} {s} t u (Decoded.found ns gn hn v e) (Decoded.found ps gp hp w f) (Decoded.found ss gs hs z k) i j =
         rw (v, w, z) (go t u (eqb (getD row 0 0) (getD row 1 0)) i j refl)
       where
         go : (t u d : Bool) → t ≡ has x (getD row 0 0) → u ≡ has x (getD row 1 0) → eqb (getD row 0 0) (getD row 1 0) ≡ d
-            → Found store-connection (LegalConnection (members x)) (FlatConnection row) ((t && u) && not d)
+            → Decoded store-connection (LegalConnection (members x)) (FlatConnection row) ((t && u) && not d)
             (record { source = getD row 0 0; target = getD row 1 0; bundles = n; packages = p; services = s })
-        go false u d i j l = Found.none (λ y g h. region-out i (h .first) (g .source)) refl
-        go true false d i j l = Found.none (λ y g h. region-out j (h .second) (g .target)) refl
+        go false u d i j l = Decoded.none (λ y g h. region-out i (h .first) (g .source)) refl
+        go true false d i j l = Decoded.none (λ y g h. region-out j (h .second) (g .target)) refl
         go true true true i j l =
-            Found.none (λ y g h. false-true (sym (g .differ) ∙ eq-eqb _ _ (sym (h .first) ∙ eqb-true _ _ l ∙ h .second))) refl
+            Decoded.none (λ y g h. false-true (sym (g .differ) ∙ eq-eqb _ _ (sym (h .first) ∙ eqb-true _ _ l ∙ h .second))) refl
         go true true false i j l =
-            Found.found
+            Decoded.found
             (record { source = getD row 0 0; target = getD row 1 0; filter = record { bundles = ns; packages = ps; services = ss } })
             (record { source = region-in i refl; target = region-in j refl; differ = l; filter = record { bundles = gn; packages = gp; services = gs } })
             (record { first = refl; second = refl; parts = (hn, (hp, (hs, tt))) }) refl

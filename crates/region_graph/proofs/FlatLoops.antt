@@ -16,7 +16,7 @@ use Rattle.region_graph.specs.Sets.{one, set-of}
 use Rattle.region_graph.specs.Model.{Bundle, Connection, Sorted, LegalBundle, LegalConnection, bundle-before, connection-before}
 use Rattle.region_graph.specs.Record.{store-bundle, store-connection, no-bundle, no-connection}
 use Rattle.region_graph.specs.Flat.{Flat, bundle-width, connection-width}
-use Rattle.region_graph.specs.Found.{Found, FlatBundle, FlatConnection, GoodRegions}
+use Rattle.region_graph.specs.Decoded.{Decoded, FlatBundle, FlatConnection, GoodRegions}
 use Rattle.region_graph.specs.declared.bundles.StoredBundle.{StoredBundle}
 use Rattle.region_graph.specs.declared.connections.StoredConnection.{StoredConnection}
 use Rattle.region_graph.proofs.Lists.{false-true, and-fst, eqb-sym, all-join, all-rest, all-at, member-all}
@@ -50,26 +50,26 @@ module _ (list : List ℕ) where
     }
 
     pub regions-stop : i < length list → false ≡ ltb (getD list i 0) regions
-        → Found (λ rs. set-of (λ n. member n rs)) GoodRegions (λ rs. rs ≡ list) false x
+        → Decoded (λ rs. set-of (λ n. member n rs)) GoodRegions (λ rs. rs ≡ list) false x
     regions-stop l t =
-        Found.none (λ rs g e. omega (
+        Decoded.none (λ rs g e. omega (
           arith,
           ltb-false (getD list i 0) regions (sym t),
           all-at (λ r. r < regions) list i 0 l (subst (All (λ r. r < regions)) e (g .each)),
         )) refl
 
     pub regions-end : {ok : Bool} → length list ≤ i → ok ≡ ascends ltb list
-        → Found (λ rs. set-of (λ n. member n rs)) GoodRegions (λ rs. rs ≡ list) ok x
+        → Decoded (λ rs. set-of (λ n. member n rs)) GoodRegions (λ rs. rs ≡ list) ok x
     regions-end {ok} l e = go ok e
       where
         all : take i list ≡ list
         all = take-all i list l
 
-        go : (b : Bool) → b ≡ ascends ltb list → Found (λ rs. set-of (λ n. member n rs)) GoodRegions (λ rs. rs ≡ list) b x
+        go : (b : Bool) → b ≡ ascends ltb list → Decoded (λ rs. set-of (λ n. member n rs)) GoodRegions (λ rs. rs ≡ list) b x
         go true t =
-            Found.found list (below-sorted (subst (All (λ r. r < regions)) all (s .each)) (sym t)) refl refl
+            Decoded.found list (below-sorted (subst (All (λ r. r < regions)) all (s .each)) (sym t)) refl refl
             (s .those ∙ ap (λ rs. set-of (λ n. member n rs)) all)
-        go false t = Found.none (λ rs g q. false-true (t ∙ ap (ascends ltb) (sym q) ∙ g .ascend)) refl
+        go false t = Decoded.none (λ rs g q. false-true (t ∙ ap (ascends ltb) (sym q) ∙ g .ascend)) refl
 
 -- bundles, or connections
 
@@ -180,23 +180,23 @@ module _ {A B : Type 0} (k : Rows A B) where
     Stuck = (y : A) → k .Good y → Here rows at y → at + k .width ≤ length rows → least ≤ k .key (k .put y) → i < k .most → ⊥
 
     -- what was found there is not in order, or there is nothing
-    module _ {ok : Bool} {b : B} (f : Found (k .put) (k .Good) (Here rows at) ok b) where
+    module _ {ok : Bool} {b : B} (f : Decoded (k .put) (k .Good) (Here rows at) ok b) where
       pub stuck-low : k .key b < least → not ok ≡ false → Stuck
       stuck-low l n y gy hy w m r = go f
         where
-          go : Found (k .put) (k .Good) (Here rows at) ok b → ⊥
-          go (Found.found x g h u e) =
+          go : Decoded (k .put) (k .Good) (Here rows at) ok b → ⊥
+          go (Decoded.found x g h u e) =
               let q : k .key (k .put y) ≡ k .key b
               = ap (λ (z : A). k .key (k .put z)) (k .same (take (at + k .width - at) (drop at rows)) y x gy g hy h) ∙ ap (k .key) (sym e) in
               omega arith
-          go (Found.none f u) = false-true (sym n ∙ ap not u)
+          go (Decoded.none f u) = false-true (sym n ∙ ap not u)
 
       pub stuck-bad : not ok ≡ true → Stuck
       stuck-bad n y gy hy w m r = go f
         where
-          go : Found (k .put) (k .Good) (Here rows at) ok b → ⊥
-          go (Found.found x g h u e) = false-true (sym (ap not u) ∙ n)
-          go (Found.none f u) = f y gy hy
+          go : Decoded (k .put) (k .Good) (Here rows at) ok b → ⊥
+          go (Decoded.found x g h u e) = false-true (sym (ap not u) ∙ n)
+          go (Decoded.none f u) = f y gy hy
 
     -- one element more
     taken-one : {b : B} (x : A) → k .Good x → k .Is (take (k .width) (drop at rows)) x → b ≡ k .put x → at + k .width ≤ length rows
@@ -239,23 +239,23 @@ module _ {A B : Type 0} (k : Rows A B) where
                   flat = rw drop-drop at (f .2);
                 }
 
-    pub taken-more : {ok : Bool} {b : B} → Found (k .put) (k .Good) (Here rows at) ok b → not ok ≡ false → at + k .width ≤ length rows
+    pub taken-more : {ok : Bool} {b : B} → Decoded (k .put) (k .Good) (Here rows at) ok b → not ok ≡ false → at + k .width ≤ length rows
         → least ≤ k .key b → i < k .most → Taken rows (set items i b) (k .key b + 1) (i + 1) (at + k .width)
-    taken-more (Found.found x g h u e) n w l r = taken-one x g (here-is rows at h) e w l r
-    taken-more (Found.none f u) n w l r = false-true (sym n ∙ ap not u)
+    taken-more (Decoded.found x g h u e) n w l r = taken-one x g (here-is rows at h) e w l r
+    taken-more (Decoded.none f u) n w l r = false-true (sym n ∙ ap not u)
 
     -- the loop has ended: with all, or at what no list can have
     pub taken-end : {C : Type 0} {all : List A → C} {c : C} → Stuck → ((xs : List A) → Filled (k .put) (k .none) (k .most) items i xs → c ≡ all xs)
-        → Found all (Sorted (k .before) (k .Good) (k .most)) (Flat (k .width) (k .Is) rows) (eqb at (length rows)) c
+        → Decoded all (Sorted (k .before) (k .Good) (k .most)) (Flat (k .width) (k .Is) rows) (eqb at (length rows)) c
     taken-end {all = all} {c = c} stuck f = go (eqb at (length rows)) refl
       where
-        go : (b : Bool) → eqb at (length rows) ≡ b → Found all (Sorted (k .before) (k .Good) (k .most)) (Flat (k .width) (k .Is) rows) b c
+        go : (b : Bool) → eqb at (length rows) ≡ b → Decoded all (Sorted (k .before) (k .Good) (k .most)) (Flat (k .width) (k .Is) rows) b c
         go true e =
             let n : length rows ≤ at = omega (arith, eqb-true at (length rows) e) in
             let d : drop at rows ≡ [] = drop-of-length-le rows n in
-            Found.found (t .xs) (record { few = t .filled .room; each = t .each; ascend = t .ascend })
+            Decoded.found (t .xs) (record { few = t .filled .room; each = t .each; ascend = t .ascend })
             (subst (Flat (k .width) (k .Is) rows) (append-nil (t .xs)) (t .onward [] d)) refl (f (t .xs) (t .filled))
-        go false e = Found.none (λ zs g h. let q = t .only zs (g .each) h in refute zs g (q .ys) (q .split) (q .flat)) refl
+        go false e = Decoded.none (λ zs g h. let q = t .only zs (g .each) h in refute zs g (q .ys) (q .split) (q .flat)) refl
           where
             refute : (zs : List A) → Sorted (k .before) (k .Good) (k .most) zs → (ys : List A) → zs ≡ t .xs ++ ys
                 → Flat (k .width) (k .Is) (drop at rows) ys → ⊥

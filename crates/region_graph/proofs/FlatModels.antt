@@ -11,7 +11,7 @@ use Rattle.region_graph.specs.Model.{Model, Sorted, Legal, LegalBundle, 
 use Rattle.region_graph.specs.Record.{Valid, store, store-bundles, store-connections, meaning}
 use Rattle.region_graph.specs.Promise.{Empty}
 use Rattle.region_graph.specs.Flat.{FlatModel, Made}
-use Rattle.region_graph.specs.Found.{Found, GoodRegions, GoodBundles, GoodConnections, FlatBundles, FlatConnections}
+use Rattle.region_graph.specs.Decoded.{Decoded, GoodRegions, GoodBundles, GoodConnections, FlatBundles, FlatConnections}
 use Rattle.region_graph.specs.declared.bundles.Bundles.{Bundles}
 use Rattle.region_graph.specs.declared.connections.Connections.{Connections}
 use Rattle.region_graph.specs.declared.Graph.{Graph}
@@ -56,12 +56,12 @@ module _ (rl bl cl : List ℕ) where
 
   -- what is found of regions, bundles and connections is found of the graph
   pub graph-found : {x : ℕ} {bs : Bundles} {cs : Connections} {a b c : Bool}
-      → Found (λ rs. set-of (λ n. member n rs)) GoodRegions (λ rs. rs ≡ rl) a x
-      → Found store-bundles (GoodBundles x) (FlatBundles bl) b bs
-      → Found store-connections (GoodConnections x) (FlatConnections cl) c cs
-      → Found store Legal (FlatModel rl bl cl) ((a && b) && c) (record { regions = x; bundles = bs; connections = cs })
-  graph-found (Found.none f u) q r = Found.none (λ m l h. f (m .regions) (l .regions-legal) (h .regions-are)) (rw u)
-  graph-found {x} {bs} {cs} {a} {b} {c} (Found.found rs g e u v) q r = rw u (go q r)
+      → Decoded (λ rs. set-of (λ n. member n rs)) GoodRegions (λ rs. rs ≡ rl) a x
+      → Decoded store-bundles (GoodBundles x) (FlatBundles bl) b bs
+      → Decoded store-connections (GoodConnections x) (FlatConnections cl) c cs
+      → Decoded store Legal (FlatModel rl bl cl) ((a && b) && c) (record { regions = x; bundles = bs; connections = cs })
+  graph-found (Decoded.none f u) q r = Decoded.none (λ m l h. f (m .regions) (l .regions-legal) (h .regions-are)) (rw u)
+  graph-found {x} {bs} {cs} {a} {b} {c} (Decoded.found rs g e u v) q r = rw u (go q r)
     where
       back : members x ≡ rs
       back = ap members v ∙ regions-back rs g
@@ -69,18 +69,18 @@ module _ (rl bl cl : List ℕ) where
       to : (m : Model) → FlatModel rl bl cl m → m .regions ≡ members x
       to m h = h .regions-are ∙ sym e ∙ sym back
 
-      go : Found store-bundles (GoodBundles x) (FlatBundles bl) b bs → Found store-connections (GoodConnections x) (FlatConnections cl) c cs
-          → Found store Legal (FlatModel rl bl cl) (b && c) (record { regions = x; bundles = bs; connections = cs })
-      go (Found.none f w) r =
-          Found.none (λ m l h. f (m .bundles)
+      go : Decoded store-bundles (GoodBundles x) (FlatBundles bl) b bs → Decoded store-connections (GoodConnections x) (FlatConnections cl) c cs
+          → Decoded store Legal (FlatModel rl bl cl) (b && c) (record { regions = x; bundles = bs; connections = cs })
+      go (Decoded.none f w) r =
+          Decoded.none (λ m l h. f (m .bundles)
           (subst (λ (ts : List ℕ). Sorted bundle-before (LegalBundle ts) most-bundles (m .bundles)) (to m h) (l .bundles-legal)) (h .bundles-are)) (rw w)
-      go (Found.found ys gy hy w ey) (Found.none f z) =
-          Found.none (λ m l h. f (m .connections)
+      go (Decoded.found ys gy hy w ey) (Decoded.none f z) =
+          Decoded.none (λ m l h. f (m .connections)
           (subst (λ (ts : List ℕ). Sorted connection-before (LegalConnection ts) most-connections (m .connections)) (to m h) (l .connections-legal))
           (h .connections-are)) (rw (w, z))
-      go (Found.found ys gy hy w ey) (Found.found zs gz hz z ez) =
+      go (Decoded.found ys gy hy w ey) (Decoded.found zs gz hz z ez) =
           let m : Model = record { regions = rs; bundles = ys; connections = zs } in
-          Found.found m
+          Decoded.found m
           (record {
             regions-legal = g;
             bundles-legal = subst (λ (ts : List ℕ). Sorted bundle-before (LegalBundle ts) most-bundles ys) back gy;
@@ -90,11 +90,11 @@ module _ (rl bl cl : List ℕ) where
 
   -- and so the outcome
   module _ {g : Graph} {ok : Bool} where
-    pub made-found : Found store Legal (FlatModel rl bl cl) ok g → ok ≡ true → Made rl bl cl (record { graph = g; number = not-refused })
-    made-found (Found.found m l h u e) t = Made.made m l h refl (stores-valid m l e) (stores-means m l e)
-    made-found (Found.none f u) t = false-true (sym u ∙ t)
+    pub made-found : Decoded store Legal (FlatModel rl bl cl) ok g → ok ≡ true → Made rl bl cl (record { graph = g; number = not-refused })
+    made-found (Decoded.found m l h u e) t = Made.made m l h refl (stores-valid m l e) (stores-means m l e)
+    made-found (Decoded.none f u) t = false-true (sym u ∙ t)
 
-    pub made-none : {empty : Graph} → Found store Legal (FlatModel rl bl cl) ok g → ok ≡ false → Empty empty
+    pub made-none : {empty : Graph} → Decoded store Legal (FlatModel rl bl cl) ok g → ok ≡ false → Empty empty
         → Made rl bl cl (record { graph = empty; number = broken-layout })
-    made-none (Found.found m l h u e) t v = false-true (sym t ∙ u)
-    made-none (Found.none f u) t v = Made.none f refl v
+    made-none (Decoded.found m l h u e) t v = false-true (sym t ∙ u)
+    made-none (Decoded.none f u) t v = Made.none f refl v

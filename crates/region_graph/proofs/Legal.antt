@@ -10,7 +10,7 @@ use borrow.Author.Tests.{leb-true, ltb-true, lt-ltb, eqb-true, eqb-false, ne-eqb
 use Rattle.region_graph.specs.Size.{regions, most-bundles, most-connections, most-provided, most-listed}
 use Rattle.region_graph.specs.Refusals.{not-refused}
 use Rattle.region_graph.specs.Lists.{pick, keep, any, All, member, insert, ascends}
-use Rattle.region_graph.specs.Model.{Word, Sorted, Model, Bundle, Part, Connection, NumberedPart, LegalBundle, LegalConnection, Legal, nothing, bundle-before, connection-before}
+use Rattle.region_graph.specs.Model.{Word, Sorted, Model, Bundle, Part, Connection, NumberedPart, LegalBundle, LegalConnection, Legal, nothing}
 use Rattle.region_graph.specs.Calls.{Call, Question, first-no, end-questions, questions, number, accepted, after, run, Words, PartWords, is-region, at-location, in-region, joins, touches, within, part-within, part-ascends}
 use Rattle.region_graph.specs.Places.{ShortPart}
 use Rattle.region_graph.specs.Promise.{part}

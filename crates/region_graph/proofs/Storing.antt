@@ -7,17 +7,17 @@ use native.Mathlib.Omega.{arith}
 use lib.Bits.{bitAnd, bitOr}
 use lib.Dec.{eqb, ltb}
 use borrow.Author.Tests.{lt-ltb, eqb-true, eqb-false, eq-eqb, ne-eqb}
-use lib.ListN.{length, getD, take, replicate, length-map, List·getD-map}
-use lib.Seq.{take-at, getD-take}
+use lib.ListN.{length, getD, take, replicate, length-map}
+use lib.Seq.{take-at}
 use Rattle.region_graph.specs.Size.{regions, most-bundles, most-connections, most-listed, most-provided, all-sign}
 use Rattle.region_graph.specs.Refusals.{not-refused}
 use Rattle.region_graph.specs.Lists.{All, member, keep, insert, count-from}
 use Rattle.region_graph.specs.Sets.{bit, has, one, members, set-of}
-use Rattle.region_graph.specs.Model.{Model, Bundle, Filter, Part, Connection, Sorted, Legal, LegalBundle, LegalConnection, NumberedPart, nothing}
-use Rattle.region_graph.specs.Calls.{Call, number, after, accepted, Words}
+use Rattle.region_graph.specs.Model.{Model, Bundle, Part, Connection, Sorted, Legal, LegalBundle, LegalConnection, NumberedPart, nothing}
+use Rattle.region_graph.specs.Calls.{Call, number, accepted, Words}
 use Rattle.region_graph.specs.Record
-use Rattle.region_graph.specs.Record.{places, number-places, Stored, Valid, store, meaning, store-numbers, numbers-of, store-provided, provided-of, store-part, part-in, store-bundle, bundle-in, store-bundles, bundles-of, store-connection, connection-in, store-connections, connections-of, no-bundle, no-connection}
-use Rattle.region_graph.specs.Places.{Short, ShortPart, ShortBundle, ShortConnection, Row, NumbersStored, ProvidedStored, PartStored, BundleStored, BundlesStored, ConnectionStored, ConnectionsStored}
+use Rattle.region_graph.specs.Record.{number-places, Stored, Valid, store, meaning, store-numbers, numbers-of, store-provided, provided-of, store-part, part-in, store-bundle, bundle-in, store-bundles, bundles-of, store-connection, connection-in, store-connections, connections-of, no-bundle, no-connection}
+use Rattle.region_graph.specs.Places.{ShortPart, ShortBundle, ShortConnection, NumbersStored, ProvidedStored, PartStored, BundleStored, BundlesStored, ConnectionStored, ConnectionsStored}
 use Rattle.region_graph.specs.declared.numbers.Numbers.{Numbers}
 use Rattle.region_graph.specs.declared.numbers.Provided.{Provided}
 use Rattle.region_graph.specs.declared.bundles.StoredBundle.{StoredBundle}

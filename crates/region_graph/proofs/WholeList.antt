@@ -1,7 +1,7 @@
 -- The claim about whole lists of changing calls.
 use mathlib.Core.Path.{_≡_, refl, ap, _∙_}
 use mathlib.Core.Bool.{Bool}
-use mathlib.Core.List.{List, [], _∷_}
+use mathlib.Core.List.{List, _∷_}
 use Prim.Native.Nat.{ℕ}
 use contract.Lifetimes.{Lfts}
 use denote.Ref.{RefT}
@@ -11,7 +11,6 @@ use Rattle.region_graph.specs.Calls.{Call, number, after, numbers, run}
 use Rattle.region_graph.specs.Record.{Valid, meaning}
 use Rattle.region_graph.specs.Promise.{Follows, bundle, connection}
 use Rattle.region_graph.specs.declared.Graph.{Graph}
-use Rattle.region_graph.specs.declared.Changed.{Changed}
 use Rattle.region_graph.proofs.Graph.empty.Reads as empty
 use Rattle.region_graph.proofs.Graph.add_region.Reads as add-region
 use Rattle.region_graph.proofs.Graph.remove_region.Reads as remove-region

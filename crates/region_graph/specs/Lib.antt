@@ -11,4 +11,4 @@ pub mod Record
 pub mod Places
 pub mod Promise
 pub mod Flat
-pub mod Found
+pub mod Decoded

@@ -9,7 +9,7 @@ ghost use Rattle.region_graph.specs.Sets.{«set-of», members};
 ghost use Rattle.region_graph.specs.Model.{Numbered, NumberedPart, LegalBundle, LegalConnection};
 ghost use Rattle.region_graph.specs.Record.{«store-numbers», «store-provided», «store-part», «store-bundle», «store-bundles», «store-connection», «store-connections»};
 ghost use Rattle.region_graph.specs.Flat.{FlatPart, Made, «bundle-width», «connection-width»};
-ghost use Rattle.region_graph.specs.Found.{Found, FlatList, FlatBundle, FlatConnection, GoodRegions, GoodBundles, GoodConnections, FlatBundles, FlatConnections};
+ghost use Rattle.region_graph.specs.Decoded.{Decoded, FlatList, FlatBundle, FlatConnection, GoodRegions, GoodBundles, GoodConnections, FlatBundles, FlatConnections};
 use crate::Changed;
 use crate::Graph;
 use crate::bundles::Bundles;
@@ -83,7 +83,7 @@ struct ConnectionList {
 // How many numbers the list at a place has: within the limit, whether it counts or not.
 fn list_at(row: &[u32], at: usize, most: usize) -> ListAt
     requires { ⌜ at + (most + 1) ≤ length (now row) ⌝ }
-    ensures { λ r. ⌜ (r .count ≤ most) × Found length (Numbered most) (FlatList (now (row .entry)) at) (r .ok) (r .count) ⌝ }
+    ensures { λ r. ⌜ (r .count ≤ most) × Decoded length (Numbered most) (FlatList (now (row .entry)) at) (r .ok) (r .count) ⌝ }
 {
     let count = row[at] as usize;
     if most < count {
@@ -100,7 +100,7 @@ fn list_at(row: &[u32], at: usize, most: usize) -> ListAt
 
 fn provided_at(row: &[u32], at: usize) -> ProvidedAt
     requires { ⌜ at + (most-provided + 1) ≤ length (now row) ⌝ }
-    ensures { λ r. ⌜ Found store-provided (Numbered most-provided) (FlatList (now (row .entry)) at) (r .ok) (r .provided) ⌝ }
+    ensures { λ r. ⌜ Decoded store-provided (Numbered most-provided) (FlatList (now (row .entry)) at) (r .ok) (r .provided) ⌝ }
 {
     let list = list_at(row, at, MOST_PROVIDED);
     let from = at + 1;
@@ -114,7 +114,7 @@ fn provided_at(row: &[u32], at: usize) -> ProvidedAt
 
 fn numbers_at(row: &[u32], at: usize) -> NumbersAt
     requires { ⌜ at + (most-listed + 1) ≤ length (now row) ⌝ }
-    ensures { λ r. ⌜ Found store-numbers (Numbered most-listed) (FlatList (now (row .entry)) at) (r .ok) (r .numbers) ⌝ }
+    ensures { λ r. ⌜ Decoded store-numbers (Numbered most-listed) (FlatList (now (row .entry)) at) (r .ok) (r .numbers) ⌝ }
 {
     let list = list_at(row, at, MOST_LISTED);
     let from = at + 1;
@@ -128,7 +128,7 @@ fn numbers_at(row: &[u32], at: usize) -> NumbersAt
 
 fn part_at(row: &[u32], at: usize) -> NumbersAt
     requires { ⌜ at + (most-listed + 1) ≤ length (now row) ⌝ }
-    ensures { λ r. ⌜ Found store-part NumberedPart (FlatPart (now (row .entry)) at) (r .ok) (r .numbers) ⌝ }
+    ensures { λ r. ⌜ Decoded store-part NumberedPart (FlatPart (now (row .entry)) at) (r .ok) (r .numbers) ⌝ }
 {
     if row[at] as usize == EVERYTHING {
         let numbers = everything();
@@ -139,7 +139,7 @@ fn part_at(row: &[u32], at: usize) -> NumbersAt
 
 fn bundle_of(row: &[u32], regions: u64) -> BundleOf
     requires { ⌜ length (now row) ≡ bundle-width ⌝ }
-    ensures { λ r. ⌜ Found store-bundle (LegalBundle (members regions)) (FlatBundle (now (row .entry))) (r .ok) (r .bundle) ⌝ }
+    ensures { λ r. ⌜ Decoded store-bundle (LegalBundle (members regions)) (FlatBundle (now (row .entry))) (r .ok) (r .bundle) ⌝ }
 {
     let packages = provided_at(row, 2);
     let services = provided_at(row, 2 + (MOST_PROVIDED + 1));
@@ -160,7 +160,7 @@ fn bundle_of(row: &[u32], regions: u64) -> BundleOf
 
 fn connection_of(row: &[u32], regions: u64) -> ConnectionOf
     requires { ⌜ length (now row) ≡ connection-width ⌝ }
-    ensures { λ r. ⌜ Found store-connection (LegalConnection (members regions)) (FlatConnection (now (row .entry))) (r .ok) (r .connection) ⌝ }
+    ensures { λ r. ⌜ Decoded store-connection (LegalConnection (members regions)) (FlatConnection (now (row .entry))) (r .ok) (r .connection) ⌝ }
 {
     let bundles = numbers_at(row, 2);
     let packages = part_at(row, 2 + (MOST_LISTED + 1));
@@ -187,7 +187,7 @@ fn connection_of(row: &[u32], regions: u64) -> ConnectionOf
 }
 
 fn region_list(list: &[u32]) -> RegionList
-    ensures { λ r. ⌜ Found (λ rs. set-of (λ n. member n rs)) GoodRegions (λ rs. rs ≡ now (list .entry)) (r .ok) (r .set) ⌝ }
+    ensures { λ r. ⌜ Decoded (λ rs. set-of (λ n. member n rs)) GoodRegions (λ rs. rs ≡ now (list .entry)) (r .ok) (r .set) ⌝ }
 {
     let mut set: u64 = 0;
     let mut i: usize = 0;
@@ -205,7 +205,7 @@ fn region_list(list: &[u32]) -> RegionList
 
 // Bundles one after the other; the first that is not good, or not above the one before it, ends the loop.
 fn bundle_list(rows: &[u32], regions: u64) -> BundleList
-    ensures { λ r. ⌜ Found store-bundles (GoodBundles regions) (FlatBundles (now (rows .entry))) (r .ok) (r .bundles) ⌝ }
+    ensures { λ r. ⌜ Decoded store-bundles (GoodBundles regions) (FlatBundles (now (rows .entry))) (r .ok) (r .bundles) ⌝ }
 {
     let none = Bundles::none();
     let mut items = none.items;
@@ -238,7 +238,7 @@ fn bundle_list(rows: &[u32], regions: u64) -> BundleList
 }
 
 fn connection_list(rows: &[u32], regions: u64) -> ConnectionList
-    ensures { λ r. ⌜ Found store-connections (GoodConnections regions) (FlatConnections (now (rows .entry))) (r .ok) (r .connections) ⌝ }
+    ensures { λ r. ⌜ Decoded store-connections (GoodConnections regions) (FlatConnections (now (rows .entry))) (r .ok) (r .connections) ⌝ }
 {
     let none = Connections::none();
     let mut items = none.items;

@@ -1,6 +1,6 @@
 -- The computed `chosen` and `sees` are what `Best` and `Route` say.
 use mathlib.Core.Path.{_≡_, refl, sym, ap, _∙_, subst}
-use mathlib.Core.Bool.{Bool, true, false, not, _&&_, _||_}
+use mathlib.Core.Bool.{Bool, true, false, _&&_, _||_}
 use mathlib.Core.Logic.{_⊎_, inl, inr}
 use mathlib.Core.List.{List, [], _∷_}
 use mathlib.Core.Option.{Option, some, none}
@@ -8,15 +8,15 @@ use Prim.Native.Nat.{ℕ, zero, suc, _+_, _≤_, _<_, zero-le}
 use native.Mathlib.Omega.{arith}
 use lib.Dec.{eqb}
 use lib.ListN.{length}
-use borrow.Author.Tests.{eqb-true, eqb-false}
+use borrow.Author.Tests.{eqb-true}
 use Rattle.region_graph.specs.Size.{regions}
-use Rattle.region_graph.specs.Lists.{pick, any, All, keep, member, count-from}
+use Rattle.region_graph.specs.Lists.{All, member, count-from}
 use Rattle.region_graph.specs.Model.{Model, Legal, LegalConnection}
 use Rattle.region_graph.specs.Items.{holds, crosses, passes}
 use Rattle.region_graph.specs.declared.Item.{Item}
 use Rattle.region_graph.proofs.Lists.{and-fst, and-snd, false-true, member-all, Distinct, distinct-length, member-count, any-one}
 use Rattle.region_routes.specs.Route.{Route, last, next, Lex, Best, NoRoute}
-use Rattle.region_routes.specs.Chosen.{first-of, put-before, when, or-else, exactly, from, chosen-by, found, chosen, sees, Crosses, Holds, RouteFor, NoRouteFor, BestFor}
+use Rattle.region_routes.specs.Chosen.{first-of, put-before, when, or-else, exactly, from, chosen-by, found, chosen, sees, RouteFor, NoRouteFor, BestFor}
 use Rattle.region_routes.proofs.RouteLaws.{lt-or-ge, nonempty, head-lex, best-unique}
 
 -- what an answer says of the lists in P: it is the first of them, or there is none

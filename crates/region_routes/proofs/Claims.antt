@@ -3,10 +3,9 @@ use mathlib.Core.Path.{_≡_, refl, sym, ap, _∙_, subst}
 use mathlib.Core.Bool.{Bool, true, false}
 use mathlib.Core.List.{List, [], _∷_}
 use mathlib.Core.Option.{Option, some, none}
-use Prim.Native.Nat.{ℕ, suc, _-_, _≤_}
+use Prim.Native.Nat.{ℕ, _-_}
 use native.Mathlib.Omega.{arith}
 use lib.Dec.{eqb}
-use lib.ListN.{length}
 use borrow.Author.Tests.{eqb-true}
 use Rattle.region_graph.specs.Refusals.{not-refused}
 use Rattle.region_graph.specs.Lists.{pick, keep}
@@ -17,7 +16,7 @@ use Rattle.region_graph.specs.declared.Item.{Item}
 use Rattle.region_graph.specs.declared.Place.{Place}
 use Rattle.region_graph.specs.declared.Place.the-variants.{Within, Nowhere}
 use Rattle.region_routes.specs.Chosen.{chosen, sees}
-use Rattle.region_routes.specs.Hooks.{Outcome, item, routed, kept, judged, shown, shown-from, written, kept-outcome, sees-from, route-questions, find-questions, event-questions, route-outcome, find-outcome, event-outcome}
+use Rattle.region_routes.specs.Hooks.{Outcome, item, routed, kept, judged, shown, shown-from, kept-outcome, sees-from, route-questions, find-questions, event-questions, route-outcome, find-outcome, event-outcome}
 use Rattle.region_routes.specs.Claim
 use Rattle.region_routes.specs.Claim.{Sifted, Seen, RouteSays, hidden, seen, KeptSays, Hears}
 use Rattle.region_routes.specs.declared.Kind.{Kind}

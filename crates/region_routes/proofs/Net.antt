@@ -1,7 +1,7 @@
 -- What routes let a region see is the least solution of 001's equation, and on G7 there is a greater one.
 use mathlib.Core.Path.{_≡_, refl}
 use mathlib.Core.Bool.{true, and-false}
-use mathlib.Core.Logic.{_⊎_, inl, inr}
+use mathlib.Core.Logic.{inl, inr}
 use mathlib.Core.List.{List, [], _∷_}
 use Prim.Native.Nat.{ℕ}
 use Rattle.region_graph.specs.Lists.{member}

@@ -1,13 +1,13 @@
 use borrow.Author.Needs.{needs}
 use Rattle.region_graph.specs.Sets.{members}
-use Rattle.region_archive.specs.Entries.{source-in}
+use Rattle.region_archive.specs.Entries.{source-held}
 use Rattle.region_archive.proofs.FieldTests.{low-order, first-bundle, first-connection}
 use borrow.Author.Needs.{needs}
 use Rattle.region_archive.proofs.sections.first_good.Statement.{statement}
 use Rattle.region_archive.proofs.sections.first_good.Tie as tie
 
 returns : tie.Need-returns
-returns c = let a = c .before .before .args in low-order (a .section) (a .regions) (a .least) (a .first) 255 (source-in (a .section) (members (a .regions)) (a .first)) (c .before .order .ensures) (c .if1 .taken)
+returns c = let a = c .before .before .args in low-order (a .section) (a .regions) (a .least) (a .first) 255 (source-held (a .section) (members (a .regions)) (a .first)) (c .before .order .ensures) (c .if1 .taken)
 
 enum-told : tie.Need-enum-told
 enum-told c = search needs

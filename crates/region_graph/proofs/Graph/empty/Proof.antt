@@ -1,7 +1,7 @@
 use borrow.Author.Needs.{needs}
 use Rattle.region_graph.proofs.Storing.{stores-nothing, stored-graph}
 use Rattle.region_graph.proofs.Bits.{set-none}
-use mathlib.Core.Path.{_≡_, sym}
+use mathlib.Core.Path.{sym}
 use Rattle.region_graph.specs.Model.{nothing}
 use Rattle.region_graph.proofs.Graph.empty.Statement.{statement}
 use Rattle.region_graph.proofs.Graph.empty.Tie as tie

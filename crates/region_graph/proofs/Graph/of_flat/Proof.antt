@@ -3,7 +3,7 @@ use borrow.Author.Needs.{needs}
 use Rattle.region_graph.specs.Model.{Legal}
 use Rattle.region_graph.specs.Record.{store}
 use Rattle.region_graph.specs.Flat.{FlatModel}
-use Rattle.region_graph.specs.Found.{Found}
+use Rattle.region_graph.specs.Decoded.{Decoded}
 use Rattle.region_graph.proofs.FlatModels.{graph-found, made-found, made-none}
 use Rattle.region_graph.proofs.Graph.of_flat.Statement.{statement}
 use Rattle.region_graph.proofs.Graph.of_flat.Tie as tie
@@ -14,7 +14,7 @@ found : (c : tie.After-connection-list)
     let x = c .before .before .region-list .result in
     let b = c .before .bundle-list .result in
     let d = c .connection-list .result in
-    Found store Legal (FlatModel (a .regions .now) (a .bundles .now) (a .connections .now)) ((x .ok && b .ok) && d .ok)
+    Decoded store Legal (FlatModel (a .regions .now) (a .bundles .now) (a .connections .now)) ((x .ok && b .ok) && d .ok)
     (record { regions = x .set; bundles = b .bundles; connections = d .connections }))
 found c =
     let a = c .before .before .before .before .before .before .args in

@@ -1,4 +1,3 @@
-use borrow.Author.Needs.{needs}
 use borrow.Author.Tests.{le-leb, lt-leb}
 use Rattle.region_graph.proofs.bundles.provided_within.Statement.{statement}
 use Rattle.region_graph.proofs.bundles.provided_within.Tie as tie

@@ -1,5 +1,5 @@
 use borrow.Author.Needs.{needs}
-use mathlib.Core.Path.{_≡_, sym, _∙_}
+use mathlib.Core.Path.{sym, _∙_}
 use Rattle.region_graph.proofs.connections.filter_ascending.Statement.{statement}
 use Rattle.region_graph.proofs.connections.filter_ascending.Tie as tie
 

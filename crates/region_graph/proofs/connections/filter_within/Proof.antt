@@ -1,7 +1,6 @@
 use borrow.Author.Needs.{needs}
 use borrow.Author.Tests.{le-leb, lt-leb}
-use mathlib.Core.Path.{_≡_, sym, _∙_}
-use Rattle.region_graph.proofs.Lists.{and-left}
+use mathlib.Core.Path.{sym, _∙_}
 use Rattle.region_graph.proofs.connections.filter_within.Statement.{statement}
 use Rattle.region_graph.proofs.connections.filter_within.Tie as tie
 

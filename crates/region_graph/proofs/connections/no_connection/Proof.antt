@@ -1,5 +1,4 @@
 use borrow.Author.Needs.{needs}
-use mathlib.Core.Path.{_≡_}
 use Rattle.region_graph.proofs.connections.no_connection.Statement.{statement}
 use Rattle.region_graph.proofs.connections.no_connection.Tie as tie
 

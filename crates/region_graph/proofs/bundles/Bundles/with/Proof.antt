@@ -1,8 +1,7 @@
-use mathlib.Core.Path.{_≡_, sym, _∙_}
-use Prim.Native.Nat.{ℕ, _+_, _-_, _≤_, _<_}
+use mathlib.Core.Path.{_≡_}
+use Prim.Native.Nat.{_-_, _≤_, _<_}
 use native.Mathlib.Omega.{arith}
 use borrow.Author.Needs.{needs}
-use lib.ListN.{length}
 use Rattle.region_graph.specs.Size.{most-bundles}
 use Rattle.region_graph.specs.Record.{bundles-of, bundle-in, store-bundle, no-bundle}
 use Rattle.region_graph.proofs.Arrays.{Opened, opened-start, opened-step, opened-end}

@@ -1,6 +1,6 @@
 use mathlib.Core.Path.{_≡_, sym, ap, _∙_}
 use mathlib.Core.Bool.{Bool, not}
-use Prim.Native.Nat.{ℕ, _+_, _-_, _≤_}
+use Prim.Native.Nat.{_-_, _≤_}
 use native.Mathlib.Omega.{arith}
 use borrow.Author.Needs.{needs}
 use lib.ListN.{length, take, getD}
@@ -9,7 +9,7 @@ use Rattle.region_graph.specs.Size.{most-bundles}
 use Rattle.region_graph.specs.Lists.{keep}
 use Rattle.region_graph.specs.Record.{bundles-of, bundle-in, store-bundle, no-bundle}
 use Rattle.region_graph.specs.Places.{bundle-meets}
-use Rattle.region_graph.proofs.Arrays.{Filled, filled-none, filled-at, filled-inside, filled-means, filled-took, filled-left}
+use Rattle.region_graph.proofs.Arrays.{Filled, filled-at, filled-inside, filled-means, filled-took, filled-left}
 use Rattle.region_graph.proofs.Storing.{bundles-filled, filled-bundles, bundles-each, no-bundles}
 use Rattle.region_graph.proofs.bundles.Bundles.without.Statement.{statement}
 use Rattle.region_graph.proofs.bundles.Bundles.without.Tie as tie

@@ -1,15 +1,15 @@
 use mathlib.Core.Path.{_≡_, sym, ap, _∙_}
 use mathlib.Core.Bool.{Bool}
-use Prim.Native.Nat.{ℕ, _+_, _-_, _≤_}
+use Prim.Native.Nat.{_+_, _-_, _≤_}
 use native.Mathlib.Omega.{arith}
 use borrow.Author.Needs.{needs}
-use lib.ListN.{length, drop, getD}
+use lib.ListN.{drop, getD}
 use Rattle.region_graph.specs.Size.{most-connections}
 use Rattle.region_graph.specs.Lists.{position}
 use Rattle.region_graph.specs.Record.{connections-of, connection-in, no-connection}
 use Rattle.region_graph.specs.Places.{connection-meets}
 use Rattle.region_graph.proofs.Lists.{position-here, position-later, position-end}
-use Rattle.region_graph.proofs.Arrays.{filled-length, filled-inside, filled-means}
+use Rattle.region_graph.proofs.Arrays.{filled-inside, filled-means}
 use Rattle.region_graph.proofs.Storing.{connections-filled, connection-stored, connections-each}
 use Rattle.region_graph.proofs.connections.Connections.first.Statement.{statement}
 use Rattle.region_graph.proofs.connections.Connections.first.Tie as tie

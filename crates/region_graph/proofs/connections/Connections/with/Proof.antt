@@ -1,8 +1,7 @@
-use mathlib.Core.Path.{_≡_, sym, _∙_}
-use Prim.Native.Nat.{ℕ, _+_, _-_, _≤_, _<_}
+use mathlib.Core.Path.{_≡_}
+use Prim.Native.Nat.{_-_, _≤_, _<_}
 use native.Mathlib.Omega.{arith}
 use borrow.Author.Needs.{needs}
-use lib.ListN.{length}
 use Rattle.region_graph.specs.Size.{most-connections}
 use Rattle.region_graph.specs.Record.{connections-of, connection-in, store-connection, no-connection}
 use Rattle.region_graph.proofs.Arrays.{Opened, opened-start, opened-step, opened-end}

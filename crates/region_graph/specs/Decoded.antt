@@ -10,9 +10,9 @@ use Rattle.region_graph.specs.Model.{Bundle, Part, Connection, Sorted, L
 use Rattle.region_graph.specs.Flat.{FlatPart, FlatFields, Flat, fields-of-bundle, fields-of-connection, bundle-width, connection-width}
 
 -- b stores a good value that has these numbers; not ok where no good value has them
-pub data Found {A B : Type 0} (store : A → B) (Good Is : A → Type 0) (ok : Bool) (b : B) : Type 0 where
-  found : (x : A) → Good x → Is x → ok ≡ true → b ≡ store x → Found store Good Is ok b
-  none : ((x : A) → Good x → Is x → ⊥) → ok ≡ false → Found store Good Is ok b
+pub data Decoded {A B : Type 0} (store : A → B) (Good Is : A → Type 0) (ok : Bool) (b : B) : Type 0 where
+  found : (x : A) → Good x → Is x → ok ≡ true → b ≡ store x → Decoded store Good Is ok b
+  none : ((x : A) → Good x → Is x → ⊥) → ok ≡ false → Decoded store Good Is ok b
 
 -- the numbers have a list at a place, a bundle, a connection
 abbrev pub FlatList : List ℕ → ℕ → List ℕ → Type 0

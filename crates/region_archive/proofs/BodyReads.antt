@@ -15,11 +15,11 @@ use Rattle.region_graph.specs.declared.Changed.{Changed}
 use Rattle.region_graph.proofs.FlatModels.{flat-made}
 use Rattle.region_archive.specs.Bytes.{big, counted}
 use Rattle.region_archive.specs.Image.{body}
-use Rattle.region_archive.specs.Rows.{Parsed, Unparsed, Stands, StandsOr}
-use Rattle.region_archive.specs.Entries.{Elem, record-bytes, section-bytes, row-width, FlatElem, elements}
+use Rattle.region_archive.specs.Parsing.{Parsed, Unparsed, ParsedInto, AnswerInto}
+use Rattle.region_archive.specs.RecordFields.{Elem, record-bytes, section-bytes, row-width, FlatElem, elements}
 use Rattle.region_archive.specs.Sections.{RegionsRead, SectionRead, BodyRead, whole, broken}
-use Rattle.region_archive.specs.declared.entries.Section.{Section}
-use Rattle.region_archive.specs.declared.entries.Section.the-variants as Section
+use Rattle.region_archive.specs.declared.record_fields.Section.{Section}
+use Rattle.region_archive.specs.declared.record_fields.Section.the-variants as Section
 use Rattle.region_archive.specs.declared.sections.RegionsAt.{RegionsAt}
 use Rattle.region_archive.specs.declared.sections.SectionAt.{SectionAt}
 use Rattle.region_archive.proofs.Records.{body-sections}
@@ -81,31 +81,31 @@ module _ (s : List ℕ) (at : ℕ) where
 
 -- the answers of the three functions
 module _ {A : Type 0} (good : A → Type 0) (bytes : A → List ℕ) (s : List ℕ) (at : ℕ) (b : Bool) (is : A → Type 0) (next : ℕ) where
-  pub value-stands : not b ≡ false → StandsOr good bytes s at b is next → Stands good bytes s at is next
-  value-stands e a = subst (λ (ok : Bool). StandsOr good bytes s at ok is next) (not-false b e) a
+  pub value-stands : not b ≡ false → AnswerInto good bytes s at b is next → ParsedInto good bytes s at is next
+  value-stands e a = subst (λ (ok : Bool). AnswerInto good bytes s at ok is next) (not-false b e) a
 
-  pub value-fails : not b ≡ true → StandsOr good bytes s at b is next → Unparsed good bytes s at
-  value-fails e a = subst (λ (ok : Bool). StandsOr good bytes s at ok is next) (not-true b e) a
+  pub value-fails : not b ≡ true → AnswerInto good bytes s at b is next → Unparsed good bytes s at
+  value-fails e a = subst (λ (ok : Bool). AnswerInto good bytes s at ok is next) (not-true b e) a
 
 module _ {s : List ℕ} {at : ℕ} {list : List ℕ} {x : RegionsAt} (a : RegionsRead s at list x) where
-  pub regions-stand : not (x .ok) ≡ false → Stands RegionRow (counted (big 1)) s at (λ rs. (take (x .count) list ≡ rs) × (members (x .set) ≡ rs)) (x .next)
+  pub regions-stand : not (x .ok) ≡ false → ParsedInto RegionRow (counted (big 1)) s at (λ rs. (take (x .count) list ≡ rs) × (members (x .set) ≡ rs)) (x .next)
   regions-stand e = value-stands RegionRow (counted (big 1)) s at (x .ok) (λ rs. (take (x .count) list ≡ rs) × (members (x .set) ≡ rs)) (x .next) e (a .answer)
 
   pub regions-fail : not (x .ok) ≡ true → Unparsed RegionRow (counted (big 1)) s at
   regions-fail e = value-fails RegionRow (counted (big 1)) s at (x .ok) (λ rs. (take (x .count) list ≡ rs) × (members (x .set) ≡ rs)) (x .next) e (a .answer)
 
 module _ {k : Section} {rs ts : List ℕ} (f : ts ≡ rs) {s : List ℕ} {at : ℕ} {rows : List ℕ} {y : SectionAt} (a : SectionRead k ts s at rows y) where
-  abbrev Rows : List (Elem k) → Type 0
-  Rows = Flat (row-width k) (FlatElem k) (take (y .count) rows)
+  abbrev Parsing : List (Elem k) → Type 0
+  Parsing = Flat (row-width k) (FlatElem k) (take (y .count) rows)
 
-  answer : StandsOr (SectionRow k rs) (counted (record-bytes k)) s at (y .ok) Rows (y .next)
-  answer = subst (λ (l : List ℕ). StandsOr (SectionRow k l) (counted (record-bytes k)) s at (y .ok) Rows (y .next)) f (a .answer)
+  answer : AnswerInto (SectionRow k rs) (counted (record-bytes k)) s at (y .ok) Parsing (y .next)
+  answer = subst (λ (l : List ℕ). AnswerInto (SectionRow k l) (counted (record-bytes k)) s at (y .ok) Parsing (y .next)) f (a .answer)
 
-  pub section-stands : not (y .ok) ≡ false → Stands (SectionRow k rs) (counted (record-bytes k)) s at Rows (y .next)
-  section-stands e = value-stands (SectionRow k rs) (counted (record-bytes k)) s at (y .ok) Rows (y .next) e answer
+  pub section-stands : not (y .ok) ≡ false → ParsedInto (SectionRow k rs) (counted (record-bytes k)) s at Parsing (y .next)
+  section-stands e = value-stands (SectionRow k rs) (counted (record-bytes k)) s at (y .ok) Parsing (y .next) e answer
 
   pub section-fails : not (y .ok) ≡ true → Unparsed (SectionRow k rs) (counted (record-bytes k)) s at
-  section-fails e = value-fails (SectionRow k rs) (counted (record-bytes k)) s at (y .ok) Rows (y .next) e answer
+  section-fails e = value-fails (SectionRow k rs) (counted (record-bytes k)) s at (y .ok) Parsing (y .next) e answer
 
 -- no body stands there, or one that ends before the bytes do
 module _ (s : List ℕ) (at : ℕ) {r : Changed} (refused : (r .number ≡ broken-layout) × Empty (r .graph)) where
@@ -125,15 +125,15 @@ module _ {s : List ℕ} {at : ℕ} {list : List ℕ} {x : RegionsAt} (a : Region
   pub no-bundles-read : {rows : List ℕ} {y : SectionAt} → SectionRead Section.Bundles (members (x .set)) s (x .next) rows y → not (y .ok) ≡ true → Unparsed Legal body s at
   no-bundles-read b j = no-bundles s at (p .parsed) (section-fails (p .put .1) b j)
     where
-      p : Stands RegionRow (counted (big 1)) s at (λ rs. (take (x .count) list ≡ rs) × (members (x .set) ≡ rs)) (x .next)
+      p : ParsedInto RegionRow (counted (big 1)) s at (λ rs. (take (x .count) list ≡ rs) × (members (x .set) ≡ rs)) (x .next)
       p = regions-stand a i
 
   module _ {rows : List ℕ} {y : SectionAt} (b : SectionRead Section.Bundles (members (x .set)) s (x .next) rows y) (j : not (y .ok) ≡ false)
       {others : List ℕ} {z : SectionAt} (c : SectionRead Section.Connections (members (x .set)) s (y .next) others z) where
-    p : Stands RegionRow (counted (big 1)) s at (λ rs. (take (x .count) list ≡ rs) × (members (x .set) ≡ rs)) (x .next)
+    p : ParsedInto RegionRow (counted (big 1)) s at (λ rs. (take (x .count) list ≡ rs) × (members (x .set) ≡ rs)) (x .next)
     p = regions-stand a i
 
-    q : Stands (SectionRow Section.Bundles (p .value)) (counted (record-bytes Section.Bundles)) s (x .next)
+    q : ParsedInto (SectionRow Section.Bundles (p .value)) (counted (record-bytes Section.Bundles)) s (x .next)
         (Flat (row-width Section.Bundles) (FlatElem Section.Bundles) (take (y .count) rows)) (y .next)
     q = section-stands (p .put .1) b j
 

@@ -5,11 +5,11 @@ use Prim.Native.Nat.{ℕ, zero, suc, _+_, _-_, _*_, _/_, _%_, _^_, _≤_, _<_}
 use native.Mathlib.Nat.{add-mul, mul-assoc, mul-comm, pow-suc, mod-lt, mod-one, mod-eq-of-lt, div-add-mod', add-mul-mod-self-right, mul-le-mul-right}
 use native.Mathlib.Omega.{arith}
 use lib.ListN.{length, drop, length-append, length-drop}
-use Rattle.region_graph.specs.Lists.{All}
-use Rattle.region_archive.specs.Bytes.{big, each, counted, sized}
+use Rattle.region_graph.specs.Lists.{All, concat-map}
+use Rattle.region_archive.specs.Bytes.{big, counted, sized}
 use Rattle.region_graph.specs.Model.{Sorted}
-use Rattle.region_archive.specs.Rows.{Parsed, Unparsed, by-key}
-use Rattle.region_archive.proofs.Pieces.{Ascends, ascends-keys, keys-ascend, floor-of, all-append, all-back, ascends-append, ascends-back, floor-snoc, each-snoc}
+use Rattle.region_archive.specs.Parsing.{Parsed, Unparsed, by-key}
+use Rattle.region_archive.proofs.Pieces.{Ascends, ascends-keys, keys-ascend, floor-of, all-append, all-back, ascends-append, ascends-back, floor-snoc, concat-snoc}
 
 -- the bytes of good values, whatever follows them, tell the values apart and where they end
 abbrev pub Delimits : {A : Type 0} → (A → Type 0) → (A → List ℕ) → (A → A → Type 0) → Type 0
@@ -74,21 +74,21 @@ module _ {A : Type 0} (good : A → Type 0) (bytes : A → List ℕ) (delim : De
   pub record Begins (xs ys : List A) (r t : List ℕ) : Type 0 where
     pub rest : List A
     pub split : ys ≡ xs ++ rest
-    pub left : r ≡ each bytes rest ++ t
+    pub left : r ≡ concat-map bytes rest ++ t
 
-  pub begins : (xs ys : List A) (r t : List ℕ) → All good xs → All good ys → length xs ≤ length ys → each bytes xs ++ r ≡ each bytes ys ++ t → Begins xs ys r t
+  pub begins : (xs ys : List A) (r t : List ℕ) → All good xs → All good ys → length xs ≤ length ys → concat-map bytes xs ++ r ≡ concat-map bytes ys ++ t → Begins xs ys r t
   begins [] ys r t h k l e = record { rest = ys; split = refl; left = e }
   begins (x ∷ xs) [] r t h k l e = absurd (omega arith)
   begins (x ∷ xs) (y ∷ ys) r t h k l e =
-      let d = delim x y (each bytes xs ++ r) (each bytes ys ++ t) (h .0) (k .0) (sym (append-assoc (bytes x) (each bytes xs) r) ∙ e ∙ append-assoc (bytes y) (each bytes ys) t) in
+      let d = delim x y (concat-map bytes xs ++ r) (concat-map bytes ys ++ t) (h .0) (k .0) (sym (append-assoc (bytes x) (concat-map bytes xs) r) ∙ e ∙ append-assoc (bytes y) (concat-map bytes ys) t) in
       let b = begins xs ys r t (h .1) (k .1) (omega arith) (d .1) in
       record { rest = b .rest; split = ap (λ (z : A). z ∷ ys) (sym (d .0)) ∙ ap (λ (l : List A). x ∷ l) (b .split); left = b .left }
 
   -- good elements xs stand from `from` to `at`
   pub record Run (s : List ℕ) (from : ℕ) (xs : List A) (at : ℕ) : Type 0 where
     pub every : All good xs
-    pub shape : drop from s ≡ each bytes xs ++ drop at s
-    pub ends : at ≡ from + length (each bytes xs)
+    pub shape : drop from s ≡ concat-map bytes xs ++ drop at s
+    pub ends : at ≡ from + length (concat-map bytes xs)
     pub room : at ≤ length s
 
   module _ (s : List ℕ) (from : ℕ) where
@@ -100,8 +100,8 @@ module _ {A : Type 0} (good : A → Type 0) (bytes : A → List ℕ) (delim : De
       run-more {x} {next} p =
           record {
             every = all-append good xs (x ∷ []) (g .every) (p .is-good, tt);
-            shape = g .shape ∙ ap (λ (l : List ℕ). each bytes xs ++ l) (p .shape) ∙ sym (append-assoc (each bytes xs) (bytes x) (drop next s)) ∙ ap (λ (l : List ℕ). l ++ drop next s) (sym (each-snoc bytes xs x));
-            ends = rw (each-snoc, length-append) (omega (arith, g .ends, p .ends));
+            shape = g .shape ∙ ap (λ (l : List ℕ). concat-map bytes xs ++ l) (p .shape) ∙ sym (append-assoc (concat-map bytes xs) (bytes x) (drop next s)) ∙ ap (λ (l : List ℕ). l ++ drop next s) (sym (concat-snoc bytes xs x));
+            ends = rw (concat-snoc, length-append) (omega (arith, g .ends, p .ends));
             room = p .room;
           }
 
@@ -111,17 +111,17 @@ module _ {A : Type 0} (good : A → Type 0) (bytes : A → List ℕ) (delim : De
         pub rest : List A
         pub split : ys ≡ xs ++ (head ∷ rest)
         pub is-good : good head
-        pub left : drop at s ≡ bytes head ++ (each bytes rest ++ t)
+        pub left : drop at s ≡ bytes head ++ (concat-map bytes rest ++ t)
 
-      pub run-next : (ys : List A) (t : List ℕ) → length xs < length ys → All good ys → drop from s ≡ each bytes ys ++ t → Next ys t
+      pub run-next : (ys : List A) (t : List ℕ) → length xs < length ys → All good ys → drop from s ≡ concat-map bytes ys ++ t → Next ys t
       run-next ys t h a e =
           let b = begins xs ys (drop at s) t (g .every) a (omega arith) (sym (g .shape) ∙ e) in
           take (b .rest) (omega (arith, ap length (b .split) ∙ length-append xs (b .rest))) (b .split)
           (all-back good xs (b .rest) (subst (All good) (b .split) a)) (b .left)
         where
-          take : (l : List A) → 0 < length l → ys ≡ xs ++ l → All good l → drop at s ≡ each bytes l ++ t → Next ys t
+          take : (l : List A) → 0 < length l → ys ≡ xs ++ l → All good l → drop at s ≡ concat-map bytes l ++ t → Next ys t
           take [] h f a e = absurd (omega arith)
-          take (z ∷ l) h f a e = record { head = z; rest = l; split = f; is-good = a .0; left = e ∙ append-assoc (bytes z) (each bytes l) t }
+          take (z ∷ l) h f a e = record { head = z; rest = l; split = f; is-good = a .0; left = e ∙ append-assoc (bytes z) (concat-map bytes l) t }
 
   -- a count byte, and as many elements of a list with P
   module _ (P : List A → Type 0) (every-of : (xs : List A) → P xs → All good xs) where
@@ -130,7 +130,7 @@ module _ {A : Type 0} (good : A → Type 0) (bytes : A → List ℕ) (delim : De
         let n : length xs ≡ length ys = head-same e in
         let b = begins xs ys r t (every-of xs h) (every-of ys k) (omega arith) (tail-same e) in
         let z : b .rest ≡ [] = none-left (b .rest) (omega (arith, ap length (b .split) ∙ length-append xs (b .rest))) in
-        (sym (b .split ∙ ap (λ (l : List A). xs ++ l) z ∙ append-nil xs), b .left ∙ ap (λ (l : List A). each bytes l ++ t) z)
+        (sym (b .split ∙ ap (λ (l : List A). xs ++ l) z ∙ append-nil xs), b .left ∙ ap (λ (l : List A). concat-map bytes l ++ t) z)
 
     module _ (s : List ℕ) (at n mid : ℕ) (count : drop at s ≡ n ∷ drop mid s) where
       pub counted-run : {xs : List A} {next : ℕ} → Run s mid xs next → mid ≡ at + 1 → n ≡ length xs → P xs → Parsed P (counted bytes) s at xs next
@@ -142,16 +142,16 @@ module _ {A : Type 0} (good : A → Type 0) (bytes : A → List ℕ) (delim : De
             room = g .room;
           }
 
-      counted-head : (ys : List A) (t : List ℕ) → drop at s ≡ counted bytes ys ++ t → n ∷ drop mid s ≡ length ys ∷ (each bytes ys ++ t)
+      counted-head : (ys : List A) (t : List ℕ) → drop at s ≡ counted bytes ys ++ t → n ∷ drop mid s ≡ length ys ∷ (concat-map bytes ys ++ t)
       counted-head ys t e = sym count ∙ e
 
-      pub counted-none : ((ys : List A) (t : List ℕ) → length ys ≡ n → P ys → drop mid s ≡ each bytes ys ++ t → ⊥) → Unparsed P (counted bytes) s at
+      pub counted-none : ((ys : List A) (t : List ℕ) → length ys ≡ n → P ys → drop mid s ≡ concat-map bytes ys ++ t → ⊥) → Unparsed P (counted bytes) s at
       counted-none u ys t h e = u ys t (sym (head-same (counted-head ys t e))) h (tail-same (counted-head ys t e))
 
       pub counted-stuck : {xs : List A} {at′ : ℕ} → Run s mid xs at′ → length xs < n → Unparsed good bytes s at′ → Unparsed P (counted bytes) s at
       counted-stuck {xs} {at′} g h u =
           counted-none
-          (λ ys t k p e. let x = run-next s mid g ys t (omega arith) (every-of ys p) e in u (x .head) (each bytes (x .rest) ++ t) (x .is-good) (x .left))
+          (λ ys t k p e. let x = run-next s mid g ys t (omega arith) (every-of ys p) e in u (x .head) (concat-map bytes (x .rest) ++ t) (x .is-good) (x .left))
 
   -- elements whose keys ascend
   module _ (key : A → ℕ) (most : ℕ) where
@@ -185,11 +185,11 @@ module _ {A : Type 0} (good : A → Type 0) (bytes : A → List ℕ) (delim : De
               floor-is = sym (floor-snoc key 0 xs x);
             }
 
-        going-past : (n : ℕ) → length xs < n → NoNext s at floor → (ys : List A) (t : List ℕ) → length ys ≡ n → Sorted (by-key key) good most ys → drop from s ≡ each bytes ys ++ t → ⊥
+        going-past : (n : ℕ) → length xs < n → NoNext s at floor → (ys : List A) (t : List ℕ) → length ys ≡ n → Sorted (by-key key) good most ys → drop from s ≡ concat-map bytes ys ++ t → ⊥
         going-past n h u ys t k y e =
             let x = run-next s from (g .run) ys t (omega arith) (y .each) e in
             let a : Ascends key (floor-of key 0 xs) (x .head ∷ x .rest) = ascends-back key 0 xs (x .head ∷ x .rest) (subst (Ascends key 0) (x .split) (ascends-keys key ys (y .ascend))) in
-            u (x .head) (each bytes (x .rest) ++ t) (x .is-good) (omega (arith, a .0, g .floor-is)) (x .left)
+            u (x .head) (concat-map bytes (x .rest) ++ t) (x .is-good) (omega (arith, a .0, g .floor-is)) (x .left)
 
     module _ (s : List ℕ) (at n mid : ℕ) (count : drop at s ≡ n ∷ drop mid s) {xs : List A} {to floor : ℕ} (g : Going s mid xs to floor) where
       pub row-parsed : mid ≡ at + 1 → n ≡ length xs → n ≤ most → Parsed (Sorted (by-key key) good most) (counted bytes) s at xs to

@@ -8,7 +8,7 @@ use native.Mathlib.Omega.{arith}
 use lib.ListN.{length, drop, getD}
 use lib.Seq.{drop-cons}
 use Rattle.region_archive.specs.Bytes.{big}
-use Rattle.region_archive.specs.Rows.{Parsed}
+use Rattle.region_archive.specs.Parsing.{Parsed}
 use Rattle.region_archive.proofs.Pieces.{big-length}
 
 -- one byte more

@@ -5,8 +5,8 @@ use Prim.Native.Nat.{ℕ, zero, suc, _+_, _-_, _≤_}
 use native.Mathlib.Omega.{arith}
 use native.Mathlib.Nat.{zero-add, suc-add}
 use lib.ListN.{length, drop, length-append}
-use Rattle.region_archive.specs.Rows.{Parsed, Unparsed}
-use Rattle.region_archive.specs.Entries.{bytes-to, SameTo, GoodTo}
+use Rattle.region_archive.specs.Parsing.{Parsed, Unparsed}
+use Rattle.region_archive.specs.RecordFields.{bytes-to, SameTo, GoodTo}
 use Rattle.region_archive.proofs.Delimits.{Delimits}
 
 module _ {A : Type 0} (good : ℕ → A → Type 0) (bytes : ℕ → A → List ℕ) (same : ℕ → A → A → Type 0)

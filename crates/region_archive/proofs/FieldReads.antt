@@ -13,11 +13,11 @@ use Rattle.region_graph.specs.Flat.{Fields, FlatPart}
 use Rattle.region_graph.proofs.Lists.{false-true}
 use Rattle.region_archive.specs.Bytes.{big}
 use Rattle.region_archive.specs.Image.{part-bytes}
-use Rattle.region_archive.specs.Rows.{Parsed, Unparsed, StandsOr}
-use Rattle.region_archive.specs.Entries.{SameTo, GoodTo, part-at, first-width, field-count, most-in, row-width, part-open, PartGood, first-good, second-good, FieldGood, field-bytes, FieldSame, FlatField}
+use Rattle.region_archive.specs.Parsing.{Parsed, Unparsed, AnswerInto}
+use Rattle.region_archive.specs.RecordFields.{SameTo, GoodTo, part-at, first-width, field-count, most-in, row-width, part-open, PartGood, first-good, second-good, FieldGood, field-bytes, FieldSame, FlatField}
 use Rattle.region_archive.specs.Sections.{PartRead, FieldRead}
-use Rattle.region_archive.specs.declared.entries.Section.{Section}
-use Rattle.region_archive.specs.declared.entries.Section.the-variants as Section
+use Rattle.region_archive.specs.declared.record_fields.Section.{Section}
+use Rattle.region_archive.specs.declared.record_fields.Section.the-variants as Section
 use Rattle.region_archive.specs.declared.sections.FieldAt.{FieldAt}
 use Rattle.region_archive.proofs.Delimits.{big-same}
 
@@ -46,7 +46,7 @@ module _ (s : Section) (rs : List ℕ) (floor : ℕ) (bytes : List ℕ) (at : �
           false-true (e ∙ ap (first-good s rs floor) (d .0) ∙ k .1 .1)
 
       by : (x : Fields) (b : Bool) → b ≡ first-good s rs floor n
-          → StandsOr (First x) (field-bytes s 0) bytes at b (GoodTo (FlatField (most-in s) (set old 0 n)) 1) next
+          → AnswerInto (First x) (field-bytes s 0) bytes at b (GoodTo (FlatField (most-in s) (set old 0 n)) 1) next
       by x true e = record {
         value = record { first = n; second = x .second; parts = x .parts };
         parsed = record { is-good = (tt, (p .is-good, sym e)); shape = p .shape; ends = p .ends; room = p .room };
@@ -73,7 +73,7 @@ module _ (s : Section) (rs : List ℕ) (floor : ℕ) (bytes : List ℕ) (at : �
           false-true (e ∙ (λ j. second-good s rs floor (k .0 .1 j) (d .0 j)) ∙ k .1 .1)
 
       by : (x : Fields) → getD old 0 0 ≡ x .first → (b : Bool) → b ≡ second-good s rs floor (x .first) n
-          → StandsOr (Second x) (field-bytes s 1) bytes at b (GoodTo (FlatField (most-in s) (set old 1 n)) 2) next
+          → AnswerInto (Second x) (field-bytes s 1) bytes at b (GoodTo (FlatField (most-in s) (set old 1 n)) 2) next
       by x k true e = record {
         value = record { first = x .first; second = n; parts = x .parts };
         parsed = record { is-good = ((tt, refl), (p .is-good, sym e)); shape = p .shape; ends = p .ends; room = p .room };
@@ -177,11 +177,11 @@ module _ (s : Section) (rs : List ℕ) (floor : ℕ) (bytes : List ℕ) (at : �
 
     pub part-read : {all : Bool} → all ≡ part-open s (suc (suc j)) → {r : FieldAt} → {lent : List ℕ} → PartRead (most-in s) all bytes at lent sub r
         → length new ≡ length old → FieldRead s rs floor (suc (suc j)) bytes at old new r
-    part-read {all} a {r} {lent} q size = record { size = size; answer = λ x g k. by x g k (r .ok) (r .next) (subst (λ (b : Bool). StandsOr (PartGood (most-in s) b) (part-bytes (big 4)) bytes at (r .ok) (FlatPart sub 0) (r .next)) a (q .answer)) }
+    part-read {all} a {r} {lent} q size = record { size = size; answer = λ x g k. by x g k (r .ok) (r .next) (subst (λ (b : Bool). AnswerInto (PartGood (most-in s) b) (part-bytes (big 4)) bytes at (r .ok) (FlatPart sub 0) (r .next)) a (q .answer)) }
       where
         by : (x : Fields) → GoodTo (FieldGood s rs floor) (suc (suc j)) x → GoodTo (FlatField (most-in s) old) (suc (suc j)) x → (ok : Bool) (next : ℕ)
-            → StandsOr (PartGood (most-in s) (part-open s (suc (suc j)))) (part-bytes (big 4)) bytes at ok (FlatPart sub 0) next
-            → StandsOr (Nth x) (field-bytes s (suc (suc j))) bytes at ok (GoodTo (FlatField (most-in s) new) (suc (suc (suc j)))) next
+            → AnswerInto (PartGood (most-in s) (part-open s (suc (suc j)))) (part-bytes (big 4)) bytes at ok (FlatPart sub 0) next
+            → AnswerInto (Nth x) (field-bytes s (suc (suc j))) bytes at ok (GoodTo (FlatField (most-in s) new) (suc (suc (suc j)))) next
         by x g k true next v =
             let p = v .value in
             let e : getD (put-part (x .parts) j p) j (Part.listed []) ≡ p = put-same (x .parts) j p in

@@ -9,9 +9,9 @@ use Rattle.region_graph.specs.Lists.{member}
 use Rattle.region_graph.specs.Sets.{has, members}
 use Rattle.region_graph.proofs.Lists.{and-left, and-right}
 use Rattle.region_graph.proofs.Storing.{has-member}
-use Rattle.region_archive.specs.Entries.{field-key, source-held, ends-differ, second-good}
-use Rattle.region_archive.specs.declared.entries.Section.{Section}
-use Rattle.region_archive.specs.declared.entries.Section.the-variants as Section
+use Rattle.region_archive.specs.RecordFields.{field-key, source-held, ends-differ, second-good}
+use Rattle.region_archive.specs.declared.record_fields.Section.{Section}
+use Rattle.region_archive.specs.declared.record_fields.Section.the-variants as Section
 
 module _ (s : Section) (x floor a b : ℕ) where
   -- the order is too low

@@ -20,13 +20,13 @@ use Rattle.region_graph.proofs.Lists.{and-fst, and-snd}
 use Rattle.region_graph.proofs.Legal.{all-yes, first-no-stops, first-no-goes-on}
 use Rattle.region_archive.specs.Bytes.{big}
 use Rattle.region_archive.specs.Image.{version, body, image}
-use Rattle.region_archive.specs.File.{FileMeaning, means, means-none, is-image, sets, opens, length-field, front-questions, read-number}
-use Rattle.region_archive.specs.Rows.{Parsed}
+use Rattle.region_archive.specs.File.{FileMeaning, means, means-none, is-image, read-model, opens, length-field, front-questions, read-number}
+use Rattle.region_archive.specs.Parsing.{Parsed}
 use Rattle.region_archive.specs.Promise.{Reads, ReadsOver}
 use Rattle.region_archive.specs.Sections.{BodyRead, whole, broken}
 use Rattle.region_archive.proofs.Delimits.{head-same}
 use Rattle.region_archive.proofs.Digits.{drop-byte, digits-none, digits-more, digits-all}
-use Rattle.region_archive.proofs.Answers.{byte-stands}
+use Rattle.region_archive.proofs.CountedReads.{byte-stands}
 use Rattle.region_archive.proofs.Readers.{word-bytes}
 use Rattle.region_archive.proofs.OneImage.{image-body, one-image, image-front}
 
@@ -114,20 +114,20 @@ module _ {s : List ℕ} where
   pub accepted-number : (m : Model) (l : Legal m) (e : image m ≡ s) → not-refused ≡ first-no (front-questions s)
   accepted-number m l e = sym (ap (λ (t : List ℕ). first-no (front-questions t)) (sym e) ∙ image-front m l)
 
-  pub accepted : (f : FileMeaning s) (m : Model) → Legal m → image m ≡ s → (not-refused ≡ read-number f) × (m ≡ sets f)
+  pub accepted : (f : FileMeaning s) (m : Model) → Legal m → image m ≡ s → (not-refused ≡ read-number f) × (m ≡ read-model f)
   accepted (means n k i) m l e = (sym (last-asked (means n k i) (accepted-number m l e)), one-image m n l k (e ∙ sym i))
   accepted (means-none n) m l e = absurd (n m l e)
 
   -- what is refused means nothing
-  pub refused-sets : (f : FileMeaning s) → (read-number f ≡ not-refused → ⊥) → sets f ≡ nothing
-  refused-sets (means m l e) u = absurd (u (sym (accepted (means m l e) m l e .0)))
-  refused-sets (means-none n) u = refl
+  pub refused-model : (f : FileMeaning s) → (read-number f ≡ not-refused → ⊥) → read-model f ≡ nothing
+  refused-model (means m l e) u = absurd (u (sym (accepted (means m l e) m l e .0)))
+  refused-model (means-none n) u = refl
 
   -- a refused read gives the empty record
   pub reads-refused : {r : Changed} {k : ℕ} → (r .number ≡ k) × Empty (r .graph) → (k ≡ not-refused → ⊥) → ((f : FileMeaning s) → k ≡ read-number f) → Reads s r
   reads-refused {r} {k} (n, z) u e = record {
     valid = z .valid;
-    says = λ f. record { number = n ∙ e f; next = z .sets ∙ sym (refused-sets f (λ h. u (e f ∙ h))) };
+    says = λ f. record { number = n ∙ e f; next = z .model ∙ sym (refused-model f (λ h. u (e f ∙ h))) };
   }
 
   -- what the body gave is what the file means
@@ -148,7 +148,7 @@ module _ {s : List ℕ} where
     says = λ f.
         record {
           number = h .says f .number;
-          next = sym (ap (λ (b : Bool). pick b (sets f) (meaning g)) (ne-eqb (read-number f) not-refused (λ z. u (h .says f .number ∙ z))));
+          next = sym (ap (λ (b : Bool). pick b (read-model f) (meaning g)) (ne-eqb (read-number f) not-refused (λ z. u (h .says f .number ∙ z))));
         };
   }
 
@@ -159,6 +159,6 @@ module _ {s : List ℕ} where
     says = λ f.
         record {
           number = h .says f .number;
-          next = h .says f .next ∙ sym (ap (λ (b : Bool). pick b (sets f) (meaning g)) (eq-eqb (read-number f) not-refused (sym (h .says f .number) ∙ e)));
+          next = h .says f .next ∙ sym (ap (λ (b : Bool). pick b (read-model f) (meaning g)) (eq-eqb (read-number f) not-refused (sym (h .says f .number) ∙ e)));
         };
   }

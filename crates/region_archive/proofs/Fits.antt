@@ -5,7 +5,7 @@ use Prim.Native.Nat.{ℕ}
 use native.Mathlib.Omega.{arith}
 use lib.ListN.{length}
 use lib.Seq.{length-take-le}
-use Rattle.region_graph.specs.Size.{most-listed, most-provided, all-sign}
+use Rattle.region_graph.specs.Size.{most-listed, most-provided, everything-sign}
 use Rattle.region_graph.specs.Model.{Bundle, Part, Connection}
 use Rattle.region_graph.specs.Record.{Valid, meaning, number-places, store-numbers, store-provided, provided-of, store-part, part-in, store-bundle, store-connection, no-bundle, no-connection}
 use Rattle.region_graph.specs.Places.{Short, ShortPart, ShortBundle, ShortConnection}
@@ -15,7 +15,7 @@ use Rattle.region_graph.specs.declared.numbers.Numbers.{Numbers}
 use Rattle.region_graph.specs.declared.numbers.Provided.{Provided}
 use Rattle.region_graph.proofs.Arrays.{Filled, filled-length}
 use Rattle.region_graph.proofs.Storing.{part-back, bundles-stored, connections-stored}
-use Rattle.region_archive.specs.Entries.{ListFits, NumbersFit, ProvidedFits, PartFits, BundleFits, ConnectionFits}
+use Rattle.region_archive.specs.RecordFields.{ListFits, NumbersFit, ProvidedFits, PartFits, BundleFits, ConnectionFits}
 use Rattle.region_archive.proofs.Pieces.{all-or}
 
 -- a short list that is stored fits
@@ -48,7 +48,7 @@ module _ {r : Numbers} (n : Provided) (h : ProvidedFits n) (e : r ≡ store-numb
 pub list-part : (n : Numbers) → NumbersFit n → PartFits n
 list-part n h = record { count = λ e. h .count; size = h .size }
 
-pub part-list : (n : Numbers) → PartFits n → (n .count ≡ all-sign → ⊥) → NumbersFit n
+pub part-list : (n : Numbers) → PartFits n → (n .count ≡ everything-sign → ⊥) → NumbersFit n
 part-list n h e = record { count = h .count e; size = h .size }
 
 -- and so do a part, a bundle and a connection of short lists

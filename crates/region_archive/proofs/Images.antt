@@ -8,20 +8,20 @@ use lib.ListN.{length, drop, length-append}
 use borrow.Author.Tests.{le-leb, lt-leb}
 use Rattle.region_graph.specs.Refusals.{no-place}
 use Rattle.region_graph.specs.Model.{Model}
-use Rattle.text_lines.specs.Written.{Wrote}
+use Rattle.text_lines.specs.Written.{WrittenAt}
 use Rattle.region_archive.specs.Bytes.{big, counted}
 use Rattle.region_archive.specs.Image.{version, body, image}
-use Rattle.region_archive.specs.Entries.{section-bytes}
-use Rattle.region_archive.specs.Promise.{wrote, write-outcome}
-use Rattle.region_archive.specs.declared.entries.Section.the-variants as Section
+use Rattle.region_archive.specs.RecordFields.{section-bytes}
+use Rattle.region_archive.specs.Promise.{archived, write-outcome}
+use Rattle.region_archive.specs.declared.record_fields.Section.the-variants as Section
 use Rattle.region_archive.specs.declared.Written.{Written}
 use Rattle.region_archive.specs.declared.Written.the-variants as Written
-use Rattle.region_archive.proofs.Pieces.{big-length, each-length}
+use Rattle.region_archive.proofs.Pieces.{big-length, concat-length}
 use Rattle.region_archive.proofs.Records.{body-sections}
 
 -- regions take one byte each, and one for their count
 pub regions-size : (rs : List ℕ) → length (counted (big 1) rs) ≡ 1 + length rs
-regions-size rs = omega (arith, each-length (big 1) 1 (big-length 1) rs)
+regions-size rs = omega (arith, concat-length (big 1) 1 (big-length 1) rs)
 
 -- a body is as long as its regions and its sections
 pub body-size : (m : Model)
@@ -44,12 +44,12 @@ unfolding image
 image-pieces m = ap (λ (l : List ℕ). version ∷ (big 4 (length (body m)) ++ l)) (sym (body-sections m))
 
 -- the image was written at the buffer's start
-pub wrote-image : (m : Model) {old new : List ℕ} {end : ℕ} → Wrote old new 0 (image m) end → wrote (Written.Bytes end) new ≡ write-outcome m old
+pub wrote-image : (m : Model) {old new : List ℕ} {end : ℕ} → WrittenAt old new 0 (image m) end → archived (Written.Bytes end) new ≡ write-outcome m old
 wrote-image m {old} {new} {end} w =
     let e : end ≡ length (image m) = w .ends ∙ zero-add (length (image m)) in
     let f : new ≡ image m ++ drop (length (image m)) old = w .shape ∙ ap (λ (n : ℕ). image m ++ drop n old) e in
-    rw (le-leb (length (image m)) (length old) (omega (arith, w .ends, w .room))) (λ i. wrote (Written.Bytes (e i)) (f i))
+    rw (le-leb (length (image m)) (length old) (omega (arith, w .ends, w .room))) (λ i. archived (Written.Bytes (e i)) (f i))
 
 -- the image has no place
-pub no-image : (m : Model) (old : List ℕ) → length old < length (image m) → wrote (Written.Refused no-place) old ≡ write-outcome m old
+pub no-image : (m : Model) (old : List ℕ) → length old < length (image m) → archived (Written.Refused no-place) old ≡ write-outcome m old
 no-image m old h = rw (lt-leb (length (image m)) (length old) h)

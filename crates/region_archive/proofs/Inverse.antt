@@ -19,7 +19,7 @@ use Rattle.region_graph.proofs.Storing.{meaning-injective}
 use Rattle.region_routes.specs.Hooks.{Outcome, written, judged}
 use Rattle.region_archive.specs.Image.{image}
 use Rattle.region_archive.specs.File.{FileMeaning, means, means-none, read-questions, read-number}
-use Rattle.region_archive.specs.Promise.{wrote, write-outcome, ReadAs, Reads, ReadsOver}
+use Rattle.region_archive.specs.Promise.{archived, write-outcome, ReadAs, Reads, ReadsOver}
 use Rattle.region_archive.specs.declared.Written.{Written}
 use Rattle.region_archive.specs.declared.Written.the-variants as Written
 use Rattle.region_archive.proofs.FileReads.{accepted}
@@ -52,12 +52,12 @@ abbrev is-bytes : Written → Bool
 is-bytes (Written.Bytes n) = true
 is-bytes (Written.Refused n) = false
 
-wrote-image : (m : Model) (entry exit : List ℕ) (n : ℕ) → _≡_ {A = Outcome Written} (wrote (Written.Bytes n) exit) (write-outcome m entry) → image m ≡ take n exit
+wrote-image : (m : Model) (entry exit : List ℕ) (n : ℕ) → _≡_ {A = Outcome Written} (archived (Written.Bytes n) exit) (write-outcome m entry) → image m ≡ take n exit
 wrote-image m entry exit n w = by (leb (length (image m)) (length entry)) w
   where
     by : (b : Bool)
-        → _≡_ {A = Outcome Written} (wrote (Written.Bytes n) exit)
-        (judged Written.Refused (first-no (ask no-place b ∷ [])) (wrote (Written.Bytes (length (image m))) (written (image m) entry)) entry)
+        → _≡_ {A = Outcome Written} (archived (Written.Bytes n) exit)
+        (judged Written.Refused (first-no (ask no-place b ∷ [])) (archived (Written.Bytes (length (image m))) (written (image m) entry)) entry)
         → image m ≡ take n exit
     by true w =
         sym
@@ -66,7 +66,7 @@ wrote-image m entry exit n w = by (leb (length (image m)) (length entry)) w
     by false w = false-true (sym (ap (λ (o : Outcome Written). is-bytes (o .answer)) w))
 
 -- what was written is read back as the record that it was written from
-pub write-read : (g : Graph) → Valid g → (entry exit : List ℕ) (n : ℕ) → _≡_ {A = Outcome Written} (wrote (Written.Bytes n) exit) (write-outcome (meaning g) entry)
+pub write-read : (g : Graph) → Valid g → (entry exit : List ℕ) (n : ℕ) → _≡_ {A = Outcome Written} (archived (Written.Bytes n) exit) (write-outcome (meaning g) entry)
     → {r : Changed} → Reads (take n exit) r → (r .number ≡ not-refused) × (r .graph ≡ g)
 write-read g v entry exit n w {r} a =
     let q = image-accepted a (meaning g) (v .good) (wrote-image (meaning g) entry exit n w) in
@@ -74,7 +74,7 @@ write-read g v entry exit n w {r} a =
 
 -- what was read is written as the bytes that it was read from
 pub read-write : {s : List ℕ} {r : Changed} → Reads s r → r .number ≡ not-refused → (entry : List ℕ) → length s ≤ length entry
-    → write-outcome (meaning (r .graph)) entry ≡ wrote (Written.Bytes (length s)) (written s entry)
+    → write-outcome (meaning (r .graph)) entry ≡ archived (Written.Bytes (length s)) (written s entry)
 read-write {s} {r} a e entry h =
     let i = accepted-image a e in
     rw (i, le-leb (length s) (length entry) h) refl

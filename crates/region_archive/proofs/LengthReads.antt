@@ -7,7 +7,7 @@ use native.Mathlib.Omega.{arith}
 use borrow.Author.Tests.{not-true, not-false}
 use lib.ListN.{length, drop, length-drop}
 use Rattle.region_archive.specs.Bytes.{big}
-use Rattle.region_archive.specs.Rows.{Parsed, Unparsed}
+use Rattle.region_archive.specs.Parsing.{Parsed, Unparsed}
 use Rattle.region_archive.specs.Sections.{LengthStands, LengthOr, LengthRead}
 use Rattle.region_archive.specs.declared.sections.LengthAt.{LengthAt}
 use Rattle.region_archive.proofs.Delimits.{big-same}

@@ -6,7 +6,7 @@ pub mod Writes
 pub mod Fits
 pub mod Placed
 pub mod Sizes
-pub mod Answers
+pub mod CountedReads
 pub mod FieldLaws
 pub mod RecordLaws
 pub mod Records

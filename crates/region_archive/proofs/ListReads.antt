@@ -7,17 +7,17 @@ use native.Mathlib.Numerals.{add-one}
 use native.Mathlib.Omega.{arith}
 use lib.ListN.{length, take, drop, getD, set, length-set, length-drop}
 use lib.Seq.{length-take-le, getD-set-same, getD-set-other}
-use Rattle.region_graph.specs.Size.{most-listed, all-sign}
+use Rattle.region_graph.specs.Size.{most-listed, everything-sign}
 use Rattle.region_graph.specs.Model.{Part, Word, Numbered}
 use Rattle.region_graph.specs.Flat.{FlatPart}
 use Rattle.region_graph.proofs.Lists.{false-true}
 use Rattle.region_archive.specs.Bytes.{big, counted}
 use Rattle.region_archive.specs.Image.{part-bytes}
-use Rattle.region_archive.specs.Rows.{Parsed, Unparsed, Stands, StandsOr}
-use Rattle.region_archive.specs.Entries.{PartGood}
+use Rattle.region_archive.specs.Parsing.{Parsed, Unparsed, ParsedInto, AnswerInto}
+use Rattle.region_archive.specs.RecordFields.{PartGood}
 use Rattle.region_archive.proofs.Delimits.{Going, NoNext, big-same, head-same, going-none, going-more, row-parsed, row-stuck}
 use Rattle.region_archive.proofs.Digits.{drop-byte}
-use Rattle.region_archive.proofs.Answers.{Count, count-byte, take-set}
+use Rattle.region_archive.proofs.CountedReads.{Count, count-byte, take-set}
 
 drop-set : {A : Type 0} (l : List A) (n : ℕ) (x : A) → drop 1 (set l (n + 1) x) ≡ set (drop 1 l) n x
 drop-set [] n x = refl
@@ -58,7 +58,7 @@ module _ (most : ℕ) where
     length-is : length (take n (drop 1 row)) ≡ n
     length-is = length-take-le n (drop 1 row) (omega (arith, length-drop 1 row, g .size-is))
 
-    pub list-end : n ≡ total → Stands (Numbered most) (counted (big 4)) s at (λ xs. FlatPart row 0 (Part.listed xs)) to
+    pub list-end : n ≡ total → ParsedInto (Numbered most) (counted (big 4)) s at (λ xs. FlatPart row 0 (Part.listed xs)) to
     list-end e = record {
       value = take n (drop 1 row);
       parsed =
@@ -79,21 +79,21 @@ not-everything s at u r e =
 
 -- a part that stands at a place, by its first byte
 module _ (most : ℕ) (few : most ≤ most-listed) (all : Bool) (s : List ℕ) (at : ℕ) where
-  pub part-sign : drop at s ≡ 255 ∷ drop (at + 1) s → at < length s → (row : List ℕ) → getD row 0 0 ≡ all-sign
-      → StandsOr (PartGood most all) (part-bytes (big 4)) s at all (FlatPart row 0) (at + 1)
+  pub part-sign : drop at s ≡ 255 ∷ drop (at + 1) s → at < length s → (row : List ℕ) → getD row 0 0 ≡ everything-sign
+      → AnswerInto (PartGood most all) (part-bytes (big 4)) s at all (FlatPart row 0) (at + 1)
   part-sign e h row f = by all refl
     where
       other : all ≡ false → (p : Part) (r : List ℕ) → PartGood most all p → drop at s ≡ part-bytes (big 4) p ++ r → ⊥
       other b (Part.listed xs) r g k = omega (arith, g .few, head-same (sym e ∙ k))
       other b Part.everything r g k = false-true (sym b ∙ g)
 
-      by : (b : Bool) → all ≡ b → StandsOr (PartGood most all) (part-bytes (big 4)) s at b (FlatPart row 0) (at + 1)
+      by : (b : Bool) → all ≡ b → AnswerInto (PartGood most all) (part-bytes (big 4)) s at b (FlatPart row 0) (at + 1)
       by true b = record { value = Part.everything; parsed = record { is-good = b; shape = e; ends = refl; room = omega arith }; put = f }
       by false b = other b
 
   pub part-from-list : ((r : List ℕ) → drop at s ≡ 255 ∷ r → ⊥) → (row : List ℕ) (ok : Bool) (next : ℕ)
-      → StandsOr (Numbered most) (counted (big 4)) s at ok (λ xs. FlatPart row 0 (Part.listed xs)) next
-      → StandsOr (PartGood most all) (part-bytes (big 4)) s at ok (FlatPart row 0) next
+      → AnswerInto (Numbered most) (counted (big 4)) s at ok (λ xs. FlatPart row 0 (Part.listed xs)) next
+      → AnswerInto (PartGood most all) (part-bytes (big 4)) s at ok (FlatPart row 0) next
   part-from-list u row true next a =
       let p = a .parsed in
       record {

@@ -5,12 +5,12 @@ use mathlib.Core.List.{List, [], _∷_, _++_}
 use Prim.Native.Nat.{ℕ, _+_, _≤_, _<_}
 use lib.ListN.{length, take}
 use Rattle.region_graph.specs.Size.{regions}
-use Rattle.region_graph.specs.Lists.{keep, count-from, member}
+use Rattle.region_graph.specs.Lists.{keep, count-from, member, concat-map}
 use Rattle.region_graph.specs.Sets.{has, set-of, members}
 use Rattle.region_graph.specs.Record.{Valid, meaning}
 use Rattle.region_graph.specs.declared.Graph.{Graph}
 use Rattle.region_graph.proofs.Storing.{regions-stored}
-use Rattle.region_archive.specs.Bytes.{big, each}
+use Rattle.region_archive.specs.Bytes.{big}
 use Rattle.region_archive.proofs.Pieces.{below-all, below-took, below-left, below-byte}
 
 -- the members of a set below i
@@ -36,6 +36,6 @@ module _ (g : Graph) (v : Valid g) {x : ℕ} (e : x ≡ set-of (λ r. member r (
   met-all i h = below-all (has x) regions i h ∙ set-members
 
   -- a region is within the bytes of all
-  pub met-byte : (i : ℕ) → i < regions → has x i ≡ true → length (each (big 1) (met x i)) + 1 ≤ length (each (big 1) (meaning g .regions))
+  pub met-byte : (i : ℕ) → i < regions → has x i ≡ true → length (concat-map (big 1) (met x i)) + 1 ≤ length (concat-map (big 1) (meaning g .regions))
   unfolding members
-  met-byte i h t = subst (λ (rs : List ℕ). length (each (big 1) (met x i)) + 1 ≤ length (each (big 1) rs)) set-members (below-byte (has x) regions i h t)
+  met-byte i h t = subst (λ (rs : List ℕ). length (concat-map (big 1) (met x i)) + 1 ≤ length (concat-map (big 1) rs)) set-members (below-byte (has x) regions i h t)

@@ -15,14 +15,14 @@ use Rattle.region_graph.specs.Calls.{first-no, run}
 use Rattle.region_graph.proofs.Lists.{all-map}
 use Rattle.region_routes.specs.Table.{graph-g}
 use Rattle.region_archive.specs.Bounds.{part-bound, bundle-bound, connection-bound}
-use Rattle.region_archive.specs.Bytes.{big, each, counted}
+use Rattle.region_archive.specs.Bytes.{big, counted}
 use Rattle.region_archive.specs.Image.{part-bytes, body, image}
 use Rattle.region_archive.specs.File.{length-field, front-questions}
-use Rattle.region_archive.specs.Rows.{by-key}
-use Rattle.region_archive.specs.Entries.{Elem, key, most, LegalElem, elements, record-bytes, section-bytes}
-use Rattle.region_archive.specs.declared.entries.Section.{Section}
-use Rattle.region_archive.specs.declared.entries.Section.the-variants as Section
-use Rattle.region_archive.proofs.Pieces.{big-length, each-length, each-most}
+use Rattle.region_archive.specs.Parsing.{by-key}
+use Rattle.region_archive.specs.RecordFields.{Elem, key, most, LegalElem, elements, record-bytes, section-bytes}
+use Rattle.region_archive.specs.declared.record_fields.Section.{Section}
+use Rattle.region_archive.specs.declared.record_fields.Section.the-variants as Section
+use Rattle.region_archive.proofs.Pieces.{big-length, concat-length, concat-most}
 use Rattle.region_archive.proofs.Delimits.{Delimits, big-same, counted-same}
 use Rattle.region_archive.proofs.RecordLaws.{element-same, open-part, part-length}
 use Rattle.region_archive.proofs.Records.{bundle-record, connection-record}
@@ -60,7 +60,7 @@ one-image m n h g e = body-same m n [] [] h g (sym (image-body m) ∙ ap (drop 5
 
 -- a list takes one byte, and four for each number
 list-length : (xs : List ℕ) → length (counted (big 4) xs) ≡ 1 + length xs * 4
-list-length xs = omega (arith, each-length (big 4) 4 (big-length 4) xs)
+list-length xs = omega (arith, concat-length (big 4) 4 (big-length 4) xs)
 
 -- a legal part is within its bound
 part-most : (p : Part) → NumberedPart p → length (part-bytes (big 4) p) ≤ part-bound
@@ -96,7 +96,7 @@ record-most Section.Connections rs c h =
 section-most : (k : Section) (m : Model) → Legal m → length (section-bytes k m) ≤ 1 + most k * record-limit k
 section-most k m h =
     let r = legal-rows m h .1 k in
-    omega (arith, each-most (LegalElem k (m .regions)) (record-bytes k) (record-limit k) (record-most k (m .regions)) (elements k m) (r .each), mul-le-mul-right (record-limit k) (r .few))
+    omega (arith, concat-most (LegalElem k (m .regions)) (record-bytes k) (record-limit k) (record-most k (m .regions)) (elements k m) (r .each), mul-le-mul-right (record-limit k) (r .few))
 
 -- no image is longer than document 01 says
 pub image-bound : (m : Model) → Legal m → length (image m) ≤ 14248

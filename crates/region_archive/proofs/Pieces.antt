@@ -1,4 +1,4 @@
--- Laws of `All`, `Ascends`, `keep`, `each`, `bytes-to` and `big`, for any element.
+-- Laws of `All`, `Ascends`, `keep`, `concat-map`, `bytes-to` and `big`, for any element.
 use mathlib.Core.Path.{_≡_, refl, sym, ap, _∙_}
 use mathlib.Core.Bool.{Bool, true, false}
 use mathlib.Core.List.{List, [], _∷_, _++_, append-nil, append-assoc, map}
@@ -10,11 +10,11 @@ use native.Mathlib.Omega.{arith}
 use lib.ListN.{length, getD, take, drop, length-append, take-append-drop}
 use lib.Seq.{take-suc, take-all}
 use borrow.Author.Tests.{lt-ltb, ltb-true}
-use Rattle.region_graph.specs.Lists.{All, keep, count-from, ascends}
+use Rattle.region_graph.specs.Lists.{All, keep, count-from, ascends, concat-map}
 use Rattle.region_graph.proofs.Lists.{and-yes, and-fst, and-snd, keep-append, keep-took, keep-left}
-use Rattle.region_archive.specs.Bytes.{big, each}
-use Rattle.region_archive.specs.Rows.{by-key}
-use Rattle.region_archive.specs.Entries.{bytes-to}
+use Rattle.region_archive.specs.Bytes.{big}
+use Rattle.region_archive.specs.Parsing.{by-key}
+use Rattle.region_archive.specs.RecordFields.{bytes-to}
 
 -- the first key is n or more, and each next key is above the one before it
 abbrev pub Ascends : {A : Type 0} → (A → ℕ) → ℕ → List A → Type 0
@@ -106,36 +106,32 @@ pub div-next : (n k : ℕ) → n / 256 ^ k / 256 ≡ n / 256 ^ suc k
 div-next n k = div-div-eq-div-mul n (256 ^ k) 256 ∙ ap (λ (p : ℕ). n / p) (sym (pow-suc 256 k))
 
 module _ {A : Type 0} (f : A → List ℕ) where
-  pub each-append : (xs ys : List A) → each f (xs ++ ys) ≡ each f xs ++ each f ys
-  each-append [] ys = refl
-  each-append (x ∷ xs) ys = ap (λ (l : List ℕ). f x ++ l) (each-append xs ys) ∙ sym (append-assoc (f x) (each f xs) (each f ys))
+  pub concat-append : (xs ys : List A) → concat-map f (xs ++ ys) ≡ concat-map f xs ++ concat-map f ys
+  concat-append [] ys = refl
+  concat-append (x ∷ xs) ys = ap (λ (l : List ℕ). f x ++ l) (concat-append xs ys) ∙ sym (append-assoc (f x) (concat-map f xs) (concat-map f ys))
 
-  pub each-snoc : (xs : List A) (x : A) → each f (xs ++ (x ∷ [])) ≡ each f xs ++ f x
-  each-snoc xs x = each-append xs (x ∷ []) ∙ ap (λ (l : List ℕ). each f xs ++ l) (append-nil (f x))
+  pub concat-snoc : (xs : List A) (x : A) → concat-map f (xs ++ (x ∷ [])) ≡ concat-map f xs ++ f x
+  concat-snoc xs x = concat-append xs (x ∷ []) ∙ ap (λ (l : List ℕ). concat-map f xs ++ l) (append-nil (f x))
 
-  pub each-next : (l : List A) (i : ℕ) (d : A) → i < length l → each f (take (i + 1) l) ≡ each f (take i l) ++ f (getD l i d)
-  each-next l i d h = rw (add-one, take-suc l i d h) (each-snoc (take i l) (getD l i d))
+  pub concat-next : (l : List A) (i : ℕ) (d : A) → i < length l → concat-map f (take (i + 1) l) ≡ concat-map f (take i l) ++ f (getD l i d)
+  concat-next l i d h = rw (add-one, take-suc l i d h) (concat-snoc (take i l) (getD l i d))
 
   -- elements of one width
-  pub each-length : (w : ℕ) → ((x : A) → length (f x) ≡ w) → (xs : List A) → length (each f xs) ≡ length xs * w
-  each-length w h [] = sym (zero-mul w)
-  each-length w h (x ∷ xs) = rw (length-append, h, each-length w h xs, suc-mul) (omega arith)
-
-pub each-map : {A B : Type 0} (f : B → List ℕ) (g : A → B) (xs : List A) → each f (map g xs) ≡ each (λ x. f (g x)) xs
-each-map f g [] = refl
-each-map f g (x ∷ xs) = ap (λ (l : List ℕ). f (g x) ++ l) (each-map f g xs)
+  pub concat-length : (w : ℕ) → ((x : A) → length (f x) ≡ w) → (xs : List A) → length (concat-map f xs) ≡ length xs * w
+  concat-length w h [] = sym (zero-mul w)
+  concat-length w h (x ∷ xs) = rw (length-append, h, concat-length w h xs, suc-mul) (omega arith)
 
 -- an element below n is within the bytes of the first n
-pub each-within : {A : Type 0} (f : A → List ℕ) (l : List A) (i n : ℕ) (d : A) → i < n → n ≤ length l → length (each f (take i l)) + length (f (getD l i d)) ≤ length (each f (take n l))
-each-within f [] i n d h k = absurd (omega arith)
-each-within f (x ∷ l) i zero d h k = absurd (omega arith)
-each-within f (x ∷ l) zero (suc n) d h k = rw length-append (omega arith)
-each-within f (x ∷ l) (suc i) (suc n) d h k = omega (arith, each-within f l i n d (omega arith) (omega arith), length-append (f x) (each f (take i l)), length-append (f x) (each f (take n l)))
+pub concat-within : {A : Type 0} (f : A → List ℕ) (l : List A) (i n : ℕ) (d : A) → i < n → n ≤ length l → length (concat-map f (take i l)) + length (f (getD l i d)) ≤ length (concat-map f (take n l))
+concat-within f [] i n d h k = absurd (omega arith)
+concat-within f (x ∷ l) i zero d h k = absurd (omega arith)
+concat-within f (x ∷ l) zero (suc n) d h k = rw length-append (omega arith)
+concat-within f (x ∷ l) (suc i) (suc n) d h k = omega (arith, concat-within f l i n d (omega arith) (omega arith), length-append (f x) (concat-map f (take i l)), length-append (f x) (concat-map f (take n l)))
 
 -- elements of at most w bytes each
-pub each-most : {A : Type 0} (P : A → Type 0) (f : A → List ℕ) (w : ℕ) → ((x : A) → P x → length (f x) ≤ w) → (xs : List A) → All P xs → length (each f xs) ≤ length xs * w
-each-most P f w h [] a = omega arith
-each-most P f w h (x ∷ xs) a = rw (length-append, suc-mul) (omega (arith, h x (a .0), each-most P f w h xs (a .1)))
+pub concat-most : {A : Type 0} (P : A → Type 0) (f : A → List ℕ) (w : ℕ) → ((x : A) → P x → length (f x) ≤ w) → (xs : List A) → All P xs → length (concat-map f xs) ≤ length xs * w
+concat-most P f w h [] a = omega arith
+concat-most P f w h (x ∷ xs) a = rw (length-append, suc-mul) (omega (arith, h x (a .0), concat-most P f w h xs (a .1)))
 
 -- the numbers below k, by place
 pub count-length : (n k : ℕ) → length (count-from n k) ≡ k
@@ -177,9 +173,9 @@ module _ (p : ℕ → Bool) (k i : ℕ) (h : i < k) where
       )
 
   -- a number that passes is within the bytes of all that do
-  pub below-byte : p i ≡ true → length (each (big 1) (keep p (take i (count-from 0 k)))) + 1 ≤ length (each (big 1) (keep p (count-from 0 k)))
+  pub below-byte : p i ≡ true → length (concat-map (big 1) (keep p (take i (count-from 0 k)))) + 1 ≤ length (concat-map (big 1) (keep p (count-from 0 k)))
   below-byte e =
-      omega (arith, below-within e, each-length (big 1) 1 (big-length 1) (keep p (take i (count-from 0 k))), each-length (big 1) 1 (big-length 1) (keep p (count-from 0 k)))
+      omega (arith, below-within e, concat-length (big 1) 1 (big-length 1) (keep p (take i (count-from 0 k))), concat-length (big 1) 1 (big-length 1) (keep p (count-from 0 k)))
 
 -- the first fields of a value, in bytes
 module _ {A : Type 0} (bytes : ℕ → A → List ℕ) where

@@ -13,10 +13,10 @@ use Rattle.region_graph.specs.declared.bundles.StoredBundle.{StoredBundle}
 use Rattle.region_graph.specs.declared.connections.StoredConnection.{StoredConnection}
 use Rattle.region_graph.proofs.Arrays.{Filled, filled-at, filled-means}
 use Rattle.region_graph.proofs.Storing.{bundles-each, connections-each, short-connections, bundles-back, connections-back, filled-bundles, filled-connections}
-use Rattle.region_archive.specs.Entries.{Elem, BundleFits, ConnectionFits, EntryIs, elements}
-use Rattle.region_archive.specs.declared.entries.Entry.{Entry}
-use Rattle.region_archive.specs.declared.entries.Section.{Section}
-use Rattle.region_archive.specs.declared.entries.Section.the-variants as Section
+use Rattle.region_archive.specs.RecordFields.{Elem, BundleFits, ConnectionFits, ValuesAre, elements}
+use Rattle.region_archive.specs.declared.record_fields.FieldValues.{FieldValues}
+use Rattle.region_archive.specs.declared.record_fields.Section.{Section}
+use Rattle.region_archive.specs.declared.record_fields.Section.the-variants as Section
 use Rattle.region_archive.proofs.Fits.{bundle-fits, connection-fits, bundle-short, connection-short}
 
 -- the i-th element of a section
@@ -67,12 +67,12 @@ module _ {g : Graph} {s : Section} {bs : List StoredBundle} {cs : List StoredCon
     pub bundle-fit : (e : StoredBundle) → BundleFits (getD bs i e)
     bundle-fit e = subst BundleFits (sym (filled-at (bundles-placed in-bundles) i e no-bundle l)) (bundle-fits _ (bundle-short g (q .valid) i))
 
-    pub bundle-element : (e : StoredBundle) {r t : Entry} → EntryIs Section.Bundles r (bundle-in (getD bs i e)) → t ≡ r → EntryIs s t (element-at s (placed-model bs cs n) i)
+    pub bundle-element : (e : StoredBundle) {r t : FieldValues} → ValuesAre Section.Bundles r (bundle-in (getD bs i e)) → t ≡ r → ValuesAre s t (element-at s (placed-model bs cs n) i)
     bundle-element e {r} {t} h d =
-        subst (λ (u : Section). EntryIs u t (element-at u (placed-model bs cs n) i)) (sym k)
-        (subst (EntryIs Section.Bundles t)
+        subst (λ (u : Section). ValuesAre u t (element-at u (placed-model bs cs n) i)) (sym k)
+        (subst (ValuesAre Section.Bundles t)
         (filled-means (bundles-placed in-bundles) bundle-in (bundles-each (meaning g .bundles)) i e no-bundle l ∙ ap (λ b. getD b i no-bundle) (sym (placed-elements Section.Bundles in-bundles)))
-        (subst (λ (u : Entry). EntryIs Section.Bundles u (bundle-in (getD bs i e))) (sym d) h))
+        (subst (λ (u : FieldValues). ValuesAre Section.Bundles u (bundle-in (getD bs i e))) (sym d) h))
 
   module _ (k : s ≡ Section.Connections) where
     in-connections : Placed g Section.Connections bs cs n
@@ -85,9 +85,9 @@ module _ {g : Graph} {s : Section} {bs : List StoredBundle} {cs : List StoredCon
     connection-fit e =
         subst ConnectionFits (sym (filled-at (connections-placed in-connections) i e no-connection l)) (connection-fits _ (connection-short g (q .valid) i))
 
-    pub connection-element : (e : StoredConnection) {r t : Entry} → EntryIs Section.Connections r (connection-in (getD cs i e)) → t ≡ r → EntryIs s t (element-at s (placed-model bs cs n) i)
+    pub connection-element : (e : StoredConnection) {r t : FieldValues} → ValuesAre Section.Connections r (connection-in (getD cs i e)) → t ≡ r → ValuesAre s t (element-at s (placed-model bs cs n) i)
     connection-element e {r} {t} h d =
-        subst (λ (u : Section). EntryIs u t (element-at u (placed-model bs cs n) i)) (sym k)
-        (subst (EntryIs Section.Connections t)
+        subst (λ (u : Section). ValuesAre u t (element-at u (placed-model bs cs n) i)) (sym k)
+        (subst (ValuesAre Section.Connections t)
         (filled-means (connections-placed in-connections) connection-in (connections-each (meaning g .connections) (short-connections (q .valid .good))) i e no-connection l ∙ ap (λ c. getD c i no-connection) (sym (placed-elements Section.Connections in-connections)))
-        (subst (λ (u : Entry). EntryIs Section.Connections u (connection-in (getD cs i e))) (sym d) h))
+        (subst (λ (u : FieldValues). ValuesAre Section.Connections u (connection-in (getD cs i e))) (sym d) h))

@@ -16,34 +16,34 @@ use Rattle.region_graph.specs.declared.Place.{Place}
 use Rattle.region_graph.specs.declared.Place.the-variants.{Within, Nowhere}
 use Rattle.region_graph.proofs.Legal.{all-yes, first-no-stops, first-no-goes-on}
 use Rattle.region_routes.specs.Chosen.{sees}
-use Rattle.region_routes.specs.Hooks.{item, installed, sees-from, stands-in}
+use Rattle.region_routes.specs.Hooks.{item, is-installed, sees-from, stands-in}
 use Rattle.region_routes.proofs.Judging.{stands-sees}
-use Rattle.region_archive.specs.File.{FileMeaning, sets, read-questions, read-number}
-use Rattle.region_archive.specs.Promise.{seen, hidden, query-answer}
+use Rattle.region_archive.specs.File.{FileMeaning, read-model, read-questions, read-number}
+use Rattle.region_archive.specs.Promise.{seen-number, hidden-number, query-answer}
 
 -- questions 12 and 13
 abbrev asked : Place → Bool → List Question
-asked p b = ask not-installed (installed p) ∷ ask not-a-kind b ∷ []
+asked p b = ask not-installed (is-installed p) ∷ ask not-a-kind b ∷ []
 
 module _ {s : List ℕ} (f : FileMeaning s) (location kind number : ℕ) where
   -- the answer where the first question answered no has the number n
   abbrev answer-by : Place → ℕ → ℕ
-  answer-by p n = pick (eqb n not-refused) (pick (sees-from (sets f) (item kind number) p) seen hidden) n
+  answer-by p n = pick (eqb n not-refused) (pick (sees-from (read-model f) (item kind number) p) seen-number hidden-number) n
 
   -- a refused read
   pub query-refused : {k : ℕ} → k ≡ read-number f → (k ≡ not-refused → ⊥) → k ≡ query-answer f location kind number
   query-refused {k} e u =
-      let p = place-of (sets f .bundles) location in
+      let p = place-of (read-model f .bundles) location in
       let q : first-no (read-questions f ++ asked p (leb kind 2)) ≡ k =
       first-no-stops (read-questions f) (asked p (leb kind 2)) (sym e) (ne-eqb k not-refused u) in
-      sym (ap (answer-by p) q ∙ ap (λ (b : Bool). pick b (pick (sees-from (sets f) (item kind number) p) seen hidden) k) (ne-eqb k not-refused u))
+      sym (ap (answer-by p) q ∙ ap (λ (b : Bool). pick b (pick (sees-from (read-model f) (item kind number) p) seen-number hidden-number) k) (ne-eqb k not-refused u))
 
   -- an accepted one, the model of the record that it gave, and the place of the location there
-  module _ (e : not-refused ≡ read-number f) {m : Model} (g : m ≡ sets f) {p : Place} (q : place-of (m .bundles) location ≡ p) where
+  module _ (e : not-refused ≡ read-number f) {m : Model} (g : m ≡ read-model f) {p : Place} (q : place-of (m .bundles) location ≡ p) where
     accepted : query-answer f location kind number ≡ answer-by p (first-no (asked p (leb kind 2)))
     accepted =
-        ap (answer-by (place-of (sets f .bundles) location))
-        (first-no-goes-on (read-questions f) (asked (place-of (sets f .bundles) location) (leb kind 2))
+        ap (answer-by (place-of (read-model f .bundles) location))
+        (first-no-goes-on (read-questions f) (asked (place-of (read-model f .bundles) location) (leb kind 2))
         (all-yes (read-questions f) (refl, (refl, (refl, tt))) (sym e)))
         ∙ ap (λ (x : Place). answer-by x (first-no (asked x (leb kind 2)))) (ap (λ (n : Model). place-of (n .bundles) location) (sym g) ∙ q)
 
@@ -61,10 +61,10 @@ module _ {s : List ℕ} (f : FileMeaning s) (location kind number : ℕ) where
 
       -- whether the region is in the set of those that see the item
       pub query-told : kind ≤ 2 → Legal m → {set : ℕ} → set ≡ set-of (sees m (item kind number)) → {b t : Bool} → b ≡ has set r → b ≡ t
-          → pick t seen hidden ≡ query-answer f location kind number
+          → pick t seen-number hidden-number ≡ query-answer f location kind number
       query-told h l {set} d {b} {t} a c =
           let i = item kind number in
           let v : has set r ≡ sees m i r =
           ap (λ (x : ℕ). has x r) d ∙ ap (stands-in (set-of (sees m i))) (sym (q ∙ w)) ∙ stands-sees m i l location ∙ ap (sees-from m i) (q ∙ w) in
-          let u : t ≡ sees (sets f) i r = sym c ∙ a ∙ v ∙ ap (λ (n : Model). sees n i r) g in
-          ap (λ (x : Bool). pick x seen hidden) u ∙ sym (within _ (le-leb kind 2 h))
+          let u : t ≡ sees (read-model f) i r = sym c ∙ a ∙ v ∙ ap (λ (n : Model). sees n i r) g in
+          ap (λ (x : Bool). pick x seen-number hidden-number) u ∙ sym (within _ (le-leb kind 2 h))

@@ -14,10 +14,10 @@ use Rattle.region_graph.specs.declared.Graph.{Graph}
 use Rattle.region_graph.proofs.Lists.{all-map}
 use Rattle.region_graph.proofs.Legal.{legal-nothing, legal-run}
 use Rattle.region_graph.proofs.Storing.{stores-valid}
-use Rattle.region_archive.specs.Rows.{by-key}
-use Rattle.region_archive.specs.Entries.{Elem, key, most, LegalElem, elements}
-use Rattle.region_archive.specs.declared.entries.Section.{Section}
-use Rattle.region_archive.specs.declared.entries.Section.the-variants as Section
+use Rattle.region_archive.specs.Parsing.{by-key}
+use Rattle.region_archive.specs.RecordFields.{Elem, key, most, LegalElem, elements}
+use Rattle.region_archive.specs.declared.record_fields.Section.{Section}
+use Rattle.region_archive.specs.declared.record_fields.Section.the-variants as Section
 use Rattle.region_archive.proofs.Pieces.{Ascends, ascends-keys, keys-ascend, floor-of, all-append, all-front, all-back, ascends-back}
 use Rattle.region_archive.proofs.Taking.{filled, call, only, region-taken, region-joined, taken, joined, legal-rows, rows-legal}
 

@@ -10,10 +10,10 @@ use lib.ListN.{length, drop}
 use lib.Seq.{drop-at}
 use borrow.Author.Tests.{ne-eqb}
 use Rattle.region_graph.specs.Size.{regions}
-use Rattle.region_graph.specs.Lists.{pick, All, member}
+use Rattle.region_graph.specs.Lists.{pick, All, member, concat-map}
 use Rattle.region_graph.specs.Model.{Model, Bundle, Part, Connection, Word, NumberedPart, LegalBundle, LegalConnection, Legal}
 use Rattle.region_graph.proofs.Lists.{all-map, member-all}
-use Rattle.region_archive.specs.Bytes.{big, each, counted, sized}
+use Rattle.region_archive.specs.Bytes.{big, counted, sized}
 use Rattle.region_archive.specs.Image.{version, part-bytes, bundle-fields, connection-fields, body}
 use Rattle.region_archive.proofs.Pieces.{big-length}
 use Rattle.region_archive.proofs.Delimits.{Delimits, mod-step, pow-pos}
@@ -63,11 +63,11 @@ module _ {A : Type 0} where
   read-counted f (n ∷ s) = read-each f n s
 
   module _ {good : A → Type 0} {bytes : A → List ℕ} (p : Reader good bytes) where
-    each-back : (xs : List A) (r : List ℕ) → All good xs → read-each (p .read) (length xs) (each bytes xs ++ r) ≡ (xs, r)
+    concat-back : (xs : List A) (r : List ℕ) → All good xs → read-each (p .read) (length xs) (concat-map bytes xs ++ r) ≡ (xs, r)
     unfolding read-each
-    each-back [] r h = refl
-    each-back (x ∷ xs) r h =
-        ap next (ap (p .read) (append-assoc (bytes x) (each bytes xs) r) ∙ p .back x (each bytes xs ++ r) (h .0)) ∙ (λ i. (x ∷ each-back xs r (h .1) i .0, each-back xs r (h .1) i .1))
+    concat-back [] r h = refl
+    concat-back (x ∷ xs) r h =
+        ap next (ap (p .read) (append-assoc (bytes x) (concat-map bytes xs) r) ∙ p .back x (concat-map bytes xs ++ r) (h .0)) ∙ (λ i. (x ∷ concat-back xs r (h .1) i .0, concat-back xs r (h .1) i .1))
       where
         next : A × List ℕ → List A × List ℕ
         next q = (q .0 ∷ read-each (p .read) (length xs) (q .1) .0, read-each (p .read) (length xs) (q .1) .1)
@@ -75,7 +75,7 @@ module _ {A : Type 0} where
     -- a count, and as many elements
     pub read-list : Reader (All good) (counted bytes)
     unfolding read-counted
-    read-list = record { read = read-counted (p .read); back = λ xs r h. each-back xs r h }
+    read-list = record { read = read-counted (p .read); back = λ xs r h. concat-back xs r h }
 
 -- two values one after the other
 pub read-both : {A B : Type 0} {good : A → Type 0} {bytes : A → List ℕ} {good′ : B → Type 0} {bytes′ : B → List ℕ} → Reader good bytes → Reader good′ bytes′
@@ -130,7 +130,7 @@ read-part = record { read = read; back = back }
     read (n ∷ s) = pick (eqb n 255) (Part.everything, s) (Part.listed (read-each (read-number 4 .read) n s .0), read-each (read-number 4 .read) n s .1)
 
     back : (x : Part) (r : List ℕ) → FitPart x → read (part-bytes (big 4) x ++ r) ≡ (x, r)
-    back (Part.listed xs) r h = rw (ne-eqb (length xs) 255 (omega (arith, h .0))) (λ i. (Part.listed (each-back (read-number 4) xs r (h .1) i .0), each-back (read-number 4) xs r (h .1) i .1))
+    back (Part.listed xs) r h = rw (ne-eqb (length xs) 255 (omega (arith, h .0))) (λ i. (Part.listed (concat-back (read-number 4) xs r (h .1) i .0), concat-back (read-number 4) xs r (h .1) i .1))
     back Part.everything r h = refl
 
 -- a bundle, a connection and a model whose numbers fit their bytes

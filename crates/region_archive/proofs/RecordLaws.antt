@@ -13,12 +13,12 @@ use Rattle.region_graph.specs.Model.{Part, Word, Numbered, NumberedPart}
 use Rattle.region_graph.specs.Flat.{Fields, FlatPart}
 use Rattle.region_graph.proofs.Lists.{and-yes, and-fst, and-snd, member-all, false-true}
 use Rattle.region_archive.specs.Bounds.{part-bound}
-use Rattle.region_archive.specs.Bytes.{big, each}
+use Rattle.region_archive.specs.Bytes.{big}
 use Rattle.region_archive.specs.Image.{part-bytes}
-use Rattle.region_archive.specs.Entries.{bytes-to, SameTo, GoodTo, part-at, first-width, field-count, most-in, row-width, part-open, PartGood, first-good, second-good, FieldGood, field-bytes, fields-bytes, FieldSame, FlatField, FlatElem, SameFields, Elem, fields-of, record-bytes, key, LegalElem}
-use Rattle.region_archive.specs.declared.entries.Section.{Section}
-use Rattle.region_archive.specs.declared.entries.Section.the-variants as Section
-use Rattle.region_archive.proofs.Pieces.{big-length, each-length}
+use Rattle.region_archive.specs.RecordFields.{bytes-to, SameTo, GoodTo, part-at, first-width, field-count, most-in, row-width, part-open, PartGood, first-good, second-good, FieldGood, field-bytes, fields-bytes, FieldSame, FlatField, FlatElem, SameFields, Elem, fields-of, record-bytes, key, LegalElem}
+use Rattle.region_archive.specs.declared.record_fields.Section.{Section}
+use Rattle.region_archive.specs.declared.record_fields.Section.the-variants as Section
+use Rattle.region_archive.proofs.Pieces.{big-length, concat-length}
 use Rattle.region_archive.proofs.Delimits.{Delimits, big-same, counted-same, head-same, tail-same, sized-same}
 use Rattle.region_archive.proofs.FieldLaws.{to-same}
 use Rattle.region_archive.proofs.Sizes.{few-fields, narrow-first}
@@ -35,7 +35,7 @@ module _ (most : ℕ) (few : most ≤ most-listed) (all : Bool) where
 
   -- and take at most 65 bytes
   pub part-length : (p : Part) → PartGood most all p → length (part-bytes (big 4) p) ≤ part-bound
-  part-length (Part.listed xs) h = omega (arith, h .few, each-length (big 4) 4 (big-length 4) xs)
+  part-length (Part.listed xs) h = omega (arith, h .few, concat-length (big 4) 4 (big-length 4) xs)
   part-length Part.everything h = omega arith
 
 -- a list of a record has few numbers
@@ -221,10 +221,10 @@ flat-of Section.Connections row f x h g = record {
 -- the record of a legal element tells it apart
 module _ (rs : List ℕ) (small : All (λ r. r < regions) rs) where
   pub element-same : (s : Section) → Delimits (LegalElem s rs) (record-bytes s) _≡_
-  element-same s = sized-same 2 (LegalElem s rs) (λ y. fields-bytes s (fields-of s y)) _≡_ each-one
+  element-same s = sized-same 2 (LegalElem s rs) (λ y. fields-bytes s (fields-of s y)) _≡_ concat-one
     where
-      each-one : Delimits (LegalElem s rs) (λ y. fields-bytes s (fields-of s y)) _≡_
-      each-one x y r t h k e =
+      concat-one : Delimits (LegalElem s rs) (λ y. fields-bytes s (fields-of s y)) _≡_
+      concat-one x y r t h k e =
           let d = fields-same s rs 0 (fields-of s x) (fields-of s y) r t (element-good rs 0 small s x h (omega arith)) (element-good rs 0 small s y k (omega arith)) e in
           (same-element s x y (d .0), d .1)
 

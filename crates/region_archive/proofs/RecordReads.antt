@@ -12,10 +12,10 @@ use Rattle.region_graph.specs.Size.{regions}
 use Rattle.region_graph.specs.Lists.{All}
 use Rattle.region_graph.specs.Flat.{Fields}
 use Rattle.region_archive.specs.Bytes.{big}
-use Rattle.region_archive.specs.Rows.{Parsed, Unparsed, Stands, StandsOr}
-use Rattle.region_archive.specs.Entries.{bytes-to, SameTo, GoodTo, field-count, most-in, FieldGood, field-bytes, fields-bytes, FieldSame, FlatField, Elem, SameFields, fields-of, record-bytes, key, most, LegalElem}
+use Rattle.region_archive.specs.Parsing.{Parsed, Unparsed, ParsedInto, AnswerInto}
+use Rattle.region_archive.specs.RecordFields.{bytes-to, SameTo, GoodTo, field-count, most-in, FieldGood, field-bytes, fields-bytes, FieldSame, FlatField, Elem, SameFields, fields-of, record-bytes, key, most, LegalElem}
 use Rattle.region_archive.specs.Sections.{FieldRead, LengthStands}
-use Rattle.region_archive.specs.declared.entries.Section.{Section}
+use Rattle.region_archive.specs.declared.record_fields.Section.{Section}
 use Rattle.region_archive.specs.declared.sections.FieldAt.{FieldAt}
 use Rattle.region_archive.specs.declared.sections.LengthAt.{LengthAt}
 use Rattle.region_archive.proofs.Pieces.{big-length}
@@ -27,7 +27,7 @@ use Rattle.region_archive.proofs.LengthReads.{NoLength}
 -- the first j fields of a record were read into its row
 abbrev pub FieldsRead : Section → List ℕ → ℕ → ℕ → List ℕ → ℕ → List ℕ → ℕ → Type 0
 FieldsRead k rs floor j s mid row to =
-    Stands (GoodTo (FieldGood k rs floor) j) (bytes-to (field-bytes k) j) s mid (GoodTo (FlatField (most-in k) row) j) to
+    ParsedInto (GoodTo (FieldGood k rs floor) j) (bytes-to (field-bytes k) j) s mid (GoodTo (FlatField (most-in k) row) j) to
 
 module _ (k : Section) (rs : List ℕ) (floor : ℕ) (s : List ℕ) (mid : ℕ) where
   abbrev nothing-read : Fields
@@ -44,12 +44,12 @@ module _ (k : Section) (rs : List ℕ) (floor : ℕ) (s : List ℕ) (mid : ℕ) 
     abbrev Next : Fields → Type 0
     Next y = SameTo FieldSame j (p .value) y × FieldGood k rs floor j y
 
-    answer : StandsOr Next (field-bytes k j) s to (r .ok) (GoodTo (FlatField (most-in k) new) (suc j)) (r .next)
+    answer : AnswerInto Next (field-bytes k j) s to (r .ok) (GoodTo (FlatField (most-in k) new) (suc j)) (r .next)
     answer = f .answer (p .value) (p .parsed .is-good) (p .put)
 
     pub fields-more : not (r .ok) ≡ false → FieldsRead k rs floor (j + 1) s mid new (r .next)
     fields-more h =
-        let v = subst (λ (b : Bool). StandsOr Next (field-bytes k j) s to b (GoodTo (FlatField (most-in k) new) (suc j)) (r .next)) (not-false (r .ok) h) answer in
+        let v = subst (λ (b : Bool). AnswerInto Next (field-bytes k j) s to b (GoodTo (FlatField (most-in k) new) (suc j)) (r .next)) (not-false (r .ok) h) answer in
         subst (λ (i : ℕ). FieldsRead k rs floor i s mid new (r .next)) (sym (add-one j))
         (record {
           value = v .value;
@@ -59,7 +59,7 @@ module _ (k : Section) (rs : List ℕ) (floor : ℕ) (s : List ℕ) (mid : ℕ) 
         })
 
     pub fields-stuck : not (r .ok) ≡ true → Unparsed Next (field-bytes k j) s to
-    fields-stuck h = subst (λ (b : Bool). StandsOr Next (field-bytes k j) s to b (GoodTo (FlatField (most-in k) new) (suc j)) (r .next)) (not-true (r .ok) h) answer
+    fields-stuck h = subst (λ (b : Bool). AnswerInto Next (field-bytes k j) s to b (GoodTo (FlatField (most-in k) new) (suc j)) (r .next)) (not-true (r .ok) h) answer
 
 -- bytes up to a place
 module _ (s : List ℕ) (mid stop : ℕ) (h : mid ≤ stop) (l : stop ≤ length s) where

@@ -11,10 +11,10 @@ use Rattle.region_graph.specs.declared.numbers.Numbers.{Numbers}
 use Rattle.region_graph.proofs.Arrays.{getD-map-in}
 use Rattle.region_archive.specs.Bytes.{big, counted, sized}
 use Rattle.region_archive.specs.Image.{version, part-bytes, bundle-fields, connection-fields, body}
-use Rattle.region_archive.specs.Entries.{field-bytes, fields-bytes, first-width, Elem, fields-of, fields-in, EntryIs, record-bytes, section-bytes}
-use Rattle.region_archive.specs.declared.entries.Entry.{Entry}
-use Rattle.region_archive.specs.declared.entries.Section.{Section}
-use Rattle.region_archive.specs.declared.entries.Section.the-variants as Section
+use Rattle.region_archive.specs.RecordFields.{field-bytes, fields-bytes, first-width, Elem, fields-of, fields-in, ValuesAre, record-bytes, section-bytes}
+use Rattle.region_archive.specs.declared.record_fields.FieldValues.{FieldValues}
+use Rattle.region_archive.specs.declared.record_fields.Section.{Section}
+use Rattle.region_archive.specs.declared.record_fields.Section.the-variants as Section
 use Rattle.region_archive.proofs.RecordLaws.{same-bytes}
 
 -- a bundle's record is the length of its four fields and the fields
@@ -39,8 +39,8 @@ body-sections m = λ i.
     ++ (counted (λ b. sym (bundle-record b) i) (m .bundles) ++ counted (λ c. sym (connection-record c) i) (m .connections))
 
 -- a value with the fields of an element has the element's record
-pub entry-record : (s : Section) (e : Entry) (x : Elem s) → EntryIs s e x → sized 2 (fields-bytes s) (fields-in e) ≡ record-bytes s x
-entry-record s e x h = ap (λ (l : List ℕ). big 2 (length l) ++ l) (same-bytes s (fields-in e) (fields-of s x) (h .same))
+pub values-record : (s : Section) (e : FieldValues) (x : Elem s) → ValuesAre s e x → sized 2 (fields-bytes s) (fields-in e) ≡ record-bytes s x
+values-record s e x h = ap (λ (l : List ℕ). big 2 (length l) ++ l) (same-bytes s (fields-in e) (fields-of s x) (h .same))
 
 -- the bytes of the two fields that are numbers
 pub first-field : (s : Section) (f : Fields) {k : ℕ} → k ≡ 0 → field-bytes s k f ≡ big (first-width s) (f .first)
@@ -50,7 +50,7 @@ pub second-field : (s : Section) (f : Fields) {k : ℕ} → k ≡ 1 → field-by
 second-field s f e = rw e
 
 -- the bytes of a field that is a part
-pub part-field : (s : Section) (e : Entry) (k : ℕ) (d : Numbers) → 2 ≤ k → k - 2 < length (e .parts)
+pub part-field : (s : Section) (e : FieldValues) (k : ℕ) (d : Numbers) → 2 ≤ k → k - 2 < length (e .parts)
     → field-bytes s k (fields-in e) ≡ part-bytes (big 4) (part-in (getD (e .parts) (k - 2) d))
 part-field s e zero d h l = absurd (omega arith)
 part-field s e (suc zero) d h l = absurd (omega arith)

@@ -11,16 +11,16 @@ use lib.ListN.{length, take, drop, set}
 use lib.Seq.{length-take-le}
 use Rattle.region_graph.specs.Size.{regions}
 use Rattle.region_graph.specs.Lists.{member}
-use Rattle.region_graph.specs.Sets.{one, set-of, members}
-use Rattle.region_graph.proofs.Lists.{any-append, eqb-sym}
+use Rattle.region_graph.specs.Sets.{singleton, set-of, members}
+use Rattle.region_graph.proofs.Lists.{exists-append, eqb-sym}
 use Rattle.region_graph.proofs.Bits.{set-ext, set-join, set-none}
 use Rattle.region_graph.proofs.Storing.{regions-back}
 use Rattle.region_archive.specs.Bytes.{big, counted}
-use Rattle.region_archive.specs.Rows.{Parsed, Unparsed, Answer, Stands}
+use Rattle.region_archive.specs.Parsing.{Parsed, Unparsed, Answer, ParsedInto}
 use Rattle.region_archive.specs.Sections.{RegionsRead}
 use Rattle.region_archive.specs.declared.numbers.NumberAt.{NumberAt}
 use Rattle.region_archive.proofs.Delimits.{Delimits, Going, NoNext, big-same, going-none, going-more, row-parsed, row-stuck}
-use Rattle.region_archive.proofs.Answers.{count-stands, count-byte, no-count, take-set}
+use Rattle.region_archive.proofs.CountedReads.{count-stands, count-byte, no-count, take-set}
 use Rattle.region_archive.proofs.OneImage.{RegionRow}
 use Rattle.region_archive.proofs.SectionReads.{stands-or}
 
@@ -44,13 +44,13 @@ regions-start s mid h list = record { going = going-none Good (big 1) region-sam
 module _ {s : List ℕ} {mid : ℕ} {list : List ℕ} {x at least n : ℕ} (w : Regions s mid list x at least n) (room : n < length list) {region next : ℕ}
     (p : Parsed (λ m. m < 256 ^ 1) (big 1) s at region next) where
   -- one region more
-  pub regions-more : least ≤ region → region < regions → Regions s mid (set list n region) (bitOr x (one region)) next (region + 1) (n + 1)
+  pub regions-more : least ≤ region → region < regions → Regions s mid (set list n region) (bitOr x (singleton region)) next (region + 1) (n + 1)
   regions-more h l = record {
     going =
         subst (λ (xs : List ℕ). Going Good (big 1) region-same (λ n. n) regions s mid xs next (region + 1)) (sym longer)
         (going-more Good (big 1) region-same (λ n. n) regions s mid (w .going) (record { is-good = l; shape = p .shape; ends = p .ends; room = p .room }) h);
     set-is =
-        ap (λ (y : ℕ). bitOr y (one region)) (w .set-is) ∙ set-join (λ r. member r (take n list)) region
+        ap (λ (y : ℕ). bitOr y (singleton region)) (w .set-is) ∙ set-join (λ r. member r (take n list)) region
         ∙ set-ext (λ r. member r (take n list) || eqb region r) (λ r. member r (take (n + 1) (set list n region))) joined;
   }
     where
@@ -64,7 +64,7 @@ module _ {s : List ℕ} {mid : ℕ} {list : List ℕ} {x at least n : ℕ} (w : 
       joined : (r : ℕ) → r < regions → (member r (take n list) || eqb region r) ≡ member r (take (n + 1) (set list n region))
       joined r h =
           sym
-          (ap (member r) longer ∙ any-append (eqb r) (take n list) (region ∷ [])
+          (ap (member r) longer ∙ exists-append (eqb r) (take n list) (region ∷ [])
           ∙ ap (λ (b : Bool). member r (take n list) || b) (or-false (eqb r region) ∙ eqb-sym r region))
 
 module _ (s : List ℕ) (at : ℕ) where
@@ -114,7 +114,7 @@ module _ (s : List ℕ) (from : ℕ) (r : NumberAt) (a : Answer (λ m. m ≤ reg
           row-parsed Good (big 1) region-same (λ n. n) regions s from (r .number) (r .next) (count-byte regions few-regions s from p) (w .going) (p .ends)
           (sym z ∙ sym long) (p .is-good)
 
-      done : n ≡ r .number → Stands RegionRow (counted (big 1)) s from (λ rs. (take n last ≡ rs) × (members y ≡ rs)) at
+      done : n ≡ r .number → ParsedInto RegionRow (counted (big 1)) s from (λ rs. (take n last ≡ rs) × (members y ≡ rs)) at
       done z = record {
         value = take n list;
         parsed = parsed z;

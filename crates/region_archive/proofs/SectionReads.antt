@@ -17,21 +17,21 @@ use Rattle.region_graph.specs.Model.{Sorted}
 use Rattle.region_graph.specs.Flat.{Flat}
 use Rattle.region_graph.proofs.Lists.{member-all}
 use Rattle.region_archive.specs.Bytes.{big, counted}
-use Rattle.region_archive.specs.Rows.{Parsed, Unparsed, Answer, Stands, StandsOr, by-key}
-use Rattle.region_archive.specs.Entries.{field-count, row-width, field-key, FlatElem, Elem, fields-of, record-bytes, key, most, LegalElem}
+use Rattle.region_archive.specs.Parsing.{Parsed, Unparsed, Answer, ParsedInto, AnswerInto, by-key}
+use Rattle.region_archive.specs.RecordFields.{field-count, row-width, field-key, FlatElem, Elem, fields-of, record-bytes, key, most, LegalElem}
 use Rattle.region_archive.specs.Sections.{LengthStands, SectionRead}
 use Rattle.region_archive.specs.declared.numbers.NumberAt.{NumberAt}
-use Rattle.region_archive.specs.declared.entries.Section.{Section}
-use Rattle.region_archive.specs.declared.entries.Section.the-variants as Section
+use Rattle.region_archive.specs.declared.record_fields.Section.{Section}
+use Rattle.region_archive.specs.declared.record_fields.Section.the-variants as Section
 use Rattle.region_archive.specs.declared.sections.LengthAt.{LengthAt}
 use Rattle.region_archive.proofs.Delimits.{Going, going-none, going-more, row-parsed, row-stuck}
-use Rattle.region_archive.proofs.Answers.{count-stands, count-byte, no-count}
+use Rattle.region_archive.proofs.CountedReads.{count-stands, count-byte, no-count}
 use Rattle.region_archive.proofs.RecordLaws.{Element, element-of, element-same, flat-of}
 use Rattle.region_archive.proofs.RecordReads.{FieldsRead, NoRecord, record-stands}
 
 -- a value or none, by whether all were read
 pub stands-or : {A : Type 0} (good : A → Type 0) (bytes : A → List ℕ) (s : List ℕ) (at : ℕ) (b : Bool) (is : A → Type 0) (next : ℕ)
-    → (b ≡ true → Stands good bytes s at is next) → (b ≡ false → Unparsed good bytes s at) → StandsOr good bytes s at b is next
+    → (b ≡ true → ParsedInto good bytes s at is next) → (b ≡ false → Unparsed good bytes s at) → AnswerInto good bytes s at b is next
 stands-or good bytes s at true is next y n = y refl
 stands-or good bytes s at false is next y n = n refl
 
@@ -172,7 +172,7 @@ module _ (k : Section) (rs : List ℕ) (small : All (λ r. r < regions) rs) wher
         p : Parsed (λ m. m ≤ most k) (big 1) s from (r .number) (r .next)
         p = count-stands (most k) (most-small k) s from r e a
 
-        done : n ≡ r .number → Stands (Sorted (by-key (key k)) (LegalElem k rs) (most k)) (counted (record-bytes k)) s from (Flat (row-width k) (FlatElem k) (take base last)) at
+        done : n ≡ r .number → ParsedInto (Sorted (by-key (key k)) (LegalElem k rs) (most k)) (counted (record-bytes k)) s from (Flat (row-width k) (FlatElem k) (take base last)) at
         done y = record {
           value = w .elems;
           parsed =

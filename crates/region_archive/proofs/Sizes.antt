@@ -6,16 +6,17 @@ use native.Mathlib.Omega.{arith}
 use borrow.Author.Tests.{eq-eqb, ne-eqb}
 use lib.ListN.{length, take}
 use lib.Seq.{length-take-le, take-length}
-use Rattle.region_graph.specs.Size.{most-bundles, all-sign}
+use Rattle.region_graph.specs.Lists.{concat-map}
+use Rattle.region_graph.specs.Size.{most-bundles, everything-sign}
 use Rattle.region_graph.specs.Model.{Model, Part}
 use Rattle.region_graph.specs.Record.{Valid, meaning, numbers-of, part-in, no-bundle, no-connection}
 use Rattle.region_graph.specs.declared.Graph.{Graph}
 use Rattle.region_graph.specs.declared.numbers.Numbers.{Numbers}
-use Rattle.region_archive.specs.Bytes.{big, each, counted}
-use Rattle.region_archive.specs.Entries.{NumbersFit, first-width, field-count, record-bytes, elements}
-use Rattle.region_archive.specs.declared.entries.Section.{Section}
-use Rattle.region_archive.specs.declared.entries.Section.the-variants as Section
-use Rattle.region_archive.proofs.Pieces.{big-length, each-length, each-next, each-within}
+use Rattle.region_archive.specs.Bytes.{big, counted}
+use Rattle.region_archive.specs.RecordFields.{NumbersFit, first-width, field-count, record-bytes, elements}
+use Rattle.region_archive.specs.declared.record_fields.Section.{Section}
+use Rattle.region_archive.specs.declared.record_fields.Section.the-variants as Section
+use Rattle.region_archive.proofs.Pieces.{big-length, concat-length, concat-next, concat-within}
 use Rattle.region_archive.proofs.Placed.{element-at}
 
 -- the count of a list that fits is its length
@@ -25,14 +26,14 @@ numbers-length n h = sym (length-take-le (n .count) (n .items) (omega (arith, h 
 
 -- a list takes one byte, and four for each number
 pub list-size : (n : Numbers) → NumbersFit n → length (counted (big 4) (numbers-of n)) ≡ 1 + n .count * 4
-list-size n h = omega (arith, each-length (big 4) 4 (big-length 4) (numbers-of n), numbers-length n h)
+list-size n h = omega (arith, concat-length (big 4) 4 (big-length 4) (numbers-of n), numbers-length n h)
 
 -- a part by its count
-pub part-all : (p : Numbers) → p .count ≡ all-sign → part-in p ≡ Part.everything
-part-all p e = rw (eq-eqb (p .count) all-sign e)
+pub part-all : (p : Numbers) → p .count ≡ everything-sign → part-in p ≡ Part.everything
+part-all p e = rw (eq-eqb (p .count) everything-sign e)
 
-pub part-listed : (p : Numbers) → (p .count ≡ all-sign → ⊥) → part-in p ≡ Part.listed (numbers-of p)
-part-listed p e = rw (ne-eqb (p .count) all-sign e)
+pub part-listed : (p : Numbers) → (p .count ≡ everything-sign → ⊥) → part-in p ≡ Part.listed (numbers-of p)
+part-listed p e = rw (ne-eqb (p .count) everything-sign e)
 
 -- a list that fits has not the sign
 pub list-in : (n : Numbers) → NumbersFit n → part-in n ≡ Part.listed (numbers-of n)
@@ -54,15 +55,15 @@ few-elements g v Section.Connections = omega (arith, v .good .connections-legal 
 
 -- one record more of a section
 pub section-next : (s : Section) (m : Model) (i : ℕ) → i < length (elements s m)
-    → each (record-bytes s) (take (i + 1) (elements s m)) ≡ each (record-bytes s) (take i (elements s m)) ++ record-bytes s (element-at s m i)
-section-next Section.Bundles m i h = each-next (record-bytes Section.Bundles) (m .bundles) i no-bundle h
-section-next Section.Connections m i h = each-next (record-bytes Section.Connections) (m .connections) i no-connection h
+    → concat-map (record-bytes s) (take (i + 1) (elements s m)) ≡ concat-map (record-bytes s) (take i (elements s m)) ++ record-bytes s (element-at s m i)
+section-next Section.Bundles m i h = concat-next (record-bytes Section.Bundles) (m .bundles) i no-bundle h
+section-next Section.Connections m i h = concat-next (record-bytes Section.Connections) (m .connections) i no-connection h
 
 -- a record is within the bytes of its section
 pub section-within : (s : Section) (m : Model) (i : ℕ) → i < length (elements s m)
-    → length (each (record-bytes s) (take i (elements s m))) + length (record-bytes s (element-at s m i)) ≤ length (each (record-bytes s) (elements s m))
+    → length (concat-map (record-bytes s) (take i (elements s m))) + length (record-bytes s (element-at s m i)) ≤ length (concat-map (record-bytes s) (elements s m))
 section-within s m i h = rw (take-length (elements s m)) at (within s h)
   where
-    within : (k : Section) → i < length (elements k m) → length (each (record-bytes k) (take i (elements k m))) + length (record-bytes k (element-at k m i)) ≤ length (each (record-bytes k) (take (length (elements k m)) (elements k m)))
-    within Section.Bundles h = each-within (record-bytes Section.Bundles) (m .bundles) i (length (m .bundles)) no-bundle h (omega arith)
-    within Section.Connections h = each-within (record-bytes Section.Connections) (m .connections) i (length (m .connections)) no-connection h (omega arith)
+    within : (k : Section) → i < length (elements k m) → length (concat-map (record-bytes k) (take i (elements k m))) + length (record-bytes k (element-at k m i)) ≤ length (concat-map (record-bytes k) (take (length (elements k m)) (elements k m)))
+    within Section.Bundles h = concat-within (record-bytes Section.Bundles) (m .bundles) i (length (m .bundles)) no-bundle h (omega arith)
+    within Section.Connections h = concat-within (record-bytes Section.Connections) (m .connections) i (length (m .connections)) no-connection h (omega arith)

@@ -10,16 +10,16 @@ use lib.ListN.{length}
 use borrow.Author.Tests.{lt-ltb, le-ltb, le-leb, eq-eqb, ne-eqb}
 use Rattle.region_graph.specs.Size.{regions, most-bundles, most-connections, most-provided, most-listed}
 use Rattle.region_graph.specs.Refusals.{not-refused}
-use Rattle.region_graph.specs.Lists.{All, member, insert, ascends}
+use Rattle.region_graph.specs.Lists.{All, member, insert-by, ascends}
 use Rattle.region_graph.specs.Model.{Model, Filter, Part, Connection, Sorted, NumberedPart, LegalFilter, Legal, bundle-before, connection-before}
 use Rattle.region_graph.specs.Calls.{Call, Question, first-no, questions, number, accepted, after, is-region, at-location, joins, part-within, part-ascends, filter-within, filter-ascends}
 use Rattle.region_graph.proofs.Lists.{and-yes, and-left, and-right, pick-yes, all-map, all-both, member-all}
 use Rattle.region_graph.proofs.Ascending.{none-any, connection-order}
 use Rattle.region_graph.proofs.Legal.{connectable}
-use Rattle.region_archive.specs.Rows.{by-key}
-use Rattle.region_archive.specs.Entries.{Elem, key, most, LegalElem, elements}
-use Rattle.region_archive.specs.declared.entries.Section.{Section}
-use Rattle.region_archive.specs.declared.entries.Section.the-variants as Section
+use Rattle.region_archive.specs.Parsing.{by-key}
+use Rattle.region_archive.specs.RecordFields.{Elem, key, most, LegalElem, elements}
+use Rattle.region_archive.specs.declared.record_fields.Section.{Section}
+use Rattle.region_archive.specs.declared.record_fields.Section.the-variants as Section
 use Rattle.region_archive.proofs.Pieces.{Ascends, floor-of}
 
 -- the model with these elements in the section, those before it as they are, and nothing in the one after it
@@ -59,7 +59,7 @@ module _ {A : Type 0} where
   ascends-same P p q f (x ∷ y ∷ ys) h = rw (f x y (h .0) (h .1 .0), ascends-same P p q f (y ∷ ys) (h .1))
 
   -- an element that comes before no other is put at the end
-  insert-last : (before : A → A → Bool) (x : A) (xs : List A) → All (λ y. before x y ≡ false) xs → insert before x xs ≡ xs ++ (x ∷ [])
+  insert-last : (before : A → A → Bool) (x : A) (xs : List A) → All (λ y. before x y ≡ false) xs → insert-by before x xs ≡ xs ++ (x ∷ [])
   insert-last before x [] h = refl
   insert-last before x (y ∷ ys) h = rw (h .0) (ap (λ (l : List A). y ∷ l) (insert-last before x ys (h .1)))
 
@@ -176,7 +176,7 @@ taken-small Section.Connections m xs x n e =
     omega (arith, member-all (λ r. r < regions) (x .target) (m .regions) n (connectable (filled Section.Connections m xs) x e .target))
 
 -- what an accepted element's call does
-inserted : (k : Section) (m : Model) (xs : List (Elem k)) (x : Elem k) → accepted (filled k m xs) (call k x) ≡ filled k m (insert (before k) x xs)
+inserted : (k : Section) (m : Model) (xs : List (Elem k)) (x : Elem k) → accepted (filled k m xs) (call k x) ≡ filled k m (insert-by (before k) x xs)
 inserted Section.Bundles m xs x = refl
 inserted Section.Connections m xs x = refl
 

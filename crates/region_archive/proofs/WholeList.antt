@@ -17,7 +17,7 @@ use Rattle.region_graph.specs.declared.Changed.{Changed}
 use Rattle.region_graph.proofs.WholeList.{steps, Change, Means, change-means}
 use Rattle.region_graph.proofs.Graph.empty.Reads as empty
 use Rattle.region_routes.proofs.WholeList.{Answers, answers}
-use Rattle.region_archive.specs.File.{FileMeaning, sets, read-number}
+use Rattle.region_archive.specs.File.{FileMeaning, read-model, read-number}
 use Rattle.region_archive.specs.Promise.{ReadsOver}
 use Rattle.region_archive.proofs.reading.read.Reads as read
 use Rattle.region_archive.proofs.reading.read_over.Reads as read-over
@@ -27,23 +27,23 @@ use Rattle.region_archive.proofs.reading.read_over.Reads as read-over
 pub data Started : Graph → Model → Type 0 where
   by-empty : (g : Graph) → empty.Learnt tt tt g tt → Started g nothing
   by-read : (κs : Lfts 1) (bytes : RefT (List ℕ)) (r : Changed) → read.Learnt κs (bytes, tt) r (bytes, tt) → r .number ≡ not-refused
-      → (f : FileMeaning (bytes .now)) → Started (r .graph) (sets f)
+      → (f : FileMeaning (bytes .now)) → Started (r .graph) (read-model f)
   by-read-over : (κs : Lfts 1) (g : Graph) (bytes : RefT (List ℕ)) (r : Changed) → read-over.Learnt κs (g, (bytes, tt)) r (g, (bytes, tt))
-      → r .number ≡ not-refused → (f : FileMeaning (bytes .now)) → Started (r .graph) (sets f)
+      → r .number ≡ not-refused → (f : FileMeaning (bytes .now)) → Started (r .graph) (read-model f)
 
 -- an accepted read over a record gives one that means the sets of the file
 pub read-means : {g : Graph} {s : List ℕ} {r : Changed} → ReadsOver g s r → r .number ≡ not-refused → (f : FileMeaning s)
-    → Means (r .graph) (sets f)
+    → Means (r .graph) (read-model f)
 read-means {g} a z f =
     record {
       valid = a .valid;
-      sets = a .says f .next ∙ ap (λ (b : Bool). pick b (sets f) (meaning g)) (eq-eqb (read-number f) not-refused (sym (a .says f .number) ∙ z));
+      model = a .says f .next ∙ ap (λ (b : Bool). pick b (read-model f) (meaning g)) (eq-eqb (read-number f) not-refused (sym (a .says f .number) ∙ z));
     }
 
 -- a record to start from is valid and means its model
 started : {g : Graph} {m : Model} → Started g m → Means g m
-started (by-empty g e) = record { valid = e .valid; sets = e .sets }
-started (by-read κs bytes r a z f) = record { valid = a .valid; sets = a .says f .next }
+started (by-empty g e) = record { valid = e .valid; model = e .model }
+started (by-read κs bytes r a z f) = record { valid = a .valid; model = a .says f .next }
 started (by-read-over κs g bytes r a z f) = read-means a z f
 
 -- From the empty record or an accepted read, for every list of changing calls, refused ones included, each with the record that the one

@@ -20,9 +20,9 @@ is-image (means m l e) = true
 is-image (means-none n) = false
 
 -- the three sets that a read gives: those of the model, or empty ones
-abbrev pub sets : {bytes : List ℕ} → FileMeaning bytes → Model
-sets (means m l e) = m
-sets (means-none n) = nothing
+abbrev pub read-model : {bytes : List ℕ} → FileMeaning bytes → Model
+read-model (means m l e) = m
+read-model (means-none n) = nothing
 
 -- at least 5 bytes, the first being the version
 abbrev pub opens : List ℕ → Bool

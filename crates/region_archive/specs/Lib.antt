@@ -4,6 +4,6 @@ pub mod Image
 pub mod File
 pub mod Promise
 pub mod Bounds
-pub mod Rows
-pub mod Entries
+pub mod Parsing
+pub mod RecordFields
 pub mod Sections

@@ -12,9 +12,9 @@ use Rattle.region_graph.specs.Record.{Valid, meaning}
 use Rattle.region_graph.specs.Promise.{place-of}
 use Rattle.region_graph.specs.declared.Graph.{Graph}
 use Rattle.region_graph.specs.declared.Changed.{Changed}
-use Rattle.region_routes.specs.Hooks.{Returned, Outcome, written, installed, judged, item, sees-from}
+use Rattle.region_routes.specs.Hooks.{Returned, Outcome, written, is-installed, judged, item, sees-from}
 use Rattle.region_archive.specs.Image.{image}
-use Rattle.region_archive.specs.File.{FileMeaning, sets, read-questions, read-number}
+use Rattle.region_archive.specs.File.{FileMeaning, read-model, read-questions, read-number}
 use Rattle.region_archive.specs.declared.Written.{Written}
 use Rattle.region_archive.specs.declared.Written.the-variants as Written
 
@@ -23,8 +23,8 @@ abbrev pub written-as : Written → Returned
 written-as (Written.Bytes n) = record { number = not-refused; values = n ∷ [] }
 written-as (Written.Refused n) = record { number = n; values = [] }
 
-abbrev pub wrote : Written → List ℕ → Outcome Written
-wrote answer exit = record { answer = answer; returned = written-as answer; exit = exit }
+abbrev pub archived : Written → List ℕ → Outcome Written
+archived answer exit = record { answer = answer; returned = written-as answer; exit = exit }
 
 abbrev pub write-questions : Model → List ℕ → List Question
 write-questions m entry = ask no-place (leb (length (image m)) (length entry)) ∷ []
@@ -32,12 +32,12 @@ write-questions m entry = ask no-place (leb (length (image m)) (length entry)) �
 -- the image at the buffer's start and its length, or refusal 14 and the buffer as it was
 abbrev pub write-outcome : Model → List ℕ → Outcome Written
 write-outcome m entry =
-    judged Written.Refused (first-no (write-questions m entry)) (wrote (Written.Bytes (length (image m))) (written (image m) entry)) entry
+    judged Written.Refused (first-no (write-questions m entry)) (archived (Written.Bytes (length (image m))) (written (image m) entry)) entry
 
 -- a read of the file s gave r: an accepted one the sets that the file means, a refused one the empty sets
 pub record ReadAs {s : List ℕ} (f : FileMeaning s) (r : Changed) : Type 0 where
   pub number : r .number ≡ read-number f
-  pub next : meaning (r .graph) ≡ sets f
+  pub next : meaning (r .graph) ≡ read-model f
 
 -- whatever the file means; each file means something (`file-meaning`)
 pub record Reads (s : List ℕ) (r : Changed) : Type 0 where
@@ -47,7 +47,7 @@ pub record Reads (s : List ℕ) (r : Changed) : Type 0 where
 -- the same with a record at hand: a refused read hands that record back
 pub record ReadOver {s : List ℕ} (g : Graph) (f : FileMeaning s) (r : Changed) : Type 0 where
   pub number : r .number ≡ read-number f
-  pub next : meaning (r .graph) ≡ pick (eqb (read-number f) not-refused) (sets f) (meaning g)
+  pub next : meaning (r .graph) ≡ pick (eqb (read-number f) not-refused) (read-model f) (meaning g)
 
 pub record ReadsOver (g : Graph) (s : List ℕ) (r : Changed) : Type 0 where
   pub valid : Valid (r .graph)
@@ -55,22 +55,22 @@ pub record ReadsOver (g : Graph) (s : List ℕ) (r : Changed) : Type 0 where
   pub says : (f : FileMeaning s) → ReadOver g f r
 
 -- what an archive query answers for an item that is seen, and for one that is hidden
-abbrev pub seen : ℕ
-seen = 100
+abbrev pub seen-number : ℕ
+seen-number = 100
 
-abbrev pub hidden : ℕ
-hidden = 101
+abbrev pub hidden-number : ℕ
+hidden-number = 101
 
 -- questions 15 to 17 come before 12 and 13
 abbrev pub query-questions : {s : List ℕ} → FileMeaning s → ℕ → ℕ → List Question
 query-questions f location kind =
-    read-questions f ++ ask not-installed (installed (place-of (sets f .bundles) location)) ∷ ask not-a-kind (leb kind 2) ∷ []
+    read-questions f ++ ask not-installed (is-installed (place-of (read-model f .bundles) location)) ∷ ask not-a-kind (leb kind 2) ∷ []
 
 -- the number of the first question answered no; with none, whether the bundle sees the item
 abbrev pub query-answer : {s : List ℕ} → FileMeaning s → ℕ → ℕ → ℕ → ℕ
 query-answer f location kind number =
     let n = first-no (query-questions f location kind) in
-    pick (eqb n not-refused) (pick (sees-from (sets f) (item kind number) (place-of (sets f .bundles) location)) seen hidden) n
+    pick (eqb n not-refused) (pick (sees-from (read-model f) (item kind number) (place-of (read-model f .bundles) location)) seen-number hidden-number) n
 
 abbrev pub Queried : List ℕ → ℕ → ℕ → ℕ → ℕ → Type 0
 Queried s location kind number r = (f : FileMeaning s) → r ≡ query-answer f location kind number

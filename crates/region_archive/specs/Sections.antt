@@ -14,9 +14,9 @@ use Rattle.region_graph.specs.declared.Changed.{Changed}
 use Rattle.region_graph.specs.Flat.{Fields, FlatPart, Flat}
 use Rattle.region_archive.specs.Bytes.{big, counted}
 use Rattle.region_archive.specs.Image.{part-bytes, body}
-use Rattle.region_archive.specs.Rows.{Parsed, StandsOr, by-key}
-use Rattle.region_archive.specs.Entries.{SameTo, GoodTo, PartGood, FieldGood, field-bytes, FieldSame, FlatField, FlatElem, record-bytes, key, most, most-in, row-width, LegalElem}
-use Rattle.region_archive.specs.declared.entries.Section.{Section}
+use Rattle.region_archive.specs.Parsing.{Parsed, AnswerInto, by-key}
+use Rattle.region_archive.specs.RecordFields.{SameTo, GoodTo, PartGood, FieldGood, field-bytes, FieldSame, FlatField, FlatElem, record-bytes, key, most, most-in, row-width, LegalElem}
+use Rattle.region_archive.specs.declared.record_fields.Section.{Section}
 use Rattle.region_archive.specs.declared.sections.FieldAt.{FieldAt}
 use Rattle.region_archive.specs.declared.sections.LengthAt.{LengthAt}
 use Rattle.region_archive.specs.declared.sections.RegionsAt.{RegionsAt}
@@ -25,17 +25,17 @@ use Rattle.region_archive.specs.declared.sections.SectionAt.{SectionAt}
 -- a list, and a part, was read at a place into the first places of a row
 pub record ListRead (most : ℕ) (bytes : List ℕ) (at : ℕ) (old new : List ℕ) (r : FieldAt) : Type 0 where
   pub size : length new ≡ length old
-  pub answer : StandsOr (Numbered most) (counted (big 4)) bytes at (r .ok) (λ xs. FlatPart new 0 (Part.listed xs)) (r .next)
+  pub answer : AnswerInto (Numbered most) (counted (big 4)) bytes at (r .ok) (λ xs. FlatPart new 0 (Part.listed xs)) (r .next)
 
 pub record PartRead (most : ℕ) (all : Bool) (bytes : List ℕ) (at : ℕ) (old new : List ℕ) (r : FieldAt) : Type 0 where
   pub size : length new ≡ length old
-  pub answer : StandsOr (PartGood most all) (part-bytes (big 4)) bytes at (r .ok) (FlatPart new 0) (r .next)
+  pub answer : AnswerInto (PartGood most all) (part-bytes (big 4)) bytes at (r .ok) (FlatPart new 0) (r .next)
 
 -- field k was read at a place, for a record whose fields before it are those of x: these stay
 pub record FieldRead (s : Section) (rs : List ℕ) (floor k : ℕ) (bytes : List ℕ) (at : ℕ) (old new : List ℕ) (r : FieldAt) : Type 0 where
   pub size : length new ≡ length old
   pub answer : (x : Fields) → GoodTo (FieldGood s rs floor) k x → GoodTo (FlatField (most-in s) old) k x
-      → StandsOr (λ y. SameTo FieldSame k x y × FieldGood s rs floor k y) (field-bytes s k) bytes at (r .ok) (GoodTo (FlatField (most-in s) new) (suc k)) (r .next)
+      → AnswerInto (λ y. SameTo FieldSame k x y × FieldGood s rs floor k y) (field-bytes s k) bytes at (r .ok) (GoodTo (FlatField (most-in s) new) (suc k)) (r .next)
 
 -- a length of two bytes stands at a place, with as many bytes after it
 pub record LengthStands (bytes : List ℕ) (at : ℕ) (r : LengthAt) : Type 0 where
@@ -53,13 +53,13 @@ LengthRead bytes at r = LengthOr bytes at r (r .ok)
 -- the regions were read at a place
 pub record RegionsRead (bytes : List ℕ) (at : ℕ) (list : List ℕ) (r : RegionsAt) : Type 0 where
   pub room : r .count ≤ length list
-  pub answer : StandsOr (Sorted (by-key (λ n. n)) (λ n. n < regions) regions) (counted (big 1)) bytes at (r .ok)
+  pub answer : AnswerInto (Sorted (by-key (λ n. n)) (λ n. n < regions) regions) (counted (big 1)) bytes at (r .ok)
       (λ rs. (take (r .count) list ≡ rs) × (members (r .set) ≡ rs)) (r .next)
 
 -- a section was read at a place, in a graph with regions rs
 pub record SectionRead (k : Section) (rs : List ℕ) (bytes : List ℕ) (at : ℕ) (rows : List ℕ) (r : SectionAt) : Type 0 where
   pub room : r .count ≤ length rows
-  pub answer : StandsOr (Sorted (by-key (key k)) (LegalElem k rs) (most k)) (counted (record-bytes k)) bytes at (r .ok)
+  pub answer : AnswerInto (Sorted (by-key (key k)) (LegalElem k rs) (most k)) (counted (record-bytes k)) bytes at (r .ok)
       (Flat (row-width k) (FlatElem k) (take (r .count) rows)) (r .next)
 
 -- a body was read at a place, to the end: the graph of the model whose body it is, or a refusal and the empty graph where it is none's

@@ -2,9 +2,9 @@
 ghost use mathlib.Core.Path.{_≡_};
 ghost use Prim.Native.Nat.{_+_, _<_, _≤_, _^_};
 ghost use lib.ListN.{length};
-ghost use Rattle.text_lines.specs.Written.{Wrote};
+ghost use Rattle.text_lines.specs.Written.{WrittenAt};
 ghost use Rattle.region_archive.specs.Bytes.{big};
-ghost use Rattle.region_archive.specs.Rows.{Parsed, Answer};
+ghost use Rattle.region_archive.specs.Parsing.{Parsed, Answer};
 
 // What stands at a place: whether it is a number, the place after it, and the number.
 pub struct NumberAt {
@@ -16,7 +16,7 @@ pub struct NumberAt {
 // Writes the low bytes of a number, the last one first; hands back the place after them.
 pub fn put_number(buffer: &mut [u8], at: usize, width: usize, number: usize) -> usize
     requires { ⌜ at + width ≤ length (now buffer) ⌝ }
-    ensures { λ r. ⌜ Wrote (now (buffer .entry)) (now (buffer .exit)) at (big width number) r ⌝ }
+    ensures { λ r. ⌜ WrittenAt (now (buffer .entry)) (now (buffer .exit)) at (big width number) r ⌝ }
 {
     let mut left = width;
     let mut rest = number;

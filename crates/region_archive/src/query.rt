@@ -7,7 +7,7 @@ use region_graph::refusals::NOT_A_KIND;
 use region_graph::refusals::NOT_INSTALLED;
 use region_graph::refusals::NOT_REFUSED;
 use region_graph::region_set::has;
-use region_routes::seers;
+use region_routes::regions_seeing;
 
 // What the query answers for an item that is seen, and for one that is hidden.
 pub const SEEN: u32 = 100;
@@ -31,7 +31,7 @@ pub extern "C" fn archive_query(bytes: &[u8], location: u32, kind: u32, item: u3
     if 2 < kind {
         return NOT_A_KIND;
     }
-    let set = seers(graph, Item { kind, number: item });
+    let set = regions_seeing(graph, Item { kind, number: item });
     if has(set, region) {
         return SEEN;
     }

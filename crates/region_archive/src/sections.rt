@@ -5,20 +5,20 @@ ghost use Prim.Native.Nat.{_≤_, _<_, _+_, _*_};
 ghost use lib.ListN.{length};
 ghost use Rattle.region_graph.specs.Size.{regions, «most-listed»};
 ghost use Rattle.region_graph.specs.Sets.{members};
-ghost use Rattle.region_archive.specs.Entries.{«field-count», «first-good», «second-good», «part-open», most, «row-width»};
+ghost use Rattle.region_archive.specs.RecordFields.{«field-count», «first-good», «second-good», «part-open», most, «row-width»};
 ghost use Rattle.region_archive.specs.Sections.{ListRead, PartRead, FieldRead, LengthRead, RegionsRead, SectionRead};
-use crate::entries::Section;
-use crate::entries::fields;
-use crate::entries::first_width;
-use crate::entries::limit;
-use crate::entries::most_in;
-use crate::entries::order;
-use crate::entries::width;
 use crate::numbers::count_at;
 use crate::numbers::number_at;
+use crate::record_fields::Section;
+use crate::record_fields::field_key;
+use crate::record_fields::fields;
+use crate::record_fields::first_width;
+use crate::record_fields::limit;
+use crate::record_fields::most_in;
+use crate::record_fields::width;
 use region_graph::region_set::has;
 use region_graph::region_set::is_region;
-use region_graph::region_set::one;
+use region_graph::region_set::singleton;
 use region_graph::size::REGIONS;
 
 pub struct FieldAt {
@@ -98,7 +98,7 @@ fn part_at(bytes: &[u8], at: usize, most: usize, all: bool, row: &mut [u32]) -> 
 fn first_good(section: Section, first: u32, regions: u64, least: u64) -> bool
     ensures { λ r. ⌜ r ≡ first-good section (members regions) least first ⌝ }
 {
-    if order(section, first, 255) < least {
+    if field_key(section, first, 255) < least {
         return false;
     }
     match section {
@@ -111,7 +111,7 @@ fn first_good(section: Section, first: u32, regions: u64, least: u64) -> bool
 fn second_good(section: Section, first: u32, second: u32, regions: u64, least: u64) -> bool
     ensures { λ r. ⌜ r ≡ second-good section (members regions) least first second ⌝ }
 {
-    if order(section, first, second) < least {
+    if field_key(section, first, second) < least {
         return false;
     }
     match section {
@@ -283,7 +283,7 @@ pub fn regions_at(bytes: &[u8], from: usize, list: &mut [u32]) -> RegionsAt
         if !is_region(region) {
             break;
         }
-        set = set | one(region);
+        set = set | singleton(region);
         list[n] = region;
         at = read.next;
         least = region + 1;
@@ -355,7 +355,7 @@ pub fn section_at(
         }
         let first = rows[base];
         let second = rows[base + 1];
-        least = order(section, first, second) + 1;
+        least = field_key(section, first, second) + 1;
         at = to;
         base = end;
         n += 1;

@@ -4,23 +4,23 @@ ghost use Prim.Native.Nat.{_+_, _≤_};
 ghost use lib.ListN.{length};
 ghost use Rattle.region_graph.specs.Size.{regions};
 ghost use Rattle.region_graph.specs.Record.{Valid, meaning, «numbers-of», «part-in»};
-ghost use Rattle.text_lines.specs.Written.{Wrote};
+ghost use Rattle.text_lines.specs.Written.{WrittenAt};
 ghost use Rattle.region_archive.specs.Bounds.{«part-bound», «fields-bound», «section-bound»};
 ghost use Rattle.region_archive.specs.Bytes.{big, counted, sized};
 ghost use Rattle.region_archive.specs.Image.{«part-bytes»};
-ghost use Rattle.region_archive.specs.Entries.{NumbersFit, PartFits, EntryFits, «fields-in», «field-bytes», «fields-bytes», «field-count», «section-bytes»};
-ghost use Rattle.region_archive.specs.Promise.{wrote, «write-outcome»};
+ghost use Rattle.region_archive.specs.RecordFields.{NumbersFit, PartFits, ValuesFit, «fields-in», «field-bytes», «fields-bytes», «field-count», «section-bytes»};
+ghost use Rattle.region_archive.specs.Promise.{archived, «write-outcome»};
 use crate::FRONT;
 use crate::VERSION;
 use crate::Written;
-use crate::entries::Entry;
-use crate::entries::Section;
-use crate::entries::bundle_entry;
-use crate::entries::connection_entry;
-use crate::entries::count;
-use crate::entries::fields;
-use crate::entries::first_width;
 use crate::numbers::put_number;
+use crate::record_fields::FieldValues;
+use crate::record_fields::Section;
+use crate::record_fields::bundle_values;
+use crate::record_fields::connection_values;
+use crate::record_fields::count;
+use crate::record_fields::fields;
+use crate::record_fields::first_width;
 use region_graph::Graph;
 use region_graph::Numbers;
 use region_graph::refusals::NO_PLACE;
@@ -40,31 +40,31 @@ fn part_size(part: Numbers) -> usize
 }
 
 // How many bytes a field of a record takes.
-fn field_size(section: Section, field: usize, entry: Entry) -> usize
-    requires { ⌜ EntryFits entry ⌝ }
+fn field_size(section: Section, field: usize, values: FieldValues) -> usize
+    requires { ⌜ ValuesFit values ⌝ }
     requires { ⌜ field + 1 ≤ field-count section ⌝ }
-    ensures { λ r. ⌜ (r ≡ length (field-bytes section field (fields-in entry))) × (r ≤ part-bound) ⌝ }
+    ensures { λ r. ⌜ (r ≡ length (field-bytes section field (fields-in values))) × (r ≤ part-bound) ⌝ }
 {
     match field {
         0 => first_width(section),
         1 => 1,
         _ => {
-            let part = entry.parts[field - 2];
+            let part = values.parts[field - 2];
             part_size(part)
         }
     }
 }
 
 // How many bytes the fields of a record take.
-fn fields_size(section: Section, entry: Entry) -> usize
-    requires { ⌜ EntryFits entry ⌝ }
-    ensures { λ r. ⌜ (r ≡ length (fields-bytes section (fields-in entry))) × (r ≤ fields-bound) ⌝ }
+fn fields_size(section: Section, values: FieldValues) -> usize
+    requires { ⌜ ValuesFit values ⌝ }
+    ensures { λ r. ⌜ (r ≡ length (fields-bytes section (fields-in values))) × (r ≤ fields-bound) ⌝ }
 {
     let total = fields(section);
     let mut size: usize = 0;
     let mut field: usize = 0;
     while field < total {
-        size += field_size(section, field, entry);
+        size += field_size(section, field, values);
         field += 1;
     }
     size
@@ -81,18 +81,18 @@ fn section_size(graph: Graph, section: Section) -> usize
     let mut size: usize = 1;
     let mut i: usize = 0;
     while i < total {
-        let entry = match section {
+        let values = match section {
             Section::Bundles => {
                 let b = bundles[i];
-                bundle_entry(b)
+                bundle_values(b)
             }
             Section::Connections => {
                 let c = connections[i];
-                connection_entry(c)
+                connection_values(c)
             }
         };
         i += 1;
-        size += 2 + fields_size(section, entry);
+        size += 2 + fields_size(section, values);
     }
     size
 }
@@ -119,7 +119,7 @@ fn region_count(graph: Graph) -> usize
 fn put_list(buffer: &mut [u8], at: usize, list: Numbers) -> usize
     requires { ⌜ NumbersFit list ⌝ }
     requires { ⌜ at + length (counted (big 4) (numbers-of list)) ≤ length (now buffer) ⌝ }
-    ensures { λ r. ⌜ Wrote (now (buffer .entry)) (now (buffer .exit)) at (counted (big 4) (numbers-of list)) r ⌝ }
+    ensures { λ r. ⌜ WrittenAt (now (buffer .entry)) (now (buffer .exit)) at (counted (big 4) (numbers-of list)) r ⌝ }
 {
     let total = list.count;
     let mut to = put_number(buffer, at, 1, total);
@@ -135,7 +135,7 @@ fn put_list(buffer: &mut [u8], at: usize, list: Numbers) -> usize
 fn put_part(buffer: &mut [u8], at: usize, part: Numbers) -> usize
     requires { ⌜ PartFits part ⌝ }
     requires { ⌜ at + length (part-bytes (big 4) (part-in part)) ≤ length (now buffer) ⌝ }
-    ensures { λ r. ⌜ Wrote (now (buffer .entry)) (now (buffer .exit)) at (part-bytes (big 4) (part-in part)) r ⌝ }
+    ensures { λ r. ⌜ WrittenAt (now (buffer .entry)) (now (buffer .exit)) at (part-bytes (big 4) (part-in part)) r ⌝ }
 {
     if part.count == EVERYTHING {
         return put_number(buffer, at, 1, EVERYTHING);
@@ -144,40 +144,46 @@ fn put_part(buffer: &mut [u8], at: usize, part: Numbers) -> usize
 }
 
 // A field of a record.
-fn put_field(buffer: &mut [u8], at: usize, section: Section, field: usize, entry: Entry) -> usize
-    requires { ⌜ EntryFits entry ⌝ }
-    requires { ⌜ (field + 1 ≤ field-count section) × (at + length (field-bytes section field (fields-in entry)) ≤ length (now buffer)) ⌝ }
-    ensures { λ r. ⌜ Wrote (now (buffer .entry)) (now (buffer .exit)) at (field-bytes section field (fields-in entry)) r ⌝ }
+fn put_field(
+    buffer: &mut [u8],
+    at: usize,
+    section: Section,
+    field: usize,
+    values: FieldValues,
+) -> usize
+    requires { ⌜ ValuesFit values ⌝ }
+    requires { ⌜ (field + 1 ≤ field-count section) × (at + length (field-bytes section field (fields-in values)) ≤ length (now buffer)) ⌝ }
+    ensures { λ r. ⌜ WrittenAt (now (buffer .entry)) (now (buffer .exit)) at (field-bytes section field (fields-in values)) r ⌝ }
 {
     match field {
         0 => {
-            let first = entry.first as usize;
+            let first = values.first as usize;
             let width = first_width(section);
             put_number(buffer, at, width, first)
         }
         1 => {
-            let second = entry.second as usize;
+            let second = values.second as usize;
             put_number(buffer, at, 1, second)
         }
         _ => {
-            let part = entry.parts[field - 2];
+            let part = values.parts[field - 2];
             put_part(buffer, at, part)
         }
     }
 }
 
 // A record: the length of its fields, then the fields.
-fn put_entry(buffer: &mut [u8], at: usize, section: Section, entry: Entry) -> usize
-    requires { ⌜ EntryFits entry ⌝ }
-    requires { ⌜ at + length (sized 2 (fields-bytes section) (fields-in entry)) ≤ length (now buffer) ⌝ }
-    ensures { λ r. ⌜ Wrote (now (buffer .entry)) (now (buffer .exit)) at (sized 2 (fields-bytes section) (fields-in entry)) r ⌝ }
+fn put_record(buffer: &mut [u8], at: usize, section: Section, values: FieldValues) -> usize
+    requires { ⌜ ValuesFit values ⌝ }
+    requires { ⌜ at + length (sized 2 (fields-bytes section) (fields-in values)) ≤ length (now buffer) ⌝ }
+    ensures { λ r. ⌜ WrittenAt (now (buffer .entry)) (now (buffer .exit)) at (sized 2 (fields-bytes section) (fields-in values)) r ⌝ }
 {
-    let size = fields_size(section, entry);
+    let size = fields_size(section, values);
     let total = fields(section);
     let mut to = put_number(buffer, at, 2, size);
     let mut field: usize = 0;
     while field < total {
-        to = put_field(buffer, to, section, field, entry);
+        to = put_field(buffer, to, section, field, values);
         field += 1;
     }
     to
@@ -187,7 +193,7 @@ fn put_entry(buffer: &mut [u8], at: usize, section: Section, entry: Entry) -> us
 fn put_section(buffer: &mut [u8], at: usize, graph: Graph, section: Section) -> usize
     requires { ⌜ Valid graph ⌝ }
     requires { ⌜ at + length (section-bytes section (meaning graph)) ≤ length (now buffer) ⌝ }
-    ensures { λ r. ⌜ Wrote (now (buffer .entry)) (now (buffer .exit)) at (section-bytes section (meaning graph)) r ⌝ }
+    ensures { λ r. ⌜ WrittenAt (now (buffer .entry)) (now (buffer .exit)) at (section-bytes section (meaning graph)) r ⌝ }
 {
     let bundles = graph.bundle_places();
     let connections = graph.connection_places();
@@ -195,17 +201,17 @@ fn put_section(buffer: &mut [u8], at: usize, graph: Graph, section: Section) -> 
     let mut to = put_number(buffer, at, 1, total);
     let mut i: usize = 0;
     while i < total {
-        let entry = match section {
+        let values = match section {
             Section::Bundles => {
                 let b = bundles[i];
-                bundle_entry(b)
+                bundle_values(b)
             }
             Section::Connections => {
                 let c = connections[i];
-                connection_entry(c)
+                connection_values(c)
             }
         };
-        to = put_entry(buffer, to, section, entry);
+        to = put_record(buffer, to, section, values);
         i += 1;
     }
     to
@@ -215,7 +221,7 @@ fn put_section(buffer: &mut [u8], at: usize, graph: Graph, section: Section) -> 
 fn put_regions(buffer: &mut [u8], at: usize, graph: Graph) -> usize
     requires { ⌜ Valid graph ⌝ }
     requires { ⌜ at + length (counted (big 1) (meaning graph .regions)) ≤ length (now buffer) ⌝ }
-    ensures { λ r. ⌜ Wrote (now (buffer .entry)) (now (buffer .exit)) at (counted (big 1) (meaning graph .regions)) r ⌝ }
+    ensures { λ r. ⌜ WrittenAt (now (buffer .entry)) (now (buffer .exit)) at (counted (big 1) (meaning graph .regions)) r ⌝ }
 {
     let set = graph.region_set();
     let total = region_count(graph);
@@ -235,7 +241,7 @@ fn put_regions(buffer: &mut [u8], at: usize, graph: Graph) -> usize
 // The image of a graph at the buffer's start.
 pub fn write(graph: Graph, buffer: &mut [u8]) -> Written
     requires { ⌜ Valid graph ⌝ }
-    ensures { λ r. ⌜ wrote r (now (buffer .exit)) ≡ write-outcome (meaning graph) (now (buffer .entry)) ⌝ }
+    ensures { λ r. ⌜ archived r (now (buffer .exit)) ≡ write-outcome (meaning graph) (now (buffer .entry)) ⌝ }
 {
     let regions = region_count(graph);
     let bundles = section_size(graph, Section::Bundles);

@@ -10,9 +10,9 @@ use borrow.Author.Tests.{eq-eqb, ne-eqb}
 use lib.Dec.{eqb}
 use lib.ListN.{length, getD, take, drop, set, replicate, length-append, length-replicate, length-map, length-set, length-drop, List·getD-append}
 use lib.Seq.{take-suc, drop-cons, set-at, append-snoc, take-at, drop-at, take-length, drop-length, take-take, take-set-le, set-split, getD-take, length-take-le}
-use Rattle.region_graph.specs.Lists.{All, keep, any, member, position}
+use Rattle.region_graph.specs.Lists.{All, keep, exists, member, position}
 use Rattle.region_graph.specs.Record.{places}
-use Rattle.region_graph.proofs.Lists.{all-at, any-here, any-later, any-end, keep-took, keep-left, map-append, any-found, any-missed, any-fewer, any-as-many}
+use Rattle.region_graph.proofs.Lists.{all-at, exists-here, exists-later, exists-end, keep-took, keep-left, map-append, exists-found, exists-missed, exists-fewer, exists-as-many}
 
 module _ {A B : Type 0} (f : A → B) where
   pub map-take : (n : ℕ) (xs : List A) → map f (take n xs) ≡ take n (map f xs)
@@ -57,18 +57,18 @@ module _ {A B : Type 0} {store : A → B} {none : B} {size : ℕ} where
     filled-means out back i e d k = ap out (filled-at i e d k) ∙ all-at (λ x. out (store x) ≡ x) xs i d (filled-inside i k) back
 
     -- a search by place that ended within the count, and one that did not
-    pub filled-found : (p : A → Bool) {k : ℕ} → k ≡ position p xs → k < count → any p xs ≡ true
-    filled-found p e l = any-found p xs (omega (arith, h .counted))
+    pub filled-found : (p : A → Bool) {k : ℕ} → k ≡ position p xs → k < count → exists p xs ≡ true
+    filled-found p e l = exists-found p xs (omega (arith, h .counted))
 
-    pub filled-missed : (p : A → Bool) {k : ℕ} → k ≡ position p xs → count ≤ k → any p xs ≡ false
-    filled-missed p e l = any-missed p xs (omega (arith, h .counted))
+    pub filled-missed : (p : A → Bool) {k : ℕ} → k ≡ position p xs → count ≤ k → exists p xs ≡ false
+    filled-missed p e l = exists-missed p xs (omega (arith, h .counted))
 
     -- a filter that left as many elements as the count, and one that did not
-    pub filled-whole : (p : A → Bool) {k : ℕ} → k ≡ length (keep (λ x. not (p x)) xs) → k ≡ count → any p xs ≡ false
-    filled-whole p e l = any-as-many p xs (sym e ∙ l ∙ h .counted)
+    pub filled-whole : (p : A → Bool) {k : ℕ} → k ≡ length (keep (λ x. not (p x)) xs) → k ≡ count → exists p xs ≡ false
+    filled-whole p e l = exists-as-many p xs (sym e ∙ l ∙ h .counted)
 
-    pub filled-fewer : (p : A → Bool) {k : ℕ} → k ≡ length (keep (λ x. not (p x)) xs) → (k ≡ count → ⊥) → any p xs ≡ true
-    filled-fewer p e l = any-fewer p xs (λ q. l (e ∙ q ∙ sym (h .counted)))
+    pub filled-fewer : (p : A → Bool) {k : ℕ} → k ≡ length (keep (λ x. not (p x)) xs) → (k ≡ count → ⊥) → exists p xs ≡ true
+    filled-fewer p e l = exists-fewer p xs (λ q. l (e ∙ q ∙ sym (h .counted)))
 
     -- the next place takes one element more
     pub filled-more : (x : A) → count < size → Filled store none size (set items count (store x)) (count + 1) (xs ++ (x ∷ []))
@@ -100,15 +100,15 @@ module _ {A B : Type 0} {store : A → B} {none : B} {size : ℕ} where
 
 -- a search for a number in the places of a list, however many they are
 module _ {size : ℕ} {items : List ℕ} {count : ℕ} {xs : List ℕ} (h : Filled (λ x. x) 0 size items count xs) (n i : ℕ)
-    (e : member n xs ≡ any (eqb n) (drop i xs)) where
+    (e : member n xs ≡ exists (eqb n) (drop i xs)) where
   pub number-here : (d : ℕ) → i < count → getD items i d ≡ n → true ≡ member n xs
-  number-here d l q = any-here (eqb n) xs i 0 (filled-inside h i l) e (eq-eqb n (getD xs i 0) (sym (sym (filled-at h i d 0 l) ∙ q)))
+  number-here d l q = exists-here (eqb n) xs i 0 (filled-inside h i l) e (eq-eqb n (getD xs i 0) (sym (sym (filled-at h i d 0 l) ∙ q)))
 
-  pub number-later : (d : ℕ) → i < count → (getD items i d ≡ n → ⊥) → member n xs ≡ any (eqb n) (drop (i + 1) xs)
-  number-later d l q = any-later (eqb n) xs i 0 (filled-inside h i l) e (ne-eqb n (getD xs i 0) (λ f. q (filled-at h i d 0 l ∙ sym f)))
+  pub number-later : (d : ℕ) → i < count → (getD items i d ≡ n → ⊥) → member n xs ≡ exists (eqb n) (drop (i + 1) xs)
+  number-later d l q = exists-later (eqb n) xs i 0 (filled-inside h i l) e (ne-eqb n (getD xs i 0) (λ f. q (filled-at h i d 0 l ∙ sym f)))
 
   pub number-end : count ≤ i → false ≡ member n xs
-  number-end l = any-end (eqb n) xs i e (omega (arith, h .counted))
+  number-end l = exists-end (eqb n) xs i e (omega (arith, h .counted))
 
 -- the places from i on have moved up by one, and what stands at i does not count
 pub record Opened {A B : Type 0} (store : A → B) (none : B) (size : ℕ) (items : List B) (i : ℕ) (xs : List A) : Type 0 where

@@ -10,7 +10,7 @@ use lib.Dec.{ltb, eqb}
 use lib.ListN.{length, getD, drop, length-drop}
 use lib.Seq.{drop-cons}
 use borrow.Author.Tests.{lt-ltb, le-ltb, ltb-true, ltb-false, eqb-true, eq-eqb, ne-eqb}
-use Rattle.region_graph.specs.Lists.{pick, any, All, keep, insert, ascends, member, count-from}
+use Rattle.region_graph.specs.Lists.{pick, exists, All, keep, insert-by, ascends, member, count-from}
 use Rattle.region_graph.specs.Model.{Connection, bundle-before, connection-before}
 use Rattle.region_graph.specs.Calls.{joins}
 use Rattle.region_graph.proofs.Lists.{and-yes, and-left, and-fst, and-snd, false-true, pick-yes, pick-no, all-map, all-both, all-kept, all-insert}
@@ -25,7 +25,7 @@ or-cases : {P : Type 0} (a b : Bool) → (a ≡ true → P) → (b ≡ true → 
 or-cases true b f g e = f refl
 or-cases false b f g e = g e
 
-pub none-any : {A : Type 0} (p : A → Bool) (xs : List A) → All (λ x. p x ≡ false) xs → any p xs ≡ false
+pub none-any : {A : Type 0} (p : A → Bool) (xs : List A) → All (λ x. p x ≡ false) xs → exists p xs ≡ false
 none-any p [] h = refl
 none-any p (x ∷ xs) h = rw (h .0) (none-any p xs (h .1))
 
@@ -66,11 +66,11 @@ module _ {A : Type 0} (before : A → A → Bool) where
         ((h, all-onward x y ys h (r .0)), r)
 
     rising-insert : (x : A) (xs : List A) → All (λ y. before x y ≡ false → before y x ≡ true) xs → Rising before xs
-        → Rising before (insert before x xs)
+        → Rising before (insert-by before x xs)
     rising-insert x [] h r = (tt, tt)
     rising-insert x (y ∷ ys) h r = go (before x y) refl (rising-insert x ys (h .1) (r .1))
       where
-        go : (b : Bool) → before x y ≡ b → Rising before (insert before x ys) → Rising before (pick b (x ∷ y ∷ ys) (y ∷ insert before x ys))
+        go : (b : Bool) → before x y ≡ b → Rising before (insert-by before x ys) → Rising before (pick b (x ∷ y ∷ ys) (y ∷ insert-by before x ys))
         go true e k = ((e, all-onward x y ys e (r .0)), r)
         go false e k = (all-insert (λ z. before y z ≡ true) before x ys (h .0 e) (r .0), k)
 
@@ -79,8 +79,8 @@ module _ {A : Type 0} (before : A → A → Bool) where
     ascends-keep p xs e = rising-ascends (keep p xs) (rising-keep p xs (ascends-rising xs e))
 
     pub ascends-insert : (x : A) (xs : List A) → All (λ y. before x y ≡ false → before y x ≡ true) xs → ascends before xs ≡ true
-        → ascends before (insert before x xs) ≡ true
-    ascends-insert x xs h e = rising-ascends (insert before x xs) (rising-insert x xs h (ascends-rising xs e))
+        → ascends before (insert-by before x xs) ≡ true
+    ascends-insert x xs h e = rising-ascends (insert-by before x xs) (rising-insert x xs h (ascends-rising xs e))
 
 -- a list put after another: the seam is where its first element joins
 pub ascends-append : {A : Type 0} (before : A → A → Bool) (xs : List A) (y : A) (ys : List A)

@@ -14,7 +14,7 @@ use lib.Count.{trailingZeros, under}
 use borrow.Author.Tests.{ltb-true, lt-ltb, eqb-true, eqb-false}
 use Rattle.region_graph.specs.Size.{regions}
 use Rattle.region_graph.specs.Lists.{pick}
-use Rattle.region_graph.specs.Sets.{bit, has, one, set-below, set-of}
+use Rattle.region_graph.specs.Sets.{bit, has, singleton, set-below, set-of}
 
 -- a digit is 0 or 1
 pub bit-le : (x n : ℕ) → bit x n ≤ 1
@@ -233,10 +233,10 @@ pub set-none : set-of (λ n. false) ≡ 0
 set-none = sym (set-is 0 (λ n. false) (pow-pos regions) (λ n h. bit-zero n))
 
 -- a region joins a set
-pub set-join : (p : ℕ → Bool) (r : ℕ) → bitOr (set-of p) (one r) ≡ set-of (λ n. p n || eqb r n)
+pub set-join : (p : ℕ → Bool) (r : ℕ) → bitOr (set-of p) (singleton r) ≡ set-of (λ n. p n || eqb r n)
 set-join p r =
-    set-is (bitOr (set-of p) (one r)) (λ n. p n || eqb r n) (or-lt regions (set-of p) (one r) (set-below-lt regions p) (alone-lt regions r))
-    (λ n h. bit-or (set-of p) (one r) n ∙ ap₂ max (bit-set-below regions p n h) (bit-alone regions r n h) ∙ either (p n) (eqb r n))
+    set-is (bitOr (set-of p) (singleton r)) (λ n. p n || eqb r n) (or-lt regions (set-of p) (singleton r) (set-below-lt regions p) (alone-lt regions r))
+    (λ n h. bit-or (set-of p) (singleton r) n ∙ ap₂ max (bit-set-below regions p n h) (bit-alone regions r n h) ∙ either (p n) (eqb r n))
   where
     either : (a b : Bool) → max (pick a 1 0) (pick b 1 0) ≡ pick (a || b) 1 0
     either true true = refl
@@ -245,11 +245,11 @@ set-join p r =
     either false false = refl
 
 -- a region leaves a set
-pub set-leave : (p : ℕ → Bool) (r : ℕ) → bitAnd (set-of p) (2 ^ 64 - 1 - one r) ≡ set-of (λ n. p n && not (eqb r n))
+pub set-leave : (p : ℕ → Bool) (r : ℕ) → bitAnd (set-of p) (2 ^ 64 - 1 - singleton r) ≡ set-of (λ n. p n && not (eqb r n))
 set-leave p r =
-    set-is (bitAnd (set-of p) (2 ^ 64 - 1 - one r)) (λ n. p n && not (eqb r n))
-    (lt-of-le-of-lt (and-le-l (set-of p) (2 ^ 64 - 1 - one r)) (set-below-lt regions p))
-    (λ n h. bit-and (set-of p) (2 ^ 64 - 1 - one r) n ∙ ap₂ min (bit-set-below regions p n h) (turned n h) ∙ both (p n) (eqb r n))
+    set-is (bitAnd (set-of p) (2 ^ 64 - 1 - singleton r)) (λ n. p n && not (eqb r n))
+    (lt-of-le-of-lt (and-le-l (set-of p) (2 ^ 64 - 1 - singleton r)) (set-below-lt regions p))
+    (λ n h. bit-and (set-of p) (2 ^ 64 - 1 - singleton r) n ∙ ap₂ min (bit-set-below regions p n h) (turned n h) ∙ both (p n) (eqb r n))
   where
     room : regions ≤ 64
     room = lit≤ tt
@@ -260,7 +260,7 @@ set-leave p r =
     both false true = refl
     both false false = refl
 
-    turned : (n : ℕ) → n < regions → bit (2 ^ 64 - 1 - one r) n ≡ 1 - pick (eqb r n) 1 0
+    turned : (n : ℕ) → n < regions → bit (2 ^ 64 - 1 - singleton r) n ≡ 1 - pick (eqb r n) 1 0
     turned n h =
-        bit-not 64 (one r) n (lt-of-lt-of-le (alone-lt regions r) (pow-mono room)) (lt-of-lt-of-le h room)
+        bit-not 64 (singleton r) n (lt-of-lt-of-le (alone-lt regions r) (pow-mono room)) (lt-of-lt-of-le h room)
         ∙ ap (λ (d : ℕ). 1 - d) (bit-alone regions r n h)

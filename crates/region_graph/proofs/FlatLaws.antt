@@ -8,7 +8,7 @@ use lib.Dec.{eqb, ltb}
 use lib.ListN.{length, getD, take, drop, length-drop}
 use lib.Seq.{length-take-le, getD-take, getD-drop}
 use borrow.Author.Tests.{eqb-true, eq-eqb}
-use Rattle.region_graph.specs.Size.{regions, most-provided, most-listed, all-sign}
+use Rattle.region_graph.specs.Size.{regions, most-provided, most-listed, everything-sign}
 use Rattle.region_graph.specs.Lists.{All, ascends, member, count-from}
 use Rattle.region_graph.specs.Sets.{has, members}
 use Rattle.region_graph.specs.Model.{Bundle, Part, Connection, Word, Numbered, NumberedPart, LegalBundle, LegalConnection}
@@ -71,10 +71,10 @@ module _ (row : List ℕ) (at : ℕ) where
 
   -- a part at a place
 
-  pub part-all : {b : Numbers} → getD row at 0 ≡ all-sign → b ≡ store-part Part.everything → Decoded store-part NumberedPart (FlatPart row at) true b
+  pub part-all : {b : Numbers} → getD row at 0 ≡ everything-sign → b ≡ store-part Part.everything → Decoded store-part NumberedPart (FlatPart row at) true b
   part-all e f = Decoded.found Part.everything tt e refl f
 
-  pub part-listed : {ok : Bool} {b : Numbers} → (getD row at 0 ≡ all-sign → ⊥) → Decoded store-numbers (Numbered most-listed) (FlatList row at) ok b
+  pub part-listed : {ok : Bool} {b : Numbers} → (getD row at 0 ≡ everything-sign → ⊥) → Decoded store-numbers (Numbered most-listed) (FlatList row at) ok b
       → Decoded store-part NumberedPart (FlatPart row at) ok b
   part-listed n (Decoded.found ns g h t f) = Decoded.found (Part.listed ns) g h t f
   part-listed n (Decoded.none f t) = Decoded.none none t

@@ -12,7 +12,7 @@ use lib.Seq.{take-suc, take-all, drop-drop}
 use borrow.Author.Tests.{eqb-true, eqb-false, ltb-true, ltb-false, leb-true, le-leb}
 use Rattle.region_graph.specs.Size.{regions, most-bundles, most-connections}
 use Rattle.region_graph.specs.Lists.{All, ascends, member}
-use Rattle.region_graph.specs.Sets.{one, set-of}
+use Rattle.region_graph.specs.Sets.{singleton, set-of}
 use Rattle.region_graph.specs.Model.{Bundle, Connection, Sorted, LegalBundle, LegalConnection, bundle-before, connection-before}
 use Rattle.region_graph.specs.Record.{store-bundle, store-connection, no-bundle, no-connection}
 use Rattle.region_graph.specs.Flat.{Flat, bundle-width, connection-width}
@@ -40,7 +40,7 @@ module _ (list : List ℕ) where
   regions-none = record { inside = omega arith; each = tt; those = sym set-none }
 
   module _ {x i : ℕ} (s : Regions list x i) where
-    pub regions-next : {y : ℕ} → i < length list → true ≡ ltb (getD list i 0) regions → y ≡ one (getD list i 0) → Regions list (bitOr x y) (i + 1)
+    pub regions-next : {y : ℕ} → i < length list → true ≡ ltb (getD list i 0) regions → y ≡ singleton (getD list i 0) → Regions list (bitOr x y) (i + 1)
     regions-next l t e = record {
       inside = omega arith;
       each =

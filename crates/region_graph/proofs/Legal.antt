@@ -9,12 +9,12 @@ use lib.ListN.{length}
 use borrow.Author.Tests.{leb-true, ltb-true, lt-ltb, eqb-true, eqb-false, ne-eqb, not-true}
 use Rattle.region_graph.specs.Size.{regions, most-bundles, most-connections, most-provided, most-listed}
 use Rattle.region_graph.specs.Refusals.{not-refused}
-use Rattle.region_graph.specs.Lists.{pick, keep, any, All, member, insert, ascends}
+use Rattle.region_graph.specs.Lists.{pick, keep, exists, All, member, insert-by, ascends}
 use Rattle.region_graph.specs.Model.{Word, Sorted, Model, Bundle, Part, Connection, NumberedPart, LegalBundle, LegalConnection, Legal, nothing}
 use Rattle.region_graph.specs.Calls.{Call, Question, first-no, end-questions, questions, number, accepted, after, run, Words, PartWords, is-region, at-location, in-region, joins, touches, within, part-within, part-ascends}
 use Rattle.region_graph.specs.Places.{ShortPart}
 use Rattle.region_graph.specs.Promise.{part}
-use Rattle.region_graph.proofs.Lists.{eqb-sym, and-fst, and-snd, false-true, pick-yes, keep-length, any-insert, insert-length, any-none, all-map, all-kept, all-insert, keep-all, member-all, member-kept, other-member, and-yes}
+use Rattle.region_graph.proofs.Lists.{eqb-sym, and-fst, and-snd, false-true, pick-yes, keep-length, exists-insert, insert-length, exists-none, all-map, all-kept, all-insert, keep-all, member-all, member-kept, other-member, and-yes}
 use Rattle.region_graph.proofs.Ascending.{Strict, Rising, or-right, ascends-rising, ascends-keep, ascends-insert, strict-numbers, strict-bundles, strict-connections, numbers-differ, connections-differ}
 
 -- neither of two tests
@@ -61,7 +61,7 @@ pub record Installable (m : Model) (b : Bundle) : Type 0 where
   pub few-services : length (b .services) ≤ most-provided
   pub packages-ascend : ascends ltb (b .packages) ≡ true
   pub services-ascend : ascends ltb (b .services) ≡ true
-  pub absent : any (at-location (b .location)) (m .bundles) ≡ false
+  pub absent : exists (at-location (b .location)) (m .bundles) ≡ false
   pub room : length (m .bundles) < most-bundles
 
 pub installable : (m : Model) (b : Bundle) → number m (Call.install b) ≡ not-refused → Installable m b
@@ -82,7 +82,7 @@ pub record Connectable (m : Model) (c : Connection) : Type 0 where
   pub source : member (c .source) (m .regions) ≡ true
   pub target : member (c .target) (m .regions) ≡ true
   pub differ : eqb (c .source) (c .target) ≡ false
-  pub absent : any (joins (c .source) (c .target)) (m .connections) ≡ false
+  pub absent : exists (joins (c .source) (c .target)) (m .connections) ≡ false
   pub bundles-few : length (c .filter .bundles) ≤ most-listed
   pub packages-within : part-within (c .filter .packages) ≡ true
   pub services-within : part-within (c .filter .services) ≡ true
@@ -128,14 +128,14 @@ module _ {A : Type 0} {most : ℕ} {before : A → A → Bool} {xs : List A} whe
 
     -- an element joins, unlike all others by a test
     sorted-insert : (P : A → Type 0) (x : A) (same : A → Bool) → ((y : A) → same y ≡ false → before x y ≡ false → before y x ≡ true)
-        → P x → any same xs ≡ false → length (insert before x xs) ≤ most → Sorted before P most xs → Sorted before P most (insert before x xs)
+        → P x → exists same xs ≡ false → length (insert-by before x xs) ≤ most → Sorted before P most xs → Sorted before P most (insert-by before x xs)
     sorted-insert P x same differ h absent room k =
         record {
           few = room;
           each = all-insert P before x xs h (k .each);
           ascend =
               ascends-insert before strict x xs
-              (all-map (λ y. same y ≡ false) (λ y. before x y ≡ false → before y x ≡ true) differ xs (any-none same xs absent)) (k .ascend);
+              (all-map (λ y. same y ≡ false) (λ y. before x y ≡ false → before y x ≡ true) differ xs (exists-none same xs absent)) (k .ascend);
         }
 
 -- ascending numbers below a limit are no more than it
@@ -182,7 +182,7 @@ legal-accepted m (Call.add-region r) l w e =
           (all-insert (λ s. s < regions) ltb r (m .regions) (ltb-true r regions (h .0)) (l .regions-legal .each))
           (ascends-insert ltb strict-numbers r (m .regions)
           (all-map (λ s. eqb r s ≡ false) (λ s. ltb r s ≡ false → ltb s r ≡ true) (λ s n. numbers-differ r s (eqb-false r s n)) (m .regions)
-          (any-none (eqb r) (m .regions) (not-true _ (h .1 .0)))) (l .regions-legal .ascend));
+          (exists-none (eqb r) (m .regions) (not-true _ (h .1 .0)))) (l .regions-legal .ascend));
       bundles-legal =
           sorted-map (LegalBundle (m .regions)) (LegalBundle rs) (λ b. legal-bundle (m .regions) rs b (stays (b .region))) (l .bundles-legal);
       connections-legal =
@@ -191,10 +191,10 @@ legal-accepted m (Call.add-region r) l w e =
     }
   where
     rs : List ℕ
-    rs = insert ltb r (m .regions)
+    rs = insert-by ltb r (m .regions)
 
     stays : (n : ℕ) → member n (m .regions) ≡ true → member n rs ≡ true
-    stays n h = any-insert (eqb n) ltb r (m .regions) ∙ or-right (eqb n r) h
+    stays n h = exists-insert (eqb n) ltb r (m .regions) ∙ or-right (eqb n r) h
 legal-accepted m (Call.remove-region r) l w e =
     record {
       regions-legal = sorted-keep strict-numbers other (λ s. s < regions) (λ s. s < regions) (λ s _ h. h) (l .regions-legal);
@@ -288,12 +288,12 @@ add-idle m r u h = go (member r (m .regions)) refl
 -- where an uninstall is refused, no bundle leaves
 pub uninstall-idle : (m : Model) (n : ℕ) → (number m (Call.uninstall n) ≡ not-refused → ⊥) → accepted m (Call.uninstall n) ≡ m
 uninstall-idle m n u =
-    let h = absent (any (at-location n) (m .bundles)) refl in
+    let h = absent (exists (at-location n) (m .bundles)) refl in
     λ i. record { regions = m .regions; bundles = keep-all (at-location n) (m .bundles) h i; connections = m .connections }
   where
-    absent : (b : Bool) → any (at-location n) (m .bundles) ≡ b → All (λ b. at-location n b ≡ false) (m .bundles)
+    absent : (b : Bool) → exists (at-location n) (m .bundles) ≡ b → All (λ b. at-location n b ≡ false) (m .bundles)
     absent true e = absurd (u (rw e))
-    absent false e = any-none (at-location n) (m .bundles) e
+    absent false e = exists-none (at-location n) (m .bundles) e
 
 -- a legal model has nothing for a refused remove or disconnect to take away
 module _ (m : Model) (l : Legal m) where
@@ -332,7 +332,7 @@ module _ (m : Model) (l : Legal m) where
   remove-idle r u =
       let k = absent (member r (m .regions)) refl in
       λ i. record {
-        regions = keep-all (eqb r) (m .regions) (any-none (eqb r) (m .regions) k) i;
+        regions = keep-all (eqb r) (m .regions) (exists-none (eqb r) (m .regions) k) i;
         bundles = keep-all (in-region r) (m .bundles) (none-in r k) i;
         connections = keep-all (touches r) (m .connections) (none-touches r k) i;
       }
@@ -343,14 +343,14 @@ module _ (m : Model) (l : Legal m) where
 
   pub disconnect-idle : (r s : ℕ) → (number m (Call.disconnect r s) ≡ not-refused → ⊥) → accepted m (Call.disconnect r s) ≡ m
   disconnect-idle r s u =
-      let h = absent (any (joins r s) (m .connections)) refl in
+      let h = absent (exists (joins r s) (m .connections)) refl in
       λ i. record { regions = m .regions; bundles = m .bundles; connections = keep-all (joins r s) (m .connections) h i }
     where
-      absent : (b : Bool) → any (joins r s) (m .connections) ≡ b → All (λ c. joins r s c ≡ false) (m .connections)
+      absent : (b : Bool) → exists (joins r s) (m .connections) ≡ b → All (λ c. joins r s c ≡ false) (m .connections)
       absent true e =
           none-joins r s
           (λ z. let h = all-yes (end-questions (m .regions) r s) (refl, (refl, (refl, tt))) z in u (rw (h .0, h .1 .0, h .1 .1 .0, e)))
-      absent false e = any-none (joins r s) (m .connections) e
+      absent false e = exists-none (joins r s) (m .connections) e
 
 -- a part that was handed over as a flag and a list
 pub part-words : (all : Bool) (xs : List ℕ) → All Word xs → PartWords (part all xs)

@@ -1,4 +1,4 @@
-pub mod Table
+pub mod ConstantTable
 pub mod Lists
 pub mod Ascending
 pub mod Bits

@@ -1,4 +1,4 @@
--- Laws of tests, `keep`, `any`, `position`, `insert`, `All` and lists without repetitions, for any element and test.
+-- Laws of tests, `keep`, `exists`, `position`, `insert-by`, `All` and lists without repetitions, for any element and test.
 use mathlib.Core.Path.{_≡_, refl, sym, ap, _∙_, subst}
 use mathlib.Core.Bool.{Bool, true, false, not, _&&_, _||_, and-false}
 use mathlib.Core.List.{List, [], _∷_, _++_, map, append-nil}
@@ -10,7 +10,7 @@ use lib.Dec.{ltb, eqb}
 use lib.ListN.{length, getD, take, drop, drop-of-length-le}
 use lib.Seq.{take-suc, drop-cons}
 use borrow.Author.Tests.{lt-ltb, le-ltb, eqb-true, eqb-false, eq-eqb, ne-eqb}
-use Rattle.region_graph.specs.Lists.{pick, any, All, keep, position, insert, member, count-from}
+use Rattle.region_graph.specs.Lists.{pick, exists, All, keep, position, insert-by, member, count-from}
 
 -- tests
 
@@ -90,44 +90,44 @@ module _ {A : Type 0} (p : A → Bool) where
   keep-same q [] h = refl
   keep-same q (x ∷ xs) h = rw (h .0, keep-same q xs (h .1))
 
-  pub any-append : (xs ys : List A) → any p (xs ++ ys) ≡ (any p xs || any p ys)
-  any-append [] ys = refl
-  any-append (x ∷ xs) ys = go (p x) (any-append xs ys)
+  pub exists-append : (xs ys : List A) → exists p (xs ++ ys) ≡ (exists p xs || exists p ys)
+  exists-append [] ys = refl
+  exists-append (x ∷ xs) ys = go (p x) (exists-append xs ys)
     where
-      go : (b : Bool) → any p (xs ++ ys) ≡ (any p xs || any p ys) → (b || any p (xs ++ ys)) ≡ (b || any p xs || any p ys)
+      go : (b : Bool) → exists p (xs ++ ys) ≡ (exists p xs || exists p ys) → (b || exists p (xs ++ ys)) ≡ (b || exists p xs || exists p ys)
       go true h = refl
       go false h = h
 
   -- an element joins
-  pub any-insert : (before : A → A → Bool) (x : A) (xs : List A) → any p (insert before x xs) ≡ (p x || any p xs)
-  any-insert before x [] = refl
-  any-insert before x (y ∷ ys) = go (before x y) (any-insert before x ys)
+  pub exists-insert : (before : A → A → Bool) (x : A) (xs : List A) → exists p (insert-by before x xs) ≡ (p x || exists p xs)
+  exists-insert before x [] = refl
+  exists-insert before x (y ∷ ys) = go (before x y) (exists-insert before x ys)
     where
-      go : (b : Bool) → any p (insert before x ys) ≡ (p x || any p ys)
-          → any p (pick b (x ∷ y ∷ ys) (y ∷ insert before x ys)) ≡ (p x || (p y || any p ys))
+      go : (b : Bool) → exists p (insert-by before x ys) ≡ (p x || exists p ys)
+          → exists p (pick b (x ∷ y ∷ ys) (y ∷ insert-by before x ys)) ≡ (p x || (p y || exists p ys))
       go true h = refl
-      go false h = ap (λ (t : Bool). p y || t) h ∙ or-swap (p y) (p x) (any p ys)
+      go false h = ap (λ (t : Bool). p y || t) h ∙ or-swap (p y) (p x) (exists p ys)
 
   -- some elements leave
-  pub any-keep : (q : A → Bool) (xs : List A) → any p (keep q xs) ≡ any (λ x. q x && p x) xs
-  any-keep q [] = refl
-  any-keep q (x ∷ xs) = go (q x) (any-keep q xs)
+  pub exists-keep : (q : A → Bool) (xs : List A) → exists p (keep q xs) ≡ exists (λ x. q x && p x) xs
+  exists-keep q [] = refl
+  exists-keep q (x ∷ xs) = go (q x) (exists-keep q xs)
     where
-      go : (b : Bool) → any p (keep q xs) ≡ any (λ y. q y && p y) xs
-          → any p (pick b (x ∷ keep q xs) (keep q xs)) ≡ ((b && p x) || any (λ y. q y && p y) xs)
+      go : (b : Bool) → exists p (keep q xs) ≡ exists (λ y. q y && p y) xs
+          → exists p (pick b (x ∷ keep q xs) (keep q xs)) ≡ ((b && p x) || exists (λ y. q y && p y) xs)
       go true h = ap (λ (t : Bool). p x || t) h
       go false h = h
 
   -- a search among the elements from i on
   module _ (xs : List A) (i : ℕ) (d : A) (h : i < length xs) where
-    any-next : any p (drop i xs) ≡ (p (getD xs i d) || any p (drop (i + 1) xs))
-    any-next = rw add-one (ap (any p) (drop-cons xs i d h))
+    exists-next : exists p (drop i xs) ≡ (p (getD xs i d) || exists p (drop (i + 1) xs))
+    exists-next = rw add-one (ap (exists p) (drop-cons xs i d h))
 
-    pub any-here : any p xs ≡ any p (drop i xs) → p (getD xs i d) ≡ true → true ≡ any p xs
-    any-here e t = sym (e ∙ any-next ∙ rw t)
+    pub exists-here : exists p xs ≡ exists p (drop i xs) → p (getD xs i d) ≡ true → true ≡ exists p xs
+    exists-here e t = sym (e ∙ exists-next ∙ rw t)
 
-    pub any-later : any p xs ≡ any p (drop i xs) → p (getD xs i d) ≡ false → any p xs ≡ any p (drop (i + 1) xs)
-    any-later e t = e ∙ any-next ∙ rw t
+    pub exists-later : exists p xs ≡ exists p (drop i xs) → p (getD xs i d) ≡ false → exists p xs ≡ exists p (drop (i + 1) xs)
+    exists-later e t = e ∙ exists-next ∙ rw t
 
     position-next : position p (drop i xs) ≡ pick (p (getD xs i d)) 0 (suc (position p (drop (i + 1) xs)))
     position-next = rw add-one (ap (position p) (drop-cons xs i d h))
@@ -142,28 +142,28 @@ module _ {A : Type 0} (p : A → Bool) where
         = position-next ∙ pick-no 0 (suc (position p (drop (i + 1) xs))) t in
         omega arith
 
-  pub any-end : (xs : List A) (i : ℕ) → any p xs ≡ any p (drop i xs) → length xs ≤ i → false ≡ any p xs
-  any-end xs i e h = sym (e ∙ rw (drop-of-length-le xs h))
+  pub exists-end : (xs : List A) (i : ℕ) → exists p xs ≡ exists p (drop i xs) → length xs ≤ i → false ≡ exists p xs
+  exists-end xs i e h = sym (e ∙ rw (drop-of-length-le xs h))
 
   pub position-end : (xs : List A) (i : ℕ) → position p xs ≡ i + position p (drop i xs) → length xs ≤ i → i ≡ position p xs
   position-end xs i e h = sym (e ∙ rw (drop-of-length-le xs h) (add-zero i))
 
   -- the first element that passes stands within the list where there is one, else the place is the length
-  pub any-found : (xs : List A) → position p xs < length xs → any p xs ≡ true
-  any-found [] h = absurd (omega arith)
-  any-found (x ∷ xs) h = go (p x) (any-found xs) h
+  pub exists-found : (xs : List A) → position p xs < length xs → exists p xs ≡ true
+  exists-found [] h = absurd (omega arith)
+  exists-found (x ∷ xs) h = go (p x) (exists-found xs) h
     where
-      go : (b : Bool) → (position p xs < length xs → any p xs ≡ true) → pick b 0 (suc (position p xs)) < suc (length xs)
-          → (b || any p xs) ≡ true
+      go : (b : Bool) → (position p xs < length xs → exists p xs ≡ true) → pick b 0 (suc (position p xs)) < suc (length xs)
+          → (b || exists p xs) ≡ true
       go true r k = refl
       go false r k = r (omega arith)
 
-  pub any-missed : (xs : List A) → length xs ≤ position p xs → any p xs ≡ false
-  any-missed [] h = refl
-  any-missed (x ∷ xs) h = go (p x) (any-missed xs) h
+  pub exists-missed : (xs : List A) → length xs ≤ position p xs → exists p xs ≡ false
+  exists-missed [] h = refl
+  exists-missed (x ∷ xs) h = go (p x) (exists-missed xs) h
     where
-      go : (b : Bool) → (length xs ≤ position p xs → any p xs ≡ false) → suc (length xs) ≤ pick b 0 (suc (position p xs))
-          → (b || any p xs) ≡ false
+      go : (b : Bool) → (length xs ≤ position p xs → exists p xs ≡ false) → suc (length xs) ≤ pick b 0 (suc (position p xs))
+          → (b || exists p xs) ≡ false
       go true r k = absurd (omega arith)
       go false r k = r (omega arith)
 
@@ -177,21 +177,21 @@ module _ {A : Type 0} (p : A → Bool) where
 
 -- an element is put at the place of the first that it comes before
 pub insert-at : {A : Type 0} (before : A → A → Bool) (x : A) (xs : List A)
-    → (let i = position (before x) xs in insert before x xs ≡ take i xs ++ (x ∷ drop i xs))
+    → (let i = position (before x) xs in insert-by before x xs ≡ take i xs ++ (x ∷ drop i xs))
 insert-at before x [] = refl
 insert-at {A} before x (y ∷ ys) = go (before x y) (insert-at before x ys)
   where
-    go : (b : Bool) → insert before x ys ≡ take (position (before x) ys) ys ++ (x ∷ drop (position (before x) ys) ys)
+    go : (b : Bool) → insert-by before x ys ≡ take (position (before x) ys) ys ++ (x ∷ drop (position (before x) ys) ys)
         → (let i = pick b 0 (suc (position (before x) ys)) in
-        pick b (x ∷ y ∷ ys) (y ∷ insert before x ys) ≡ take i (y ∷ ys) ++ (x ∷ drop i (y ∷ ys)))
+        pick b (x ∷ y ∷ ys) (y ∷ insert-by before x ys) ≡ take i (y ∷ ys) ++ (x ∷ drop i (y ∷ ys)))
     go true h = refl
     go false h = ap (λ (l : List A). y ∷ l) h
 
-pub insert-length : {A : Type 0} (before : A → A → Bool) (x : A) (xs : List A) → length (insert before x xs) ≡ suc (length xs)
+pub insert-length : {A : Type 0} (before : A → A → Bool) (x : A) (xs : List A) → length (insert-by before x xs) ≡ suc (length xs)
 insert-length before x [] = refl
 insert-length before x (y ∷ ys) = go (before x y) (insert-length before x ys)
   where
-    go : (b : Bool) → length (insert before x ys) ≡ suc (length ys) → length (pick b (x ∷ y ∷ ys) (y ∷ insert before x ys)) ≡ suc (suc (length ys))
+    go : (b : Bool) → length (insert-by before x ys) ≡ suc (length ys) → length (pick b (x ∷ y ∷ ys) (y ∷ insert-by before x ys)) ≡ suc (suc (length ys))
     go true h = refl
     go false h = ap suc h
 
@@ -215,11 +215,11 @@ module _ {A : Type 0} where
       go true e r = (f x e (h .0), r)
       go false e r = r
 
-  pub all-insert : (P : A → Type 0) (before : A → A → Bool) (x : A) (xs : List A) → P x → All P xs → All P (insert before x xs)
+  pub all-insert : (P : A → Type 0) (before : A → A → Bool) (x : A) (xs : List A) → P x → All P xs → All P (insert-by before x xs)
   all-insert P before x [] h k = (h, tt)
   all-insert P before x (y ∷ ys) h k = go (before x y) (all-insert P before x ys h (k .1))
     where
-      go : (b : Bool) → All P (insert before x ys) → All P (pick b (x ∷ y ∷ ys) (y ∷ insert before x ys))
+      go : (b : Bool) → All P (insert-by before x ys) → All P (pick b (x ∷ y ∷ ys) (y ∷ insert-by before x ys))
       go true r = (h, k)
       go false r = (k .0, r)
 
@@ -242,11 +242,11 @@ module _ {A : Type 0} where
   all-of P d [] f = tt
   all-of P d (x ∷ xs) f = (f 0 (omega arith), all-of P d xs (λ i h. f (suc i) (omega arith)))
 
-  pub any-none : (p : A → Bool) (xs : List A) → any p xs ≡ false → All (λ x. p x ≡ false) xs
-  any-none p [] e = tt
-  any-none p (x ∷ xs) e = go (p x) refl (any-none p xs) e
+  pub exists-none : (p : A → Bool) (xs : List A) → exists p xs ≡ false → All (λ x. p x ≡ false) xs
+  exists-none p [] e = tt
+  exists-none p (x ∷ xs) e = go (p x) refl (exists-none p xs) e
     where
-      go : (b : Bool) → p x ≡ b → (any p xs ≡ false → All (λ y. p y ≡ false) xs) → (b || any p xs) ≡ false
+      go : (b : Bool) → p x ≡ b → (exists p xs ≡ false → All (λ y. p y ≡ false) xs) → (b || exists p xs) ≡ false
           → (p x ≡ false) × All (λ y. p y ≡ false) xs
       go true h r k = false-true (sym k)
       go false h r k = (h, r k)
@@ -257,19 +257,19 @@ module _ {A : Type 0} (p : A → Bool) where
   keep-all [] h = refl
   keep-all (x ∷ xs) h = rw (h .0) (ap (λ (l : List A). x ∷ l) (keep-all xs (h .1)))
 
-  pub any-fewer : (xs : List A) → (length (keep (λ x. not (p x)) xs) ≡ length xs → ⊥) → any p xs ≡ true
-  any-fewer xs f = go (any p xs) refl
+  pub exists-fewer : (xs : List A) → (length (keep (λ x. not (p x)) xs) ≡ length xs → ⊥) → exists p xs ≡ true
+  exists-fewer xs f = go (exists p xs) refl
     where
-      go : (b : Bool) → any p xs ≡ b → b ≡ true
+      go : (b : Bool) → exists p xs ≡ b → b ≡ true
       go true e = refl
-      go false e = absurd (f (ap length (keep-all xs (any-none p xs e))))
+      go false e = absurd (f (ap length (keep-all xs (exists-none p xs e))))
 
-  pub any-as-many : (xs : List A) → length (keep (λ x. not (p x)) xs) ≡ length xs → any p xs ≡ false
-  any-as-many [] e = refl
-  any-as-many (x ∷ xs) e = go (p x) (any-as-many xs) e
+  pub exists-as-many : (xs : List A) → length (keep (λ x. not (p x)) xs) ≡ length xs → exists p xs ≡ false
+  exists-as-many [] e = refl
+  exists-as-many (x ∷ xs) e = go (p x) (exists-as-many xs) e
     where
-      go : (b : Bool) → (length (keep (λ y. not (p y)) xs) ≡ length xs → any p xs ≡ false)
-          → length (pick (not b) (x ∷ keep (λ y. not (p y)) xs) (keep (λ y. not (p y)) xs)) ≡ suc (length xs) → (b || any p xs) ≡ false
+      go : (b : Bool) → (length (keep (λ y. not (p y)) xs) ≡ length xs → exists p xs ≡ false)
+          → length (pick (not b) (x ∷ keep (λ y. not (p y)) xs) (keep (λ y. not (p y)) xs)) ≡ suc (length xs) → (b || exists p xs) ≡ false
       go true r k = absurd (omega (arith, keep-length (λ y. not (p y)) xs))
       go false r k = r (omega arith)
 
@@ -310,11 +310,11 @@ member-kept q n (x ∷ xs) = go (q x) (eqb n x) refl refl (member-kept q n xs)
     go false false f e h = h
 
 -- an element that passes, with what is known of each
-pub any-one : {A : Type 0} (p : A → Bool) (P : A → Type 0) (xs : List A) → All P xs → any p xs ≡ true → (x : A) × (p x ≡ true) × P x
-any-one p P [] h e = false-true e
-any-one {A} p P (x ∷ xs) h e = go (p x) refl (any-one p P xs (h .1)) e
+pub exists-one : {A : Type 0} (p : A → Bool) (P : A → Type 0) (xs : List A) → All P xs → exists p xs ≡ true → (x : A) × (p x ≡ true) × P x
+exists-one p P [] h e = false-true e
+exists-one {A} p P (x ∷ xs) h e = go (p x) refl (exists-one p P xs (h .1)) e
   where
-    go : (b : Bool) → p x ≡ b → (any p xs ≡ true → (y : A) × (p y ≡ true) × P y) → (b || any p xs) ≡ true → (y : A) × (p y ≡ true) × P y
+    go : (b : Bool) → p x ≡ b → (exists p xs ≡ true → (y : A) × (p y ≡ true) × P y) → (b || exists p xs) ≡ true → (y : A) × (p y ≡ true) × P y
     go true f r k = (x, f, h .0)
     go false f r k = r k
 
@@ -341,7 +341,7 @@ distinct-length (x ∷ xs) ys d h =
       distinct-length xs (keep other ys) (d .1)
           (all-map (λ y. (member y ys ≡ true) × (eqb x y ≡ false)) (λ y. member y (keep other ys) ≡ true)
           (λ y t. member-kept other y ys ∙ and-yes (t .0) (ap not (t .1))) xs
-          (all-both (λ y. member y ys ≡ true) (λ y. eqb x y ≡ false) xs (h .1) (any-none (eqb x) xs (d .0)))),
+          (all-both (λ y. member y ys ≡ true) (λ y. eqb x y ≡ false) xs (h .1) (exists-none (eqb x) xs (d .0)))),
     )
   where
     other : ℕ → Bool

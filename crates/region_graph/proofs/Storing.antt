@@ -9,10 +9,10 @@ use lib.Dec.{eqb, ltb}
 use borrow.Author.Tests.{lt-ltb, eqb-true, eqb-false, eq-eqb, ne-eqb}
 use lib.ListN.{length, getD, take, replicate, length-map}
 use lib.Seq.{take-at}
-use Rattle.region_graph.specs.Size.{regions, most-bundles, most-connections, most-listed, most-provided, all-sign}
+use Rattle.region_graph.specs.Size.{regions, most-bundles, most-connections, most-listed, most-provided, everything-sign}
 use Rattle.region_graph.specs.Refusals.{not-refused}
-use Rattle.region_graph.specs.Lists.{All, member, keep, insert, count-from}
-use Rattle.region_graph.specs.Sets.{bit, has, one, members, set-of}
+use Rattle.region_graph.specs.Lists.{All, member, keep, insert-by, count-from}
+use Rattle.region_graph.specs.Sets.{bit, has, singleton, members, set-of}
 use Rattle.region_graph.specs.Model.{Model, Bundle, Part, Connection, Sorted, Legal, LegalBundle, LegalConnection, NumberedPart, nothing}
 use Rattle.region_graph.specs.Calls.{Call, number, accepted, Words}
 use Rattle.region_graph.specs.Record
@@ -27,7 +27,7 @@ use Rattle.region_graph.specs.declared.connections.Connections.{Connecti
 use Rattle.region_graph.specs.declared.Graph.{Graph}
 use Rattle.region_graph.specs.Promise.{Empty, Follows}
 use Rattle.region_graph.specs.declared.Changed.{Changed}
-use Rattle.region_graph.proofs.Lists.{pick-yes, pick-no, all-map, all-at, keep-same, member-kept, member-counted, any-insert, eqb-sym}
+use Rattle.region_graph.proofs.Lists.{pick-yes, pick-no, all-map, all-at, keep-same, member-kept, member-counted, exists-insert, eqb-sym}
 use Rattle.region_graph.proofs.Ascending.{members-back}
 use Rattle.region_graph.proofs.Bits.{has-set, set-ext, set-join, set-leave}
 use Rattle.region_graph.proofs.Legal.{legal-accepted, legal-nothing}
@@ -58,8 +58,8 @@ unfolding provided-of store-provided
 provided-back xs = places-back most-provided xs
 
 -- no list that its places take has the sign for its count
-pub no-sign : {n : ℕ} → n ≤ most-listed → eqb n all-sign ≡ false
-no-sign {n} h = ne-eqb n all-sign (λ e. omega arith)
+pub no-sign : {n : ℕ} → n ≤ most-listed → eqb n everything-sign ≡ false
+no-sign {n} h = ne-eqb n everything-sign (λ e. omega arith)
 
 pub part-back : (p : Part) → ShortPart p → part-in (store-part p) ≡ p
 unfolding store-numbers
@@ -162,9 +162,9 @@ pub service-part-stored : (c : StoredConnection) → ConnectionStored c → Part
 service-part-stored c s = record { stored = ap (λ (x : StoredConnection). x .services) (s .stored); good = s .good .services }
 
 -- a part without the sign is a list
-pub listed-stored : (p : Numbers) → PartStored p → (p .count ≡ all-sign → ⊥) → NumbersStored p
+pub listed-stored : (p : Numbers) → PartStored p → (p .count ≡ everything-sign → ⊥) → NumbersStored p
 listed-stored p s e =
-    let f : eqb (p .count) all-sign ≡ false = ne-eqb (p .count) all-sign e in
+    let f : eqb (p .count) everything-sign ≡ false = ne-eqb (p .count) everything-sign e in
     record { stored = rw f at (s .stored); good = rw f at (s .good) }
 
 -- an empty array of places
@@ -294,23 +294,23 @@ module _ (g : Graph) (v : Valid g) where
   }
 
 -- a region joins a set of regions, or leaves it
-pub set-insert : {x : ℕ} (rs : List ℕ) (r : ℕ) → x ≡ set-of (λ n. member n rs) → bitOr x (one r) ≡ set-of (λ n. member n (insert ltb r rs))
+pub set-insert : {x : ℕ} (rs : List ℕ) (r : ℕ) → x ≡ set-of (λ n. member n rs) → bitOr x (singleton r) ≡ set-of (λ n. member n (insert-by ltb r rs))
 set-insert rs r e =
-    ap (λ (x : ℕ). bitOr x (one r)) e ∙ set-join (λ n. member n rs) r
-    ∙ set-ext (λ n. member n rs || eqb r n) (λ n. member n (insert ltb r rs))
-    (λ n h. or-comm (member n rs) (eqb r n) ∙ ap (λ (b : Bool). b || member n rs) (eqb-sym r n) ∙ sym (any-insert (eqb n) ltb r rs))
+    ap (λ (x : ℕ). bitOr x (singleton r)) e ∙ set-join (λ n. member n rs) r
+    ∙ set-ext (λ n. member n rs || eqb r n) (λ n. member n (insert-by ltb r rs))
+    (λ n h. or-comm (member n rs) (eqb r n) ∙ ap (λ (b : Bool). b || member n rs) (eqb-sym r n) ∙ sym (exists-insert (eqb n) ltb r rs))
 
 pub set-remove : {x : ℕ} (rs : List ℕ) (r : ℕ) → x ≡ set-of (λ n. member n rs)
-    → bitAnd x (2 ^ 64 - 1 - one r) ≡ set-of (λ n. member n (keep (λ s. not (eqb r s)) rs))
+    → bitAnd x (2 ^ 64 - 1 - singleton r) ≡ set-of (λ n. member n (keep (λ s. not (eqb r s)) rs))
 set-remove rs r e =
-    ap (λ (x : ℕ). bitAnd x (2 ^ 64 - 1 - one r)) e ∙ set-leave (λ n. member n rs) r
+    ap (λ (x : ℕ). bitAnd x (2 ^ 64 - 1 - singleton r)) e ∙ set-leave (λ n. member n rs) r
     ∙ set-ext (λ n. member n rs && not (eqb r n)) (λ n. member n (keep (λ s. not (eqb r s)) rs))
     (λ n h. sym (member-kept (λ s. not (eqb r s)) n rs))
 
 -- a set that has the region keeps its value, and so does every set for a number that is no region's
-pub set-kept : {x : ℕ} (rs : List ℕ) (r : ℕ) → (r < regions → member r rs ≡ true) → x ≡ set-of (λ n. member n rs) → bitOr x (one r) ≡ x
+pub set-kept : {x : ℕ} (rs : List ℕ) (r : ℕ) → (r < regions → member r rs ≡ true) → x ≡ set-of (λ n. member n rs) → bitOr x (singleton r) ≡ x
 set-kept rs r f e =
-    ap (λ (x : ℕ). bitOr x (one r)) e ∙ set-join (λ n. member n rs) r
+    ap (λ (x : ℕ). bitOr x (singleton r)) e ∙ set-join (λ n. member n rs) r
     ∙ set-ext (λ n. member n rs || eqb r n) (λ n. member n rs) (λ n h. had n h (eqb r n) refl) ∙ sym e
   where
     had : (n : ℕ) → n < regions → (b : Bool) → eqb r n ≡ b → (member n rs || b) ≡ member n rs
@@ -335,7 +335,7 @@ pub stores-means : {g : Graph} (m : Model) → Legal m → g ≡ store m → mea
 stores-means m h e = ap meaning e ∙ meaning-back m h
 
 pub stores-nothing : {g : Graph} → g ≡ store nothing → Empty g
-stores-nothing e = record { valid = stores-valid nothing legal-nothing e; sets = stores-means nothing legal-nothing e }
+stores-nothing e = record { valid = stores-valid nothing legal-nothing e; model = stores-means nothing legal-nothing e }
 
 -- a call, its number, and the record that it hands back
 module _ (g : Graph) (c : Call) {h : Graph} {k : ℕ} (v : Valid g) (e : k ≡ number (meaning g) c) where
@@ -383,4 +383,4 @@ settled g c r s f h =
     λ i. record { graph = e i; number = (f .number ∙ sym (h .number)) i }
 
 pub empty-settled : (g h : Graph) → Empty g → Empty h → g ≡ h
-empty-settled g h e f = meaning-injective g h (e .valid) (f .valid) (e .sets ∙ sym (f .sets))
+empty-settled g h e f = meaning-injective g h (e .valid) (f .valid) (e .model ∙ sym (f .model))

@@ -11,8 +11,8 @@ use lib.ListN.{length, getD, take, set}
 use lib.Seq.{take-suc}
 use borrow.Author.Tests.{eq-eqb, ne-eqb}
 use Rattle.region_graph.specs.Size.{regions}
-use Rattle.region_graph.specs.Lists.{pick, any, position, count-from}
-use Rattle.region_graph.specs.Sets.{one, set-of}
+use Rattle.region_graph.specs.Lists.{pick, exists, position, count-from}
+use Rattle.region_graph.specs.Sets.{singleton, set-of}
 use Rattle.region_graph.specs.Model.{Bundle, Filter, Part, LegalConnection}
 use Rattle.region_graph.specs.Calls.{at-location}
 use Rattle.region_graph.specs.Items.{provided, part-of, provides, passes}
@@ -21,7 +21,7 @@ use Rattle.region_graph.specs.Promise.{place-of}
 use Rattle.region_graph.specs.declared.Graph.{Graph}
 use Rattle.region_graph.specs.declared.Place.the-variants.{Within, Nowhere}
 use Rattle.region_graph.specs.declared.connections.StoredConnection.{StoredConnection}
-use Rattle.region_graph.proofs.Lists.{any-append, all-at, member-all}
+use Rattle.region_graph.proofs.Lists.{exists-append, all-at, member-all}
 use Rattle.region_graph.proofs.Bits.{set-ext, set-none, set-join}
 use Rattle.region_graph.proofs.Arrays.{filled-at, filled-inside}
 use Rattle.region_graph.proofs.Storing.{connections-stored, connections-filled}
@@ -29,11 +29,11 @@ use Rattle.region_graph.proofs.Storing.{connections-stored, connections
 -- lists
 
 -- some element of one more passes
-pub any-more : {A : Type 0} (p : A → Bool) (xs : List A) (i : ℕ) (d : A) → i < length xs
-    → any p (take (i + 1) xs) ≡ (any p (take i xs) || p (getD xs i d))
-any-more p xs i d h =
+pub exists-more : {A : Type 0} (p : A → Bool) (xs : List A) (i : ℕ) (d : A) → i < length xs
+    → exists p (take (i + 1) xs) ≡ (exists p (take i xs) || p (getD xs i d))
+exists-more p xs i d h =
     rw (add-one, take-suc xs i d h)
-    (any-append p (take i xs) (getD xs i d ∷ []) ∙ ap (λ (t : Bool). any p (take i xs) || t) (or-false (p (getD xs i d))))
+    (exists-append p (take i xs) (getD xs i d ∷ []) ∙ ap (λ (t : Bool). exists p (take i xs) || t) (or-false (p (getD xs i d))))
 
 -- a list of the values of a function at consecutive numbers: what stands at a place
 pub counted-at : (f : ℕ → ℕ) (a k j n d : ℕ) → j < k → n ≡ a + j → getD (map f (count-from a k)) j d ≡ f n
@@ -57,7 +57,7 @@ counted-set f g a (suc k) (suc j) n v l e w h =
     rw (h a (λ q. omega arith), counted-set f g (suc a) k j n v (omega arith) (omega arith) w h)
 
 -- for each region a set of regions, by a test: as one region more comes into one of the sets
-pub sets-more : (f g : ℕ → ℕ → Bool) (r : ℕ) {sets : List ℕ} {s x : ℕ} → sets ≡ map (λ m. set-of (λ n. f n m)) (count-from 0 regions) → x ≡ one r
+pub sets-more : (f g : ℕ → ℕ → Bool) (r : ℕ) {sets : List ℕ} {s x : ℕ} → sets ≡ map (λ m. set-of (λ n. f n m)) (count-from 0 regions) → x ≡ singleton r
     → s < regions → ((n : ℕ) → g n s ≡ (f n s || eqb r n)) → ((n m : ℕ) → (m ≡ s → ⊥) → g n m ≡ f n m)
     → set sets s (bitOr (getD sets s 0) x) ≡ map (λ m. set-of (λ n. g n m)) (count-from 0 regions)
 sets-more f g r {sets} {s} {x} p t l own other =
@@ -114,19 +114,19 @@ module _ (l : ℕ) where
 module _ {A : Type 0} (q : A → ℕ → Bool) (xs : List A) (i : ℕ) (d : A) (h : i < length xs) where
   -- an element that leads to one region adds it
   pub set-took : (r : ℕ) → ((n : ℕ) → q (getD xs i d) n ≡ eqb r n)
-      → bitOr (set-of (λ n. any (λ x. q x n) (take i xs))) (one r) ≡ set-of (λ n. any (λ x. q x n) (take (i + 1) xs))
+      → bitOr (set-of (λ n. exists (λ x. q x n) (take i xs))) (singleton r) ≡ set-of (λ n. exists (λ x. q x n) (take (i + 1) xs))
   set-took r f =
-      set-join (λ n. any (λ x. q x n) (take i xs)) r
-      ∙ set-ext (λ n. any (λ x. q x n) (take i xs) || eqb r n) (λ n. any (λ x. q x n) (take (i + 1) xs))
-      (λ n l. sym (any-more (λ x. q x n) xs i d h ∙ ap (λ (t : Bool). any (λ x. q x n) (take i xs) || t) (f n)))
+      set-join (λ n. exists (λ x. q x n) (take i xs)) r
+      ∙ set-ext (λ n. exists (λ x. q x n) (take i xs) || eqb r n) (λ n. exists (λ x. q x n) (take (i + 1) xs))
+      (λ n l. sym (exists-more (λ x. q x n) xs i d h ∙ ap (λ (t : Bool). exists (λ x. q x n) (take i xs) || t) (f n)))
 
   -- an element that leads nowhere adds nothing
   set-left : ((n : ℕ) → q (getD xs i d) n ≡ false)
-      → set-of (λ n. any (λ x. q x n) (take i xs)) ≡ set-of (λ n. any (λ x. q x n) (take (i + 1) xs))
+      → set-of (λ n. exists (λ x. q x n) (take i xs)) ≡ set-of (λ n. exists (λ x. q x n) (take (i + 1) xs))
   set-left f =
-      set-ext (λ n. any (λ x. q x n) (take i xs)) (λ n. any (λ x. q x n) (take (i + 1) xs))
+      set-ext (λ n. exists (λ x. q x n) (take i xs)) (λ n. exists (λ x. q x n) (take (i + 1) xs))
       (λ n l.
-      sym (any-more (λ x. q x n) xs i d h ∙ ap (λ (t : Bool). any (λ x. q x n) (take i xs) || t) (f n) ∙ or-false (any (λ x. q x n) (take i xs))))
+      sym (exists-more (λ x. q x n) xs i d h ∙ ap (λ (t : Bool). exists (λ x. q x n) (take i xs) || t) (f n) ∙ or-false (exists (λ x. q x n) (take i xs))))
 
 -- holders: elements that have a region each, and a test
 
@@ -137,7 +137,7 @@ module _ {A : Type 0} (region : A → ℕ) (provides : A → Bool) where
 
   -- the regions to which some element of the list brings it
   unfoldable pub held : List A → ℕ
-  held xs = set-of (λ r. any (λ x. brings x r) xs)
+  held xs = set-of (λ r. exists (λ x. brings x r) xs)
 
   -- no element brings it anywhere
   pub held-none : 0 ≡ held []
@@ -146,7 +146,7 @@ module _ {A : Type 0} (region : A → ℕ) (provides : A → Bool) where
 
   module _ (xs : List A) (i : ℕ) (d : A) (h : i < length xs) where
     -- an element that provides it adds its region
-    pub held-took : provides (getD xs i d) ≡ true → bitOr (held (take i xs)) (one (region (getD xs i d))) ≡ held (take (i + 1) xs)
+    pub held-took : provides (getD xs i d) ≡ true → bitOr (held (take i xs)) (singleton (region (getD xs i d))) ≡ held (take (i + 1) xs)
     unfolding held
     held-took e =
         set-took brings xs i d h (region (getD xs i d))
@@ -168,7 +168,7 @@ module _ {A : Type 0} (source target : A → ℕ) (passes : A → Bool) where
 
   -- the regions from which some element of the list leads to region s
   abbrev before : List A → ℕ → ℕ
-  before xs s = set-of (λ r. any (λ x. leads s x r) xs)
+  before xs s = set-of (λ r. exists (λ x. leads s x r) xs)
 
   -- for each region the regions from which some element of the list leads to it
   unfoldable pub led : List A → List ℕ
@@ -181,18 +181,18 @@ module _ {A : Type 0} (source target : A → ℕ) (passes : A → Bool) where
 
   module _ (xs : List A) (i : ℕ) (d : A) (h : i < length xs) where
     -- an element that passes adds its source to those that lead to its target
-    pub led-took : {sets : List ℕ} {s x : ℕ} → sets ≡ led (take i xs) → s ≡ target (getD xs i d) → x ≡ one (source (getD xs i d)) → s < regions
+    pub led-took : {sets : List ℕ} {s x : ℕ} → sets ≡ led (take i xs) → s ≡ target (getD xs i d) → x ≡ singleton (source (getD xs i d)) → s < regions
         → passes (getD xs i d) ≡ true → set sets s (bitOr (getD sets s 0) x) ≡ led (take (i + 1) xs)
     unfolding led
     led-took {sets} {s} {x} p f t l e =
         let c = getD xs i d in
-        let had : ℕ → ℕ → Bool = λ r m. any (λ x. leads m x r) (take i xs) in
-        sets-more had (λ r m. any (λ x. leads m x r) (take (i + 1) xs)) (source c) p t l
+        let had : ℕ → ℕ → Bool = λ r m. exists (λ x. leads m x r) (take i xs) in
+        sets-more had (λ r m. exists (λ x. leads m x r) (take (i + 1) xs)) (source c) p t l
         (λ n.
-        any-more (λ x. leads s x n) xs i d h
+        exists-more (λ x. leads s x n) xs i d h
         ∙ ap (λ (t : Bool). had n s || t) (rw (e, eq-eqb (target c) s (sym f)) (and-true (eqb (source c) n && true) ∙ and-true (eqb (source c) n))))
         (λ n m k.
-        any-more (λ x. leads m x n) xs i d h
+        exists-more (λ x. leads m x n) xs i d h
         ∙ ap (λ (t : Bool). had n m || t) (rw (ne-eqb (target c) m (λ q. k (sym q ∙ sym f)), and-false (eqb (source c) n))) ∙ or-false (had n m))
 
     -- an element that does not adds nothing

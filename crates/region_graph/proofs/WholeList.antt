@@ -63,13 +63,13 @@ Change g c n h = Called g n h c
 -- the record is valid and means the model
 pub record Means (g : Graph) (m : Model) : Type 0 where
   pub valid : Valid g
-  pub sets : meaning g ≡ m
+  pub model : meaning g ≡ m
 
 -- what every changing call promises keeps that, and gives the model's number
 pub follows-means : {g h : Graph} {c : Call} {n : ℕ} {m : Model} → Means g m → Follows g c (record { graph = h; number = n })
     → (n ≡ number m c) × Means h (after m c)
 follows-means {c = c} t f =
-    (f .number ∙ ap (λ (m : Model). number m c) (t .sets), record { valid = f .valid; sets = f .next ∙ ap (λ (m : Model). after m c) (t .sets) })
+    (f .number ∙ ap (λ (m : Model). number m c) (t .model), record { valid = f .valid; model = f .next ∙ ap (λ (m : Model). after m c) (t .model) })
 
 pub change-means : (g h : Graph) (c : Call) (n : ℕ) (m : Model) → Means g m → Change g c n h → (n ≡ number m c) × Means h (after m c)
 change-means g h c n m t p = follows-means t (follows p)
@@ -78,4 +78,4 @@ change-means g h c n m t p = follows-means t (follows p)
 -- model's last sets, and it is valid.
 pub whole-list : {g h : Graph} {cs : List Call} {ns : List ℕ} → empty.Learnt tt tt g tt → Steps Change g cs ns h
     → (ns ≡ numbers nothing cs) × Means h (run nothing cs)
-whole-list e ps = steps Change number after Means change-means (record { valid = e .valid; sets = e .sets }) ps
+whole-list e ps = steps Change number after Means change-means (record { valid = e .valid; model = e .model }) ps

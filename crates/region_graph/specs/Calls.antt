@@ -1,12 +1,12 @@
 -- Document 01, "The questions, in order", and what an accepted call does: the six changing calls on the model.
-use mathlib.Core.Bool.{Bool, true, false, not, _&&_, _||_}
+use mathlib.Core.Bool.{Bool, true, not, _&&_, _||_}
 use mathlib.Core.List.{List, [], _∷_, _++_}
 use Prim.Native.Nat.{ℕ}
 use lib.Dec.{eqb, leb, ltb}
 use lib.ListN.{length}
 use Rattle.region_graph.specs.Size.{regions, most-bundles, most-connections, most-provided, most-listed}
 use Rattle.region_graph.specs.Refusals.{not-refused, not-a-region, region-used, no-such-region, ends-equal, connected, not-connected, list-too-long, list-out-of-order, installed, filtered, full, not-installed}
-use Rattle.region_graph.specs.Lists.{pick, keep, any, All, member, insert, ascends}
+use Rattle.region_graph.specs.Lists.{pick, keep, exists, All, member, insert-by, ascends}
 use Rattle.region_graph.specs.Steps.{run-by, answers-by}
 use Rattle.region_graph.specs.Model.{Model, Bundle, Filter, Part, Connection, Word, bundle-before, connection-before}
 
@@ -100,15 +100,15 @@ provided-questions rs r packages services =
 -- about a place for a bundle
 abbrev pub bundle-questions : List Bundle → List Connection → ℕ → ℕ → List Question
 bundle-questions bs cs r l =
-    ask installed (not (any (at-location l) bs))
-    ∷ ask filtered (not (any (names r l) cs))
+    ask installed (not (exists (at-location l) bs))
+    ∷ ask filtered (not (exists (names r l) cs))
     ∷ ask full (ltb (length bs) most-bundles)
     ∷ []
 
 -- about a place for a connection, and its filter
 abbrev pub connection-questions : List Connection → Connection → List Question
 connection-questions cs c =
-    ask connected (not (any (joins (c .source) (c .target)) cs))
+    ask connected (not (exists (joins (c .source) (c .target)) cs))
     ∷ ask list-too-long (filter-within (c .filter))
     ∷ ask list-out-of-order (filter-ascends (c .filter))
     ∷ ask full (ltb (length cs) most-connections)
@@ -121,9 +121,9 @@ questions m (remove-region r) = region-questions (m .regions) r
 questions m (install b) =
     provided-questions (m .regions) (b .region) (b .packages) (b .services)
     ++ bundle-questions (m .bundles) (m .connections) (b .region) (b .location)
-questions m (uninstall l) = ask not-installed (any (at-location l) (m .bundles)) ∷ []
+questions m (uninstall l) = ask not-installed (exists (at-location l) (m .bundles)) ∷ []
 questions m (connect c) = end-questions (m .regions) (c .source) (c .target) ++ connection-questions (m .connections) c
-questions m (disconnect r s) = end-questions (m .regions) r s ++ ask not-connected (any (joins r s) (m .connections)) ∷ []
+questions m (disconnect r s) = end-questions (m .regions) r s ++ ask not-connected (exists (joins r s) (m .connections)) ∷ []
 
 -- the number that a call returns: 0 when it is accepted
 abbrev pub number : Model → Call → ℕ
@@ -131,16 +131,16 @@ number m c = first-no (questions m c)
 
 -- what an accepted call does
 abbrev pub accepted : Model → Call → Model
-accepted m (add-region r) = record { regions = insert ltb r (m .regions); bundles = m .bundles; connections = m .connections }
+accepted m (add-region r) = record { regions = insert-by ltb r (m .regions); bundles = m .bundles; connections = m .connections }
 accepted m (remove-region r) =
     record {
       regions = keep (λ s. not (eqb r s)) (m .regions);
       bundles = keep (λ b. not (in-region r b)) (m .bundles);
       connections = keep (λ c. not (touches r c)) (m .connections);
     }
-accepted m (install b) = record { regions = m .regions; bundles = insert bundle-before b (m .bundles); connections = m .connections }
+accepted m (install b) = record { regions = m .regions; bundles = insert-by bundle-before b (m .bundles); connections = m .connections }
 accepted m (uninstall l) = record { regions = m .regions; bundles = keep (λ b. not (at-location l b)) (m .bundles); connections = m .connections }
-accepted m (connect c) = record { regions = m .regions; bundles = m .bundles; connections = insert connection-before c (m .connections) }
+accepted m (connect c) = record { regions = m .regions; bundles = m .bundles; connections = insert-by connection-before c (m .connections) }
 accepted m (disconnect r s) = record { regions = m .regions; bundles = m .bundles; connections = keep (λ c. not (joins r s c)) (m .connections) }
 
 -- the model after a call: a refused one does nothing

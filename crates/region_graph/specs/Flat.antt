@@ -3,7 +3,7 @@ use mathlib.Core.Path.{_≡_}
 use mathlib.Core.List.{List, [], _∷_}
 use Prim.Native.Nat.{ℕ, _+_, _*_, _≤_}
 use lib.ListN.{length, getD, take, drop}
-use Rattle.region_graph.specs.Size.{most-listed, most-provided, all-sign}
+use Rattle.region_graph.specs.Size.{most-listed, most-provided, everything-sign}
 use Rattle.region_graph.specs.Refusals.{not-refused, broken-layout}
 use Rattle.region_graph.specs.Model.{Model, Bundle, Part, Connection, Legal}
 use Rattle.region_graph.specs.Record.{Valid, meaning}
@@ -30,7 +30,7 @@ fields-of-connection c =
 -- from place `at` on the numbers xs have a part: its count and its numbers, or the sign for everything
 abbrev pub FlatPart : List ℕ → ℕ → Part → Type 0
 FlatPart xs at (Part.listed ns) = (getD xs at 0 ≡ length ns) × (take (length ns) (drop (at + 1) xs) ≡ ns)
-FlatPart xs at Part.everything = getD xs at 0 ≡ all-sign
+FlatPart xs at Part.everything = getD xs at 0 ≡ everything-sign
 
 -- parts one after the other, each with places for `most` numbers; places past its count are free
 abbrev pub FlatParts : ℕ → List ℕ → ℕ → List Part → Type 0

@@ -4,8 +4,8 @@ use mathlib.Core.Bool.{Bool, true, _&&_}
 use mathlib.Core.List.{List, [], _∷_}
 use Prim.Native.Nat.{ℕ, zero, suc}
 use lib.Dec.{eqb}
-use Rattle.region_graph.specs.Lists.{any, member}
-use Rattle.region_graph.specs.Model.{Model, Bundle, Filter, Part, Connection}
+use Rattle.region_graph.specs.Lists.{exists, member}
+use Rattle.region_graph.specs.Model.{Model, Bundle, Filter, Part}
 use Rattle.region_graph.specs.declared.Item.{Item}
 
 -- what a bundle brings to its region, of a kind
@@ -35,8 +35,8 @@ passes i f = part-passes (i .number) (part-of (i .kind) f)
 
 -- region r holds the item
 abbrev pub holds : Model → Item → ℕ → Bool
-holds m i r = any (λ b. eqb (b .region) r && provides i b) (m .bundles)
+holds m i r = exists (λ b. eqb (b .region) r && provides i b) (m .bundles)
 
 -- a connection from r to s passes the item
 abbrev pub crosses : Model → Item → ℕ → ℕ → Bool
-crosses m i r s = any (λ c. (eqb (c .source) r && eqb (c .target) s) && passes i (c .filter)) (m .connections)
+crosses m i r s = exists (λ c. (eqb (c .source) r && eqb (c .target) s) && passes i (c .filter)) (m .connections)

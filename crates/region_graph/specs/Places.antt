@@ -38,7 +38,7 @@ pub record ShortConnection (c : Connection) : Type 0 where
   pub services : ShortPart (c .filter .services)
 
 -- a row of at most so many values
-pub record Row {A : Type 0} (most : ℕ) (Good : A → Type 0) (xs : List A) : Type 0 where
+pub record AtMost {A : Type 0} (most : ℕ) (Good : A → Type 0) (xs : List A) : Type 0 where
   pub few : length xs ≤ most
   pub each : All Good xs
 
@@ -58,10 +58,10 @@ abbrev pub ConnectionStored : StoredConnection → Type 0
 ConnectionStored c = Stored store-connection connection-in ShortConnection c
 
 abbrev pub BundlesStored : Bundles → Type 0
-BundlesStored bs = Stored store-bundles bundles-of (Row most-bundles ShortBundle) bs
+BundlesStored bs = Stored store-bundles bundles-of (AtMost most-bundles ShortBundle) bs
 
 abbrev pub ConnectionsStored : Connections → Type 0
-ConnectionsStored cs = Stored store-connections connections-of (Row most-connections ShortConnection) cs
+ConnectionsStored cs = Stored store-connections connections-of (AtMost most-connections ShortConnection) cs
 
 -- the tests by which bundles and connections are looked for and left out
 abbrev pub bundle-meets : BundleTest → Bundle → Bool

@@ -2,16 +2,16 @@
 use mathlib.Core.Path.{_≡_}
 use mathlib.Core.Bool.{Bool}
 use mathlib.Core.List.{List, [], _∷_, map}
-use Prim.Native.Nat.{ℕ, _≤_}
-use lib.ListN.{length, getD}
-use Rattle.region_graph.specs.Size.{regions, most-bundles, most-connections, most-listed}
+use Prim.Native.Nat.{ℕ}
+use lib.ListN.{getD}
+use Rattle.region_graph.specs.Size.{regions, most-bundles, most-connections}
 use Rattle.region_graph.specs.Refusals.{not-refused}
-use Rattle.region_graph.specs.Lists.{pick, All, any, count-from}
+use Rattle.region_graph.specs.Lists.{pick, count-from}
 use Rattle.region_graph.specs.Sets.{set-of}
-use Rattle.region_graph.specs.Model.{Model, Bundle, Filter, Part, Connection, bundle-before, connection-before, nothing}
-use Rattle.region_graph.specs.Calls.{Call, number, after, at-location, in-region, joins, touches, names}
+use Rattle.region_graph.specs.Model.{Model, Bundle, Filter, Part, Connection, nothing}
+use Rattle.region_graph.specs.Calls.{Call, number, after, at-location}
 use Rattle.region_graph.specs.Items.{holds, crosses}
-use Rattle.region_graph.specs.Record.{Valid, meaning, no-bundle, no-connection, store-numbers, numbers-of, store-bundles, bundles-of, store-connections, connections-of, store-bundle, store-connection, places}
+use Rattle.region_graph.specs.Record.{Valid, meaning, no-bundle, no-connection, store-bundle, store-connection, places}
 use Rattle.region_graph.specs.declared.Graph.{Graph}
 use Rattle.region_graph.specs.declared.Changed.{Changed}
 use Rattle.region_graph.specs.declared.Item.{Item}
@@ -23,7 +23,7 @@ use Rattle.region_graph.specs.declared.Place.the-variants.{Within, Nowhe
 -- the record with nothing in it
 pub record Empty (g : Graph) : Type 0 where
   pub valid : Valid g
-  pub sets : meaning g ≡ nothing
+  pub model : meaning g ≡ nothing
 
 -- a changing call on the record g gave r
 pub record Follows (g : Graph) (c : Call) (r : Changed) : Type 0 where
@@ -41,13 +41,13 @@ abbrev pub bundle : ℕ → ℕ → List ℕ → List ℕ → Bundle
 bundle region location packages services =
     record { location = location; region = region; packages = packages; services = services }
 
-abbrev pub filter : List ℕ → Bool → List ℕ → Bool → List ℕ → Filter
-filter bundles all-packages packages all-services services =
+abbrev pub new-filter : List ℕ → Bool → List ℕ → Bool → List ℕ → Filter
+new-filter bundles all-packages packages all-services services =
     record { bundles = bundles; packages = part all-packages packages; services = part all-services services }
 
 abbrev pub connection : ℕ → ℕ → List ℕ → Bool → List ℕ → Bool → List ℕ → Connection
 connection source target bundles all-packages packages all-services services =
-    record { source = source; target = target; filter = filter bundles all-packages packages all-services services }
+    record { source = source; target = target; filter = new-filter bundles all-packages packages all-services services }
 
 -- the region in which a location is installed, if any
 abbrev pub place-of : List Bundle → ℕ → Place

@@ -1,13 +1,13 @@
 -- The engine's record: the one record that stores a model, and the model that a record means.
 use mathlib.Core.Path.{_≡_}
-use mathlib.Core.List.{List, [], _∷_, _++_, map}
+use mathlib.Core.List.{List, [], _++_, map}
 use Prim.Native.Nat.{ℕ, _-_}
 use lib.Dec.{eqb}
 use lib.ListN.{length, take, replicate}
-use Rattle.region_graph.specs.Size.{most-bundles, most-connections, most-listed, most-provided, all-sign}
+use Rattle.region_graph.specs.Size.{most-bundles, most-connections, most-listed, most-provided, everything-sign}
 use Rattle.region_graph.specs.Lists.{pick, member}
 use Rattle.region_graph.specs.Sets.{set-of, members}
-use Rattle.region_graph.specs.Model.{Model, Bundle, Filter, Part, Connection, Legal, nothing}
+use Rattle.region_graph.specs.Model.{Model, Bundle, Part, Connection, Legal}
 use Rattle.region_graph.specs.declared.Graph.{Graph}
 use Rattle.region_graph.specs.declared.numbers.Numbers.{Numbers}
 use Rattle.region_graph.specs.declared.numbers.Provided.{Provided}
@@ -33,7 +33,7 @@ store-provided xs = record { count = length xs; items = number-places most-provi
 -- a part that is everything has the sign for its count, and no numbers
 abbrev pub store-part : Part → Numbers
 store-part (Part.listed xs) = store-numbers xs
-store-part Part.everything = record { count = all-sign; items = number-places most-listed [] }
+store-part Part.everything = record { count = everything-sign; items = number-places most-listed [] }
 
 abbrev pub store-bundle : Bundle → StoredBundle
 store-bundle b =
@@ -79,7 +79,7 @@ unfoldable pub provided-of : Provided → List ℕ
 provided-of n = take (n .count) (n .items)
 
 abbrev pub part-in : Numbers → Part
-part-in n = pick (eqb (n .count) all-sign) Part.everything (Part.listed (numbers-of n))
+part-in n = pick (eqb (n .count) everything-sign) Part.everything (Part.listed (numbers-of n))
 
 abbrev pub bundle-in : StoredBundle → Bundle
 bundle-in b =

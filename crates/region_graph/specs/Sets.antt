@@ -16,8 +16,8 @@ abbrev pub has : ℕ → ℕ → Bool
 has x n = ltb n regions && eqb (bit x n) 1
 
 -- the set that holds region n alone; a number that is no region's gives the empty set
-abbrev pub one : ℕ → ℕ
-one n = pick (ltb n regions) (2 ^ n) 0
+abbrev pub singleton : ℕ → ℕ
+singleton n = pick (ltb n regions) (2 ^ n) 0
 
 -- the set of the numbers below k that pass the test
 unfoldable pub set-below : ℕ → (ℕ → Bool) → ℕ

@@ -20,5 +20,5 @@ abbrev pub most-listed : ℕ
 most-listed = 16
 
 -- the count of a part that is everything: the archive's sign
-abbrev pub all-sign : ℕ
-all-sign = 255
+abbrev pub everything-sign : ℕ
+everything-sign = 255

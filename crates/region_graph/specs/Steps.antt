@@ -1,5 +1,4 @@
 -- Lists of steps, of any kind: each is put to the state that the one before it handed back, and answers.
-use mathlib.Core.Path.{_≡_}
 use mathlib.Core.List.{List, [], _∷_}
 
 -- the last state of a model, and the answer to each step

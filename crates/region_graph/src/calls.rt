@@ -37,7 +37,7 @@ use crate::refusals::REGION_USED;
 use crate::region_set::difference;
 use crate::region_set::has;
 use crate::region_set::is_region;
-use crate::region_set::one;
+use crate::region_set::singleton;
 use crate::size::MOST_BUNDLES;
 use crate::size::MOST_CONNECTIONS;
 
@@ -161,7 +161,7 @@ impl Graph {
     {
         let mut next = self;
         let regions = self.regions;
-        next.regions = regions | one(region);
+        next.regions = regions | singleton(region);
         let number = add_number(regions, region);
         Changed {
             graph: next,
@@ -178,7 +178,7 @@ impl Graph {
         let regions = self.regions;
         let bundles = self.bundles;
         let connections = self.connections;
-        next.regions = difference(regions, one(region));
+        next.regions = difference(regions, singleton(region));
         let outside = bundles.without(BundleTest::In(region));
         next.bundles = outside;
         let apart = connections.without(ConnectionTest::Touching(region));

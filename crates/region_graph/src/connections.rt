@@ -10,7 +10,7 @@ ghost use Rattle.region_graph.specs.Model.{Part};
 ghost use Rattle.region_graph.specs.Calls.{«part-within», «part-ascends», «filter-within», «filter-ascends»};
 ghost use Rattle.region_graph.specs.Record.{«store-part», «store-connection», «connection-in», «no-connection», «store-connections», «connections-of»};
 ghost use Rattle.region_graph.specs.Places.{ConnectionStored, ConnectionsStored, «connection-meets»};
-ghost use Rattle.region_graph.specs.Promise.{part, filter};
+ghost use Rattle.region_graph.specs.Promise.{part, «new-filter»};
 use crate::numbers::Numbers;
 use crate::numbers::ascending;
 use crate::numbers::copied;
@@ -72,7 +72,7 @@ pub fn filter_within(
     all_services: bool,
     services: &[u32],
 ) -> bool
-    ensures { λ r. ⌜ r ≡ filter-within (filter (now (bundles .entry)) «all_packages» (now (packages .entry)) «all_services» (now (services .entry))) ⌝ }
+    ensures { λ r. ⌜ r ≡ filter-within (new-filter (now (bundles .entry)) «all_packages» (now (packages .entry)) «all_services» (now (services .entry))) ⌝ }
 {
     if bundles.len() <= MOST_LISTED {
         if part_within(all_packages, packages) {
@@ -89,7 +89,7 @@ pub fn filter_ascending(
     all_services: bool,
     services: &[u32],
 ) -> bool
-    ensures { λ r. ⌜ r ≡ filter-ascends (filter (now (bundles .entry)) «all_packages» (now (packages .entry)) «all_services» (now (services .entry))) ⌝ }
+    ensures { λ r. ⌜ r ≡ filter-ascends (new-filter (now (bundles .entry)) «all_packages» (now (packages .entry)) «all_services» (now (services .entry))) ⌝ }
 {
     if ascending(bundles) {
         if part_ascending(all_packages, packages) {

@@ -26,7 +26,7 @@ use crate::refusals::BROKEN_LAYOUT;
 use crate::refusals::NOT_REFUSED;
 use crate::region_set::has;
 use crate::region_set::is_region;
-use crate::region_set::one;
+use crate::region_set::singleton;
 use crate::size::EVERYTHING;
 use crate::size::MOST_BUNDLES;
 use crate::size::MOST_CONNECTIONS;
@@ -196,7 +196,7 @@ fn region_list(list: &[u32]) -> RegionList
         if !is_region(region) {
             return RegionList { ok: false, set };
         }
-        set = set | one(region);
+        set = set | singleton(region);
         i += 1;
     }
     let ok = ascending(list);

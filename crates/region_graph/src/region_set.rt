@@ -9,7 +9,7 @@ ghost use Rattle.region_graph.specs.Sets;
 use crate::size::REGIONS;
 
 // The sets that hold one region.
-const ONE: [u64; REGIONS] = [
+const SINGLETONS: [u64; REGIONS] = [
     1,
     2,
     4,
@@ -36,12 +36,12 @@ pub fn is_region(number: u32) -> bool
 }
 
 // The set that holds one region; a number past the table gives the empty set.
-pub fn one(region: u32) -> u64
-    ensures { λ r. ⌜ r ≡ Sets.one region ⌝ }
+pub fn singleton(region: u32) -> u64
+    ensures { λ r. ⌜ r ≡ Sets.singleton region ⌝ }
 {
     let at = region as usize;
     if at < REGIONS {
-        return ONE[at];
+        return SINGLETONS[at];
     }
     0
 }

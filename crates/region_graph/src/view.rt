@@ -18,7 +18,7 @@ use crate::connections::no_connection;
 use crate::numbers::Numbers;
 use crate::numbers::lists;
 use crate::numbers::provided_lists;
-use crate::region_set::one;
+use crate::region_set::singleton;
 use crate::size::EVERYTHING;
 use crate::size::MOST_BUNDLES;
 use crate::size::MOST_CONNECTIONS;
@@ -113,7 +113,7 @@ impl Graph {
             let b = bundles.items[i];
             i += 1;
             if bundle_provides(b, item) {
-                set = set | one(b.region);
+                set = set | singleton(b.region);
             }
         }
         set
@@ -133,7 +133,7 @@ impl Graph {
             i += 1;
             if connection_passes(c, item) {
                 let target = c.target as usize;
-                sets[target] = sets[target] | one(c.source);
+                sets[target] = sets[target] | singleton(c.source);
             }
         }
         sets

@@ -19,16 +19,16 @@ use Rattle.region_graph.specs.declared.Item.{Item}
 use Rattle.region_graph.specs.declared.Place.{Place}
 use Rattle.region_graph.specs.declared.Place.the-variants.{Within, Nowhere}
 use Rattle.region_graph.proofs.Lists.{keep-length}
-use Rattle.region_routes.specs.Chosen.{first-of, put-before, when, or-else, exactly, from, chosen-by, chosen}
+use Rattle.region_routes.specs.Chosen.{first-of, put-before, guarded, or-else, exactly, from, chosen-by, chosen}
 use Rattle.region_routes.specs.Hooks.{Outcome, kind-number, item, written, judged, shown, shown-from, sees-from, route-questions, find-questions, event-questions, route-outcome, kept-outcome, find-outcome, event-outcome}
 use Rattle.region_routes.specs.declared.Kind.{Kind}
 use Rattle.region_routes.specs.declared.Routed.the-variants as Routed
 use Rattle.region_routes.specs.declared.Kept.the-variants as Kept
 use Rattle.region_archive.specs.Image.{image}
-use Rattle.region_archive.specs.Promise.{wrote, write-questions, write-outcome}
+use Rattle.region_archive.specs.Promise.{archived, write-questions, write-outcome}
 use Rattle.region_archive.specs.declared.Written.the-variants as Written
 use Rattle.region_archive.proofs.OneImage.{image-bound}
-use Rattle.region_host.proofs.Distinct.{Counted, Numbered, RoutedGiven, KeptGiven, WrittenGiven}
+use Rattle.region_host.proofs.ReadBack.{CountFits, PaperNumber, RoutedGiven, KeptGiven, WrittenGiven}
 
 -- the first question answered no has a number of theirs
 first-of-them : (qs : List Question) → All (λ q. q .number ≤ 100) qs → first-no qs ≤ 100
@@ -43,7 +43,7 @@ positive : (n : ℕ) → (n ≡ 0 → ⊥) → 0 < n
 positive zero u = absurd (u refl)
 positive (suc n) u = omega arith
 
-judged-given : {A : Type 0} (Given : A → Type 0) (refused : ℕ → A) → ((n : ℕ) → Numbered n → Given (refused n)) → (n : ℕ) → n ≤ 100 → (o : Outcome A)
+judged-given : {A : Type 0} (Given : A → Type 0) (refused : ℕ → A) → ((n : ℕ) → PaperNumber n → Given (refused n)) → (n : ℕ) → n ≤ 100 → (o : Outcome A)
     → Given (o .answer) → (entry : List ℕ) → Given (judged refused n o entry .answer)
 judged-given Given refused r n h o g entry = go (eqb n not-refused) refl
   where
@@ -53,51 +53,51 @@ judged-given Given refused r n h o g entry = go (eqb n not-refused) refl
     go false e = r n (positive n (eqb-false n not-refused e), h)
 
 -- a route of exactly k connections has k + 1 regions
-abbrev Long : ℕ → Option (List ℕ) → Type 0
-Long n none = Unit {0}
-Long n (some p) = length p ≡ n
+abbrev OfLength : ℕ → Option (List ℕ) → Type 0
+OfLength n none = Unit {0}
+OfLength n (some p) = length p ≡ n
 
-when-long : (n : ℕ) (b : Bool) (o : Option (List ℕ)) → Long n o → Long n (when b o)
-when-long n true o h = h
-when-long n false o h = tt
+guarded-long : (n : ℕ) (b : Bool) (o : Option (List ℕ)) → OfLength n o → OfLength n (guarded b o)
+guarded-long n true o h = h
+guarded-long n false o h = tt
 
-before-long : (n r : ℕ) (o : Option (List ℕ)) → Long n o → Long (suc n) (put-before r o)
+before-long : (n r : ℕ) (o : Option (List ℕ)) → OfLength n o → OfLength (suc n) (put-before r o)
 before-long n r none h = tt
 before-long n r (some p) h = ap suc h
 
-first-long : (n : ℕ) (f : ℕ → Option (List ℕ)) → ((s : ℕ) → Long n (f s)) → (ss : List ℕ) → Long n (first-of f ss)
+first-long : (n : ℕ) (f : ℕ → Option (List ℕ)) → ((s : ℕ) → OfLength n (f s)) → (ss : List ℕ) → OfLength n (first-of f ss)
 first-long n f h [] = tt
 first-long n f h (s ∷ ss) = go (f s) (h s) (first-long n f h ss)
   where
-    go : (o : Option (List ℕ)) → Long n o → Long n (first-of f ss) → Long n (elim o [ none ↦ first-of f ss | some p ↦ some p ])
+    go : (o : Option (List ℕ)) → OfLength n o → OfLength n (first-of f ss) → OfLength n (elim o [ none ↦ first-of f ss | some p ↦ some p ])
     go none l later = later
     go (some p) l later = l
 
 -- so the chosen one has at most as many regions as there are
-abbrev Short : Option (List ℕ) → Type 0
-Short none = Unit {0}
-Short (some p) = length p ≤ regions
+abbrev AtMostRegions : Option (List ℕ) → Type 0
+AtMostRegions none = Unit {0}
+AtMostRegions (some p) = length p ≤ regions
 
 module _ (cross : ℕ → ℕ → Bool) (ends : ℕ → Bool) where
-  exactly-long : (k r : ℕ) → Long (suc k) (exactly cross ends k r)
-  exactly-long zero r = when-long 1 (ends r) (some (r ∷ [])) refl
+  exactly-long : (k r : ℕ) → OfLength (suc k) (exactly cross ends k r)
+  exactly-long zero r = guarded-long 1 (ends r) (some (r ∷ [])) refl
   exactly-long (suc k) r =
-      before-long (suc k) r (first-of (λ s. when (cross r s) (exactly cross ends k s)) (count-from 0 regions))
-      (first-long (suc k) (λ s. when (cross r s) (exactly cross ends k s)) (λ s. when-long (suc k) (cross r s) (exactly cross ends k s) (exactly-long k s)) (count-from 0 regions))
+      before-long (suc k) r (first-of (λ s. guarded (cross r s) (exactly cross ends k s)) (count-from 0 regions))
+      (first-long (suc k) (λ s. guarded (cross r s) (exactly cross ends k s)) (λ s. guarded-long (suc k) (cross r s) (exactly cross ends k s) (exactly-long k s)) (count-from 0 regions))
 
-  from-short : (r k n : ℕ) → k + n ≤ regions → Short (from cross ends r k n)
+  from-short : (r k n : ℕ) → k + n ≤ regions → AtMostRegions (from cross ends r k n)
   from-short r k zero h = tt
   from-short r k (suc n) h = go (exactly cross ends k r) (exactly-long k r) (from-short r (suc k) n (omega (arith, h)))
     where
-      go : (o : Option (List ℕ)) → Long (suc k) o → Short (from cross ends r (suc k) n) → Short (or-else o (from cross ends r (suc k) n))
+      go : (o : Option (List ℕ)) → OfLength (suc k) o → AtMostRegions (from cross ends r (suc k) n) → AtMostRegions (or-else o (from cross ends r (suc k) n))
       go none l later = later
       go (some p) l later = omega (arith, l, h)
 
-chosen-short : (m : Model) (i : Item) (r : ℕ) → Short (chosen m i r)
+chosen-short : (m : Model) (i : Item) (r : ℕ) → AtMostRegions (chosen m i r)
 unfolding chosen chosen-by
 chosen-short m i r = from-short (crosses m i) (holds m i) r 0 regions (omega arith)
 
-shown-given : (o : Option (List ℕ)) (entry : List ℕ) → Short o → RoutedGiven (shown o entry .answer)
+shown-given : (o : Option (List ℕ)) (entry : List ℕ) → AtMostRegions o → RoutedGiven (shown o entry .answer)
 shown-given none entry h = tt
 shown-given (some p) entry h = omega (arith, h)
 
@@ -111,17 +111,17 @@ route-given m l kind number entry =
     (first-of-them (route-questions m l kind entry) (omega arith, (omega arith, (omega arith, tt))))
     (shown-from m (item kind number) (place-of (m .bundles) l) entry) (shown-from-given m (item kind number) (place-of (m .bundles) l) entry) entry
 
-kept-given : (n : ℕ) → n ≤ 100 → (p : ℕ → Bool) (xs entry : List ℕ) → Counted (length xs)
+kept-given : (n : ℕ) → n ≤ 100 → (p : ℕ → Bool) (xs entry : List ℕ) → CountFits (length xs)
     → KeptGiven (judged Kept.Refused n (kept-outcome (keep p xs) entry) entry .answer)
 kept-given n h p xs entry c =
     judged-given KeptGiven Kept.Refused (λ n g. g) n h (kept-outcome (keep p xs) entry) (omega (arith, keep-length p xs, c)) entry
 
-pub find-given : (m : Model) (k : Kind) (l : ℕ) (xs entry : List ℕ) → Counted (length xs) → KeptGiven (find-outcome m k l xs entry .answer)
+pub find-given : (m : Model) (k : Kind) (l : ℕ) (xs entry : List ℕ) → CountFits (length xs) → KeptGiven (find-outcome m k l xs entry .answer)
 find-given m k l xs entry c =
     kept-given (first-no (find-questions m l xs entry)) (first-of-them (find-questions m l xs entry) (omega arith, (omega arith, tt)))
     (λ n. sees-from m (item (kind-number k) n) (place-of (m .bundles) l)) xs entry c
 
-pub event-given : (m : Model) (k : Kind) (xs : List ℕ) (number : ℕ) (entry : List ℕ) → Counted (length xs)
+pub event-given : (m : Model) (k : Kind) (xs : List ℕ) (number : ℕ) (entry : List ℕ) → CountFits (length xs)
     → KeptGiven (event-outcome m k xs number entry .answer)
 event-given m k xs number entry c =
     kept-given (first-no (event-questions m xs entry)) (first-of-them (event-questions m xs entry) (omega arith, (omega arith, tt)))
@@ -130,5 +130,5 @@ event-given m k xs number entry c =
 pub write-given : (m : Model) → Legal m → (entry : List ℕ) → WrittenGiven (write-outcome m entry .answer)
 write-given m h entry =
     judged-given WrittenGiven Written.Refused (λ n g. g) (first-no (write-questions m entry))
-    (first-of-them (write-questions m entry) (omega arith, tt)) (wrote (Written.Bytes (length (image m))) (written (image m) entry))
+    (first-of-them (write-questions m entry) (omega arith, tt)) (archived (Written.Bytes (length (image m))) (written (image m) entry))
     (omega (arith, image-bound m h)) entry

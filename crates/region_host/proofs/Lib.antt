@@ -1,6 +1,6 @@
 pub mod Calling
 pub mod Changing
-pub mod Distinct
+pub mod ReadBack
 pub mod Filling
 pub mod Given
 pub mod Learnt

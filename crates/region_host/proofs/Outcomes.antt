@@ -18,7 +18,7 @@ use Rattle.region_routes.specs.Hooks.{Returned, Outcome, kind-number, item, rou
 use Rattle.region_routes.specs.declared.Kind.{Kind}
 use Rattle.region_routes.specs.declared.Routed.the-variants as Routed
 use Rattle.region_routes.specs.declared.Kept.the-variants as Kept
-use Rattle.region_host.specs.Answers.{Answered, answered, for-c}
+use Rattle.region_host.specs.CNumbers.{Answered, answered, for-c}
 
 module _ {A : Type 0} where
   -- what an answer is for C, with the buffer beside it

@@ -17,13 +17,13 @@ use Rattle.region_graph.specs.declared.Graph.{Graph}
 use Rattle.region_graph.specs.declared.Place.the-variants.{Within}
 use Rattle.region_graph.proofs.WholeList.{steps, Means, follows-means}
 use Rattle.region_routes.specs.Hooks.{item, kind-number, all-installed, routed-as, kept-as}
-use Rattle.region_routes.specs.Claim.{Seen, RouteSays, KeptSays, Hears}
+use Rattle.region_routes.specs.Claim.{Seen, RouteSays, KeptSays, ListenerSees}
 use Rattle.region_routes.specs.declared.Kind.{Kind}
 use Rattle.region_routes.specs.declared.Kind.the-variants as Kind
 use Rattle.region_routes.proofs.WholeList as by-value
-use Rattle.region_archive.specs.File.{FileMeaning, sets}
+use Rattle.region_archive.specs.File.{FileMeaning, read-model}
 use Rattle.region_archive.proofs.WholeList.{read-means}
-use Rattle.region_host.specs.Answers.{routed-value, kept-value}
+use Rattle.region_host.specs.CNumbers.{routed-value, kept-value}
 use Rattle.region_host.proofs.Learnt as learnt
 use Rattle.region_host.proofs.Outcomes.{Of, told, back, route-whole, find-whole, event-whole}
 
@@ -56,10 +56,10 @@ Change g c n h = Called g n h c
 pub data Started : Graph → Model → Type 0 where
   by-empty : (κs : Lfts 1) (was is : RefT Graph) → learnt.Empties κs was is → Started (is .now) nothing
   by-read : (κs : Lfts 2) (was is : RefT Graph) (bytes : RefT (List ℕ)) (n : ℕ) → learnt.Reads κs was bytes is n → n ≡ not-refused
-      → (f : FileMeaning (bytes .now)) → Started (is .now) (sets f)
+      → (f : FileMeaning (bytes .now)) → Started (is .now) (read-model f)
 
 started : {g : Graph} {m : Model} → Started g m → Means g m
-started (by-empty κs was is e) = record { valid = e .valid; sets = e .sets }
+started (by-empty κs was is e) = record { valid = e .valid; model = e .model }
 started (by-read κs was is bytes n r z f) = read-means r z f
 
 -- What a caller learns of a query on a lent record g: what was handed in, the buffer as it was, the number returned, and the buffer as it is then.
@@ -115,7 +115,7 @@ pub record Answers (g : Graph) (m : Model) : Type 0 where
   pub finds : (k : Kind) (l r v : ℕ) (xs entry exit : List ℕ) → place-of (m .bundles) l ≡ Within r → length xs ≤ length entry
       → Finds g l k xs entry v exit → Of kept-value v (KeptSays (λ n. Seen m (item (kind-number k) n) r) xs entry exit)
   pub events : (k : Kind) (number v : ℕ) (xs entry exit : List ℕ) → all-installed m xs ≡ true → length xs ≤ length entry
-      → Events g number k xs entry v exit → Of kept-value v (KeptSays (Hears m (item (kind-number k) number)) xs entry exit)
+      → Events g number k xs entry v exit → Of kept-value v (KeptSays (ListenerSees m (item (kind-number k) number)) xs entry exit)
 
 answers : {g : Graph} {m : Model} → Means g m → Answers g m
 answers t =

@@ -1,14 +1,14 @@
 // What a query answers, as one number for C.
 ghost use mathlib.Core.Path.{_≡_};
-ghost use Rattle.region_host.specs.Answers.{minus, «routed-value», «kept-value», «written-value»};
+ghost use Rattle.region_host.specs.CNumbers.{negative, «routed-value», «kept-value», «written-value»};
 use region_archive::HIDDEN;
 use region_archive::Written;
 use region_routes::Kept;
 use region_routes::Routed;
 
 // A number below zero, in two's complement.
-fn minus(number: u32) -> u64
-    ensures { λ r. ⌜ r ≡ minus number ⌝ }
+fn negative(number: u32) -> u64
+    ensures { λ r. ⌜ r ≡ negative number ⌝ }
 {
     if number == 0 {
         return 0;
@@ -20,9 +20,9 @@ pub fn routed_value(answer: Routed) -> u64
     ensures { λ r. ⌜ r ≡ routed-value answer ⌝ }
 {
     match answer {
-        Routed::Hidden => minus(HIDDEN),
+        Routed::Hidden => negative(HIDDEN),
         Routed::Count(count) => count as u64,
-        Routed::Refused(number) => minus(number),
+        Routed::Refused(number) => negative(number),
     }
 }
 
@@ -31,7 +31,7 @@ pub fn kept_value(answer: Kept) -> u64
 {
     match answer {
         Kept::Wrote(count) => count as u64,
-        Kept::Refused(number) => minus(number),
+        Kept::Refused(number) => negative(number),
     }
 }
 
@@ -40,6 +40,6 @@ pub fn written_value(answer: Written) -> u64
 {
     match answer {
         Written::Bytes(count) => count as u64,
-        Written::Refused(number) => minus(number),
+        Written::Refused(number) => negative(number),
     }
 }

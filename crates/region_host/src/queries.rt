@@ -5,7 +5,7 @@ ghost use Rattle.region_graph.specs.Record.{Valid, meaning};
 ghost use Rattle.region_routes.specs.Hooks.{«route-outcome», «find-outcome», «event-outcome»};
 ghost use Rattle.region_routes.specs.declared.Kind.the-variants as Kind;
 ghost use Rattle.region_archive.specs.Promise.{Queried, «write-outcome»};
-ghost use Rattle.region_host.specs.Answers.{answered, «for-c», «routed-value», «kept-value», «written-value»};
+ghost use Rattle.region_host.specs.CNumbers.{answered, «for-c», «routed-value», «kept-value», «written-value»};
 use crate::answers::kept_value;
 use crate::answers::routed_value;
 use crate::answers::written_value;

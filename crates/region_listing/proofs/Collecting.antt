@@ -10,23 +10,22 @@ use lib.Dec.{eqb}
 use lib.ListN.{length, getD, take, set, length-append, length-set}
 use lib.Seq.{take-suc, take-length, length-take-le}
 use Rattle.region_graph.specs.Size.{most-bundles, most-provided}
-use Rattle.region_graph.specs.Lists.{pick, member}
+use Rattle.region_graph.specs.Lists.{pick, member, concat-map}
 use Rattle.region_graph.specs.Model.{Bundle}
 use Rattle.region_graph.specs.Items.{provided}
 use Rattle.region_graph.specs.Record.{Valid, meaning, no-bundle, store-bundles, bundles-of, bundle-in}
-use Rattle.region_graph.specs.Places.{ShortBundle, Row, BundlesStored}
+use Rattle.region_graph.specs.Places.{ShortBundle, AtMost, BundlesStored}
 use Rattle.region_graph.specs.Promise.{bundle-places}
 use Rattle.region_graph.specs.declared.Graph.{Graph}
 use Rattle.region_graph.specs.declared.bundles.StoredBundle.{StoredBundle}
 use Rattle.region_graph.specs.declared.bundles.Bundles.{Bundles}
-use Rattle.region_graph.proofs.Lists.{false-true, pick-yes, pick-no, any-append, eqb-sym}
+use Rattle.region_graph.proofs.Lists.{false-true, pick-yes, pick-no, exists-append, eqb-sym}
 use Rattle.region_graph.proofs.Arrays.{filled-means}
 use Rattle.region_graph.proofs.Storing.{bundles-each, bundles-back, stored-as, bundles-filled, filled-bundles, bundles-stored}
 use Rattle.region_routes.specs.Hooks.{kind-number}
 use Rattle.region_routes.specs.declared.Kind.{Kind}
 use Rattle.region_routes.specs.declared.Kind.the-variants as Kind
-use Rattle.region_archive.specs.Bytes.{each}
-use Rattle.region_archive.proofs.Pieces.{each-next, each-within, each-most}
+use Rattle.region_archive.proofs.Pieces.{concat-next, concat-within, concat-most}
 use Rattle.region_archive.proofs.Answers.{take-set}
 use Rattle.region_listing.specs.Listing.{joined, joined-all, different, held}
 use Rattle.region_listing.specs.Counts.{most-different, numbers-in, Collected}
@@ -126,7 +125,7 @@ module _ {g : Graph} (v : Valid g) {ps : List StoredBundle} {n : ℕ} (e : ps �
   pub places-stored : BundlesStored (in-places ps n)
   unfolding meaning
   places-stored =
-      stored-as store-bundles bundles-of (Row most-bundles ShortBundle) (λ bs r. bundles-back bs) (meaning g .bundles) stored
+      stored-as store-bundles bundles-of (AtMost most-bundles ShortBundle) (λ bs r. bundles-back bs) (meaning g .bundles) stored
       (bundles-stored g v .good)
 
   pub places-mean : bundles-of (in-places ps n) ≡ meaning g .bundles
@@ -148,8 +147,8 @@ pub held-next : (k : Kind) (bs : List Bundle) (i : ℕ) → i < length bs
     → held k (take (i + 1) bs) ≡ joined-all (held k (take i bs)) (provided (kind-number k) (getD bs i no-bundle))
 unfolding held
 held-next k bs i h =
-    ap different (each-next (provided (kind-number k)) bs i no-bundle h)
-    ∙ joined-append [] (each (provided (kind-number k)) (take i bs)) (provided (kind-number k) (getD bs i no-bundle))
+    ap different (concat-next (provided (kind-number k)) bs i no-bundle h)
+    ∙ joined-append [] (concat-map (provided (kind-number k)) (take i bs)) (provided (kind-number k) (getD bs i no-bundle))
 
 -- a bundle brings few numbers of a kind
 pub provided-few : (b : Bundle) → ShortBundle b → (k : Kind) → length (provided (kind-number k) b) ≤ most-provided
@@ -158,17 +157,17 @@ provided-few b h Kind.Package = h .packages
 provided-few b h Kind.Service = h .services
 
 -- the places hold what the bundles before one and that bundle bring
-pub held-room : (bs : List Bundle) → Row most-bundles ShortBundle bs → (k : Kind) (i : ℕ) → i < length bs
+pub held-room : (bs : List Bundle) → AtMost most-bundles ShortBundle bs → (k : Kind) (i : ℕ) → i < length bs
     → length (held k (take i bs)) + length (provided (kind-number k) (getD bs i no-bundle)) ≤ most-different
 unfolding held
 held-room bs row k i h =
     let f = provided (kind-number k) in
     omega (
       arith,
-      joined-few [] (each f (take i bs)),
-      each-within f bs i (length bs) no-bundle h (omega arith),
-      ap (λ (xs : List Bundle). length (each f xs)) (take-length bs),
-      each-most ShortBundle f most-provided (λ b x. provided-few b x k) bs (row .each),
+      joined-few [] (concat-map f (take i bs)),
+      concat-within f bs i (length bs) no-bundle h (omega arith),
+      ap (λ (xs : List Bundle). length (concat-map f xs)) (take-length bs),
+      concat-most ShortBundle f most-provided (λ b x. provided-few b x k) bs (row .each),
       row .few,
     )
 
@@ -179,7 +178,7 @@ joined-member n s x = go (member x s) refl (eqb n x) refl
     go : (b : Bool) → member x s ≡ b → (t : Bool) → eqb n x ≡ t → member n (pick b s (s ++ (x ∷ []))) ≡ (member n s || t)
     go true e true f = let h : n ≡ x = eqb-true n x f in (ap (λ (k : ℕ). member k s) h ∙ e) ∙ sym (or-true (member n s))
     go true e false f = sym (or-false (member n s))
-    go false e t f = any-append (eqb n) s (x ∷ []) ∙ ap (λ (u : Bool). member n s || (u || false)) f ∙ ap (λ (u : Bool). member n s || u) (or-false t)
+    go false e t f = exists-append (eqb n) s (x ∷ []) ∙ ap (λ (u : Bool). member n s || (u || false)) f ∙ ap (λ (u : Bool). member n s || u) (or-false t)
 
 joined-members : (n : ℕ) (s xs : List ℕ) → member n (joined-all s xs) ≡ (member n s || member n xs)
 joined-members n s [] = sym (or-false (member n s))
@@ -199,7 +198,7 @@ once-more [] x o e = (refl, tt)
 once-more (y ∷ s) x o e =
     let f = or-fst (eqb x y) (member x s) e in
     let g = or-snd (eqb x y) (member x s) e in (
-      any-append (eqb y) s (x ∷ []) ∙ ap (λ (b : Bool). b || (eqb y x || false)) (o .0) ∙ ap (λ (b : Bool). b || false) (eqb-sym y x ∙ f),
+      exists-append (eqb y) s (x ∷ []) ∙ ap (λ (b : Bool). b || (eqb y x || false)) (o .0) ∙ ap (λ (b : Bool). b || false) (eqb-sym y x ∙ f),
       once-more s x (o .1) g,
     )
 

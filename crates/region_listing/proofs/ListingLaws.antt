@@ -8,6 +8,7 @@ use borrow.Author.Tests.{eq-eqb, ne-eqb}
 use lib.Dec.{eqb}
 use lib.ListN.{length, getD, take, drop, replicate, length-append, length-replicate}
 use lib.Seq.{take-length}
+use Rattle.region_graph.specs.Lists.{concat-map}
 use Rattle.region_graph.specs.Size.{regions, most-bundles, most-provided}
 use Rattle.region_graph.specs.Refusals.{not-refused}
 use Rattle.region_graph.specs.Lists.{pick, All}
@@ -23,16 +24,15 @@ use Rattle.region_routes.specs.Chosen.{sees}
 use Rattle.region_routes.specs.Hooks.{kind-number, item}
 use Rattle.region_routes.specs.declared.Kind.{Kind}
 use Rattle.region_routes.specs.declared.Kind.the-variants as Kind
-use Rattle.text_lines.specs.Written.{Wrote}
-use Rattle.text_lines.specs.Decimal.{decimal, field, space, newline}
+use Rattle.text_lines.specs.Written.{WrittenAt}
+use Rattle.text_lines.specs.Decimal.{decimal, decimal-field, space, newline}
 use Rattle.text_lines.proofs.Writes.{wrote-then, wrote-is, wrote-length}
 use Rattle.text_lines.proofs.DecimalLaws.{decimal-few, decimal-most}
-use Rattle.region_archive.specs.Bytes.{each}
-use Rattle.region_archive.specs.File.{FileMeaning, means, means-none, sets, read-number}
+use Rattle.region_archive.specs.File.{FileMeaning, means, means-none, read-model, read-number}
 use Rattle.region_archive.proofs.Meaning.{file-meaning}
-use Rattle.region_archive.proofs.Pieces.{each-next, each-within, each-most}
+use Rattle.region_archive.proofs.Pieces.{concat-next, concat-within, concat-most}
 use Rattle.region_listing.specs.Listing.{held, seen-from, line-of, line, header, listing-text, refused-word, refusal-text, file-text}
-use Rattle.region_listing.specs.Listing.{header-size, line-size, longest-text, store-text, Lists}
+use Rattle.region_listing.specs.Listing.{header-size, line-size, longest-text, store-text, ArchiveListed}
 use Rattle.region_listing.specs.Counts.{Counted}
 use Rattle.region_listing.specs.declared.listing.Text.{Text}
 use Rattle.region_listing.proofs.Collecting.{joined-few, in-places, places-count, place-means, provided-few}
@@ -55,7 +55,7 @@ legal-inside m l =
 -- the counts of a model give its lines
 module _ (m : Model) {bundles packages services : List ℕ} (p : Counted m Kind.Bundle bundles) (q : Counted m Kind.Package packages)
     (r : Counted m Kind.Service services) where
-  rows-lines : (bs : List Bundle) → Inside bs → each (row bundles packages services) bs ≡ each (line m) bs
+  rows-lines : (bs : List Bundle) → Inside bs → concat-map (row bundles packages services) bs ≡ concat-map (line m) bs
   rows-lines [] h = refl
   rows-lines (b ∷ bs) h =
       let e = p .each (b .region) (h .0) in
@@ -63,16 +63,16 @@ module _ (m : Model) {bundles packages services : List ℕ} (p : Counted m Kind.
       let g = r .each (b .region) (h .0) in
       λ i. line-of (b .location) (b .region) (e i) (f i) (g i) ++ rows-lines bs (h .1) i
 
-  pub rows-are : Legal m → {bs : List Bundle} → bs ≡ m .bundles → each (row bundles packages services) bs ≡ each (line m) (m .bundles)
-  rows-are l e = ap (each (row bundles packages services)) e ∙ rows-lines (m .bundles) (legal-inside m l)
+  pub rows-are : Legal m → {bs : List Bundle} → bs ≡ m .bundles → concat-map (row bundles packages services) bs ≡ concat-map (line m) (m .bundles)
+  rows-are l e = ap (concat-map (row bundles packages services)) e ∙ rows-lines (m .bundles) (legal-inside m l)
 
 -- the lines of the first i bundles that stand in places are written
 pub record Lining (line : Bundle → List ℕ) (ps : List StoredBundle) (n : ℕ) (old new : List ℕ) (from at i : ℕ) : Type 0 where
   pub reached : i ≤ n
   pub stored : BundlesStored (in-places ps n)
   pub within : Inside (bundles-of (in-places ps n))
-  pub room : from + length (each line (bundles-of (in-places ps n))) ≤ length old
-  pub wrote : Wrote old new from (each line (take i (bundles-of (in-places ps n)))) at
+  pub room : from + length (concat-map line (bundles-of (in-places ps n))) ≤ length old
+  pub wrote : WrittenAt old new from (concat-map line (take i (bundles-of (in-places ps n)))) at
 
 module _ {line : Bundle → List ℕ} {ps : List StoredBundle} {n : ℕ} {old new : List ℕ} {from at i : ℕ} (h : Lining line ps n old new from at i)
     (k : i < n) (d : StoredBundle) where
@@ -98,30 +98,30 @@ module _ {line : Bundle → List ℕ} {ps : List StoredBundle} {n : ℕ} {old ne
         h .wrote .ends,
         wrote-length (h .wrote),
         ap (λ (b : Bundle). length (line b)) here,
-        each-within line bs i (length bs) no-bundle few (omega arith),
-        ap (λ (xs : List Bundle). length (each line xs)) (take-length bs),
+        concat-within line bs i (length bs) no-bundle few (omega arith),
+        ap (λ (xs : List Bundle). length (concat-map line xs)) (take-length bs),
       )
 
   -- one line more
-  pub lining-more : {last : List ℕ} {to : ℕ} → Wrote new last at (line (bundle-in (getD ps i d))) to → Lining line ps n old last from to (i + 1)
+  pub lining-more : {last : List ℕ} {to : ℕ} → WrittenAt new last at (line (bundle-in (getD ps i d))) to → Lining line ps n old last from to (i + 1)
   lining-more w = record {
     reached = omega arith;
     stored = h .stored;
     within = h .within;
     room = h .room;
-    wrote = wrote-is (sym (each-next line (bundles-of (in-places ps n)) i no-bundle few)) (wrote-then (h .wrote) (wrote-is (ap line here) w));
+    wrote = wrote-is (sym (concat-next line (bundles-of (in-places ps n)) i no-bundle few)) (wrote-then (h .wrote) (wrote-is (ap line here) w));
   }
 
-field-few : (j n end : ℕ) → n < 10 ^ suc j → length (field n end) ≤ suc (suc j)
+field-few : (j n end : ℕ) → n < 10 ^ suc j → length (decimal-field n end) ≤ suc (suc j)
 field-few j n end h = omega (arith, length-append (decimal n) (end ∷ []), decimal-few j n h)
 
 -- any number, and the byte after it
-pub field-most : (n end : ℕ) → length (field n end) ≤ 11
+pub field-most : (n end : ℕ) → length (decimal-field n end) ≤ 11
 field-most n end = omega (arith, length-append (decimal n) (end ∷ []), decimal-most n)
 
 line-length : (a b c d e : ℕ)
     → length (line-of a b c d e)
-    ≡ length (field a space) + (length (field b space) + (length (field c space) + (length (field d space) + length (field e newline))))
+    ≡ length (decimal-field a space) + (length (decimal-field b space) + (length (decimal-field c space) + (length (decimal-field d space) + length (decimal-field e newline))))
 line-length a b c d e = simp length-append
 
 module _ (m : Model) (l : Legal m) where
@@ -132,8 +132,8 @@ module _ (m : Model) (l : Legal m) where
       omega (
         arith,
         keep-length (λ n. sees m (item (kind-number k) n) r) (held k (m .bundles)),
-        joined-few [] (each (provided (kind-number k)) (m .bundles)),
-        each-most (LegalBundle (m .regions)) (provided (kind-number k)) w h (m .bundles) (l .bundles-legal .each),
+        joined-few [] (concat-map (provided (kind-number k)) (m .bundles)),
+        concat-most (LegalBundle (m .regions)) (provided (kind-number k)) w h (m .bundles) (l .bundles-legal .each),
       )
 
   -- a line has no more bytes than its limit
@@ -155,8 +155,8 @@ module _ (m : Model) (l : Legal m) where
       )
 
   -- nor have all lines
-  pub lines-few : length (each (line m) (m .bundles)) ≤ most-bundles * line-size
-  lines-few = omega (arith, each-most (LegalBundle (m .regions)) (line m) line-size line-few (m .bundles) (l .bundles-legal .each), l .bundles-legal .few)
+  pub lines-few : length (concat-map (line m) (m .bundles)) ≤ most-bundles * line-size
+  lines-few = omega (arith, concat-most (LegalBundle (m .regions)) (line m) line-size line-few (m .bundles) (l .bundles-legal .each), l .bundles-legal .few)
 
 pub header-length : length header ≡ header-size
 unfolding header
@@ -172,7 +172,7 @@ drop-same x (suc n) (suc k) h =
     drop-same x n k (omega arith) ∙ ap (λ (j : ℕ). replicate j x) e
 
 -- what was written into equal places, and those that are left
-wrote-same : (x size : ℕ) {old new xs : List ℕ} {next : ℕ} → old ≡ replicate size x → Wrote old new 0 xs next
+wrote-same : (x size : ℕ) {old new xs : List ℕ} {next : ℕ} → old ≡ replicate size x → WrittenAt old new 0 xs next
     → (next ≡ length xs) × (new ≡ xs ++ replicate (size - length xs) x)
 wrote-same x size {old} {new} {xs} {next} e w = (
   ends,
@@ -186,7 +186,7 @@ wrote-same x size {old} {new} {xs} {next} e w = (
     room = omega (arith, w .room, ap length e, length-replicate size x)
 
 -- what was written into the places of a text is that text, stored
-pub text-stored : {old new xs : List ℕ} {next : ℕ} → old ≡ replicate longest-text 0 → Wrote old new 0 xs next
+pub text-stored : {old new xs : List ℕ} {next : ℕ} → old ≡ replicate longest-text 0 → WrittenAt old new 0 xs next
     → _≡_ {A = Text} (record { length = next; bytes = new }) (store-text xs)
 unfolding store-text
 text-stored e w = let z = wrote-same 0 longest-text e w in λ i. record { length = z .0 i; bytes = z .1 i }
@@ -194,33 +194,33 @@ text-stored e w = let z = wrote-same 0 longest-text e w in λ i. record { length
 module _ {s : List ℕ} (f : FileMeaning s) {n : ℕ} (e : n ≡ read-number f) where
   -- the text of a file that is refused, and that of one that is accepted
   pub refused-text : (n ≡ not-refused → ⊥) → refusal-text n ≡ file-text f
-  refused-text h = ap refusal-text e ∙ sym (pick-no (listing-text (sets f)) (refusal-text (read-number f)) (ne-eqb _ _ (λ z. h (e ∙ z))))
+  refused-text h = ap refusal-text e ∙ sym (pick-no (listing-text (read-model f)) (refusal-text (read-number f)) (ne-eqb _ _ (λ z. h (e ∙ z))))
 
-  pub accepted-text : {m : Model} → n ≡ not-refused → m ≡ sets f → listing-text m ≡ file-text f
-  accepted-text h g = ap listing-text g ∙ sym (pick-yes (listing-text (sets f)) (refusal-text (read-number f)) (eq-eqb _ _ (sym e ∙ h)))
+  pub accepted-text : {m : Model} → n ≡ not-refused → m ≡ read-model f → listing-text m ≡ file-text f
+  accepted-text h g = ap listing-text g ∙ sym (pick-yes (listing-text (read-model f)) (refusal-text (read-number f)) (eq-eqb _ _ (sym e ∙ h)))
 
 -- the longest text holds every text
 listing-fits : (m : Model) → Legal m → length (listing-text m) ≤ longest-text
 unfolding listing-text
-listing-fits m l = omega (arith, length-append header (each (line m) (m .bundles)), header-length, lines-few m l)
+listing-fits m l = omega (arith, length-append header (concat-map (line m) (m .bundles)), header-length, lines-few m l)
 
 pub refusal-fits : (n : ℕ) → length (refusal-text n) ≤ longest-text
 unfolding refusal-text refused-word
 refusal-fits n = omega (arith, field-most n newline)
 
-sets-legal : {s : List ℕ} (f : FileMeaning s) → Legal (sets f)
-sets-legal (means m l e) = l
-sets-legal (means-none n) = legal-nothing
+model-legal : {s : List ℕ} (f : FileMeaning s) → Legal (read-model f)
+model-legal (means m l e) = l
+model-legal (means-none n) = legal-nothing
 
 pub text-fits : {s : List ℕ} (f : FileMeaning s) → length (file-text f) ≤ longest-text
 text-fits f = go (eqb (read-number f) not-refused)
   where
-    go : (b : Bool) → length (pick b (listing-text (sets f)) (refusal-text (read-number f))) ≤ longest-text
-    go true = listing-fits (sets f) (sets-legal f)
+    go : (b : Bool) → length (pick b (listing-text (read-model f)) (refusal-text (read-number f))) ≤ longest-text
+    go true = listing-fits (read-model f) (model-legal f)
     go false = refusal-fits (read-number f)
 
 -- the text of a listing stands in its places
-pub listed-inside : (s : List ℕ) (r : Text) → Lists s r → r .length ≤ length (r .bytes)
+pub listed-inside : (s : List ℕ) (r : Text) → ArchiveListed s r → r .length ≤ length (r .bytes)
 unfolding store-text
 listed-inside s r l =
     let t = file-text (file-meaning s) in

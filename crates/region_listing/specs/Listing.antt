@@ -4,6 +4,7 @@ use mathlib.Core.List.{List, [], _∷_, _++_}
 use Prim.Native.Nat.{ℕ, _+_, _-_, _*_}
 use lib.Dec.{eqb}
 use lib.ListN.{length, replicate}
+use Rattle.region_graph.specs.Lists.{concat-map}
 use Rattle.region_graph.specs.Size.{most-bundles}
 use Rattle.region_graph.specs.Refusals.{not-refused}
 use Rattle.region_graph.specs.Lists.{pick, keep, member}
@@ -13,9 +14,8 @@ use Rattle.region_routes.specs.Chosen.{sees}
 use Rattle.region_routes.specs.Hooks.{kind-number, item}
 use Rattle.region_routes.specs.declared.Kind.{Kind}
 use Rattle.region_routes.specs.declared.Kind.the-variants as Kind
-use Rattle.text_lines.specs.Decimal.{space, newline, field}
-use Rattle.region_archive.specs.Bytes.{each}
-use Rattle.region_archive.specs.File.{FileMeaning, sets, read-number}
+use Rattle.text_lines.specs.Decimal.{space, newline, decimal-field}
+use Rattle.region_archive.specs.File.{FileMeaning, read-model, read-number}
 use Rattle.region_listing.specs.declared.listing.Text.{Text}
 
 -- a number joins those that are there, unless it is one of them
@@ -32,7 +32,7 @@ different ns = joined-all [] ns
 
 -- the different numbers of a kind that bundles hold
 unfoldable pub held : Kind → List Bundle → List ℕ
-held k bs = different (each (provided (kind-number k)) bs)
+held k bs = different (concat-map (provided (kind-number k)) bs)
 
 -- how many different items of a kind a region sees
 unfoldable pub seen-from : Model → Kind → ℕ → ℕ
@@ -40,7 +40,7 @@ seen-from m k r = length (keep (λ n. sees m (item (kind-number k) n) r) (held k
 
 abbrev pub line-of : ℕ → ℕ → ℕ → ℕ → ℕ → List ℕ
 line-of location region bundles packages services =
-    field location space ++ (field region space ++ (field bundles space ++ (field packages space ++ field services newline)))
+    decimal-field location space ++ (decimal-field region space ++ (decimal-field bundles space ++ (decimal-field packages space ++ decimal-field services newline)))
 
 -- location, region, and how many different bundles, packages and services are seen
 abbrev pub line : Model → Bundle → List ℕ
@@ -59,18 +59,18 @@ header =
 
 -- the header, then a line for each bundle
 unfoldable pub listing-text : Model → List ℕ
-listing-text m = header ++ each (line m) (m .bundles)
+listing-text m = header ++ concat-map (line m) (m .bundles)
 
 -- refused, and a space
 unfoldable pub refused-word : List ℕ
 refused-word = 114 ∷ 101 ∷ 102 ∷ 117 ∷ 115 ∷ 101 ∷ 100 ∷ space ∷ []
 
 unfoldable pub refusal-text : ℕ → List ℕ
-refusal-text n = refused-word ++ field n newline
+refusal-text n = refused-word ++ decimal-field n newline
 
 -- the listing of a file that is accepted, or the number of its refusal
 abbrev pub file-text : {s : List ℕ} → FileMeaning s → List ℕ
-file-text f = pick (eqb (read-number f) not-refused) (listing-text (sets f)) (refusal-text (read-number f))
+file-text f = pick (eqb (read-number f) not-refused) (listing-text (read-model f)) (refusal-text (read-number f))
 
 -- the bytes of the header, the most bytes of a line (`line-few`), and the bytes that the longest text has
 abbrev pub header-size : ℕ
@@ -87,5 +87,5 @@ unfoldable pub store-text : List ℕ → Text
 store-text t = record { length = length t; bytes = t ++ replicate (longest-text - length t) 0 }
 
 -- whatever the file means; each file means something (`file-meaning`)
-abbrev pub Lists : List ℕ → Text → Type 0
-Lists s r = (f : FileMeaning s) → r ≡ store-text (file-text f)
+abbrev pub ArchiveListed : List ℕ → Text → Type 0
+ArchiveListed s r = (f : FileMeaning s) → r ≡ store-text (file-text f)

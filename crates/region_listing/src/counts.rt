@@ -8,11 +8,11 @@ use region_graph::Graph;
 use region_graph::Item;
 use region_graph::region_set::difference;
 use region_graph::region_set::lowest;
-use region_graph::region_set::one;
+use region_graph::region_set::singleton;
 use region_graph::size::REGIONS;
 use region_routes::Kind;
 use region_routes::kind_number;
-use region_routes::seers;
+use region_routes::regions_seeing;
 
 // Counts each member of a set once more.
 fn count_members(counts: [u32; REGIONS], set: u64) -> [u32; REGIONS]
@@ -23,7 +23,7 @@ fn count_members(counts: [u32; REGIONS], set: u64) -> [u32; REGIONS]
     let mut left = set;
     while left != 0 {
         let n = lowest(left);
-        left = difference(left, one(n));
+        left = difference(left, singleton(n));
         let at = n as usize;
         next[at] = next[at] + 1;
     }
@@ -43,7 +43,7 @@ pub fn seen(graph: Graph, kind: Kind) -> [u32; REGIONS]
     let mut i: usize = 0;
     while i < count {
         let number = items[i];
-        let set = seers(graph, Item { kind: code, number });
+        let set = regions_seeing(graph, Item { kind: code, number });
         let next = count_members(counts, set);
         counts = next;
         i += 1;

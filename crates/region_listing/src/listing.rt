@@ -3,8 +3,8 @@ ghost use mathlib.Core.Path.{_≡_};
 ghost use Prim.Native.Nat.{_+_, _≤_};
 ghost use lib.ListN.{length, replicate};
 ghost use Rattle.region_graph.specs.Record.{Valid, meaning};
-ghost use Rattle.text_lines.specs.Written.{Wrote};
-ghost use Rattle.region_listing.specs.Listing.{«line-of», «listing-text», «refusal-text», Lists, «longest-text»};
+ghost use Rattle.text_lines.specs.Written.{WrittenAt};
+ghost use Rattle.region_listing.specs.Listing.{«line-of», «listing-text», «refusal-text», ArchiveListed, «longest-text»};
 use crate::counts::seen;
 use region_archive::read;
 use region_graph::Graph;
@@ -38,7 +38,7 @@ fn put_row(
     services: u32,
 ) -> usize
     requires { ⌜ at + length (line-of location region bundles packages services) ≤ length (now buffer) ⌝ }
-    ensures { λ r. ⌜ Wrote (now (buffer .entry)) (now (buffer .exit)) at (line-of location region bundles packages services) r ⌝ }
+    ensures { λ r. ⌜ WrittenAt (now (buffer .entry)) (now (buffer .exit)) at (line-of location region bundles packages services) r ⌝ }
 {
     let a = put_field(buffer, at, location, b' ');
     let b = put_field(buffer, a, region, b' ');
@@ -51,7 +51,7 @@ fn put_row(
 fn put_listing(buffer: &mut [u8], graph: Graph) -> usize
     requires { ⌜ Valid graph ⌝ }
     requires { ⌜ longest-text ≤ length (now buffer) ⌝ }
-    ensures { λ r. ⌜ Wrote (now (buffer .entry)) (now (buffer .exit)) 0 (listing-text (meaning graph)) r ⌝ }
+    ensures { λ r. ⌜ WrittenAt (now (buffer .entry)) (now (buffer .exit)) 0 (listing-text (meaning graph)) r ⌝ }
 {
     let bundles = seen(graph, Kind::Bundle);
     let packages = seen(graph, Kind::Package);
@@ -80,7 +80,7 @@ fn put_listing(buffer: &mut [u8], graph: Graph) -> usize
 // Writes that a file is refused, with the number.
 fn put_refusal(buffer: &mut [u8], number: u32) -> usize
     requires { ⌜ longest-text ≤ length (now buffer) ⌝ }
-    ensures { λ r. ⌜ Wrote (now (buffer .entry)) (now (buffer .exit)) 0 (refusal-text number) r ⌝ }
+    ensures { λ r. ⌜ WrittenAt (now (buffer .entry)) (now (buffer .exit)) 0 (refusal-text number) r ⌝ }
 {
     let at = put_bytes(buffer, 0, b"refused ");
     put_field(buffer, at, number, b'\n')
@@ -95,7 +95,7 @@ fn blank() -> [u8; LONGEST]
 
 // The listing of an archive, or the number of its refusal.
 pub fn list_archive(bytes: &[u8]) -> Text
-    ensures { λ r. ⌜ Lists (now (bytes .entry)) r ⌝ }
+    ensures { λ r. ⌜ ArchiveListed (now (bytes .entry)) r ⌝ }
 {
     let archive = read(bytes);
     let mut text = blank();

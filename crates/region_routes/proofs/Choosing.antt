@@ -14,15 +14,15 @@ use Rattle.region_graph.specs.Lists.{All, member, count-from}
 use Rattle.region_graph.specs.Model.{Model, Legal, LegalConnection}
 use Rattle.region_graph.specs.Items.{holds, crosses, passes}
 use Rattle.region_graph.specs.declared.Item.{Item}
-use Rattle.region_graph.proofs.Lists.{and-fst, and-snd, false-true, member-all, Distinct, distinct-length, member-count, any-one}
-use Rattle.region_routes.specs.Route.{Route, last, next, Lex, Best, NoRoute}
-use Rattle.region_routes.specs.Chosen.{first-of, put-before, when, or-else, exactly, from, chosen-by, found, chosen, sees, RouteFor, NoRouteFor, BestFor}
+use Rattle.region_graph.proofs.Lists.{and-fst, and-snd, false-true, member-all, Distinct, distinct-length, member-count, exists-one}
+use Rattle.region_routes.specs.Route.{Route, last, next, SmallerFirst, Best, NoRoute}
+use Rattle.region_routes.specs.Chosen.{first-of, put-before, guarded, or-else, exactly, from, chosen-by, found, chosen, sees, RouteFor, NoRouteFor, BestFor}
 use Rattle.region_routes.proofs.RouteLaws.{lt-or-ge, nonempty, head-lex, best-unique}
 
 -- what an answer says of the lists in P: it is the first of them, or there is none
 abbrev First : (List ℕ → Type 0) → Option (List ℕ) → Type 0
 First P none = (q : List ℕ) → P q → ⊥
-First P (some p) = P p × ((q : List ℕ) → P q → Lex p q)
+First P (some p) = P p × ((q : List ℕ) → P q → SmallerFirst p q)
 
 -- the same answer where P and Q are the same, and under a test
 first-map : (P Q : List ℕ → Type 0) → ((q : List ℕ) → P q → Q q) → ((q : List ℕ) → Q q → P q) → (o : Option (List ℕ))
@@ -30,9 +30,9 @@ first-map : (P Q : List ℕ → Type 0) → ((q : List ℕ) → P q → Q q) →
 first-map P Q f g none h = λ q t. h q (g q t)
 first-map P Q f g (some p) h = (f p (h .0), λ q t. h .1 q (g q t))
 
-when-first : (P : List ℕ → Type 0) (b : Bool) (o : Option (List ℕ)) → First P o → First (λ q. (b ≡ true) × P q) (when b o)
-when-first P true o h = first-map P (λ q. (true ≡ true) × P q) (λ q t. (refl, t)) (λ q t. t .1) o h
-when-first P false o h = λ q t. false-true (t .0)
+guarded-first : (P : List ℕ → Type 0) (b : Bool) (o : Option (List ℕ)) → First P o → First (λ q. (b ≡ true) × P q) (guarded b o)
+guarded-first P true o h = first-map P (λ q. (true ≡ true) × P q) (λ q t. (refl, t)) (λ q t. t .1) o h
+guarded-first P false o h = λ q t. false-true (t .0)
 
 -- a list in P s for one of the n numbers s from a on
 abbrev Among : (ℕ → List ℕ → Type 0) → ℕ → ℕ → List ℕ → Type 0
@@ -40,7 +40,7 @@ Among P a n q = (s : ℕ) × (a ≤ s) × (s < a + n) × P s q
 
 -- where lists of smaller numbers come first, the first of the least number at which there is one is the first of all
 module _ (P : ℕ → List ℕ → Type 0) (f : ℕ → Option (List ℕ)) (each : (s : ℕ) → First (P s) (f s))
-    (orderly : (s t : ℕ) (p q : List ℕ) → s < t → P s p → P t q → Lex p q) where
+    (orderly : (s t : ℕ) (p q : List ℕ) → s < t → P s p → P t q → SmallerFirst p q) where
   among-cases : {A : Type 0} (n a : ℕ) (q : List ℕ) → (P a q → A) → (Among P (suc a) n q → A) → Among P a (suc n) q → A
   among-cases {A} n a q here later t = go (lt-or-ge a (t .0))
     where
@@ -123,13 +123,13 @@ module _ (cross : ℕ → ℕ → Bool) (ends : ℕ → Bool) (inside : (r s : �
   exactly-first : (k r : ℕ) → First (Exact E H k r) (exactly cross ends k r)
   exactly-first zero r = go (ends r) refl
     where
-      go : (b : Bool) → ends r ≡ b → First (Exact E H 0 r) (when b (some (r ∷ [])))
-      go true e = ((last e, refl), λ q t. subst (Lex (r ∷ [])) (sym (alone (t .0) (t .1) .1)) (inr (refl, tt)))
+      go : (b : Bool) → ends r ≡ b → First (Exact E H 0 r) (guarded b (some (r ∷ [])))
+      go true e = ((last e, refl), λ q t. subst (SmallerFirst (r ∷ [])) (sym (alone (t .0) (t .1) .1)) (inr (refl, tt)))
       go false e = λ q t. false-true (sym e ∙ alone (t .0) (t .1) .0)
   exactly-first (suc k) r =
-      go (first-of (λ s. when (cross r s) (exactly cross ends k s)) (count-from 0 regions))
-      (first-of-first P (λ s. when (cross r s) (exactly cross ends k s))
-      (λ s. when-first (Exact E H k s) (cross r s) (exactly cross ends k s) (exactly-first k s))
+      go (first-of (λ s. guarded (cross r s) (exactly cross ends k s)) (count-from 0 regions))
+      (first-of-first P (λ s. guarded (cross r s) (exactly cross ends k s))
+      (λ s. guarded-first (Exact E H k s) (cross r s) (exactly cross ends k s) (exactly-first k s))
       (λ s t p q l u v. head-lex (u .1 .0) (v .1 .0) l) regions 0)
     where
       P : ℕ → List ℕ → Type 0
@@ -142,7 +142,7 @@ module _ (cross : ℕ → ℕ → Bool) (ends : ℕ → Bool) (inside : (r s : �
       go none h = λ q t. let w = rest q t in h (w .0) (w .2)
       go (some p) h = (
         (next (h .0 .3 .0) (h .0 .3 .1 .0), ap suc (h .0 .3 .1 .1)),
-        λ q t. let w = rest q t in subst (Lex (r ∷ p)) (sym (w .1)) (inr (refl, h .1 (w .0) (w .2))),
+        λ q t. let w = rest q t in subst (SmallerFirst (r ∷ p)) (sym (w .1)) (inr (refl, h .1 (w .0) (w .2))),
       )
 
   -- a route that passes no region twice has no more regions than there are
@@ -218,7 +218,7 @@ module _ (cross : ℕ → ℕ → Bool) (ends : ℕ → Bool) (inside : (r s : �
 pub crosses-members : (m : Model) (i : Item) (r s : ℕ) → Legal m → crosses m i r s ≡ true
     → (member r (m .regions) ≡ true) × (member s (m .regions) ≡ true)
 crosses-members m i r s l e =
-    let w = any-one (λ c. (eqb (c .source) r && eqb (c .target) s) && passes i (c .filter)) (LegalConnection (m .regions)) (m .connections)
+    let w = exists-one (λ c. (eqb (c .source) r && eqb (c .target) s) && passes i (c .filter)) (LegalConnection (m .regions)) (m .connections)
     (l .connections-legal .each) e in
     let c = w .0 in
     let f = and-fst (eqb (c .source) r && eqb (c .target) s) (passes i (c .filter)) (w .1) in (

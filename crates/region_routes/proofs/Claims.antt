@@ -18,7 +18,7 @@ use Rattle.region_graph.specs.declared.Place.the-variants.{Within, Nowhere}
 use Rattle.region_routes.specs.Chosen.{chosen, sees}
 use Rattle.region_routes.specs.Hooks.{Outcome, item, routed, kept, judged, shown, shown-from, kept-outcome, sees-from, route-questions, find-questions, event-questions, route-outcome, find-outcome, event-outcome}
 use Rattle.region_routes.specs.Claim
-use Rattle.region_routes.specs.Claim.{Sifted, Seen, RouteSays, hidden, seen, KeptSays, Hears}
+use Rattle.region_routes.specs.Claim.{Selected, Seen, RouteSays, says-hidden, says-route, KeptSays, ListenerSees}
 use Rattle.region_routes.specs.declared.Kind.{Kind}
 use Rattle.region_routes.specs.declared.Routed.{Routed}
 use Rattle.region_routes.specs.declared.Routed.the-variants as Routed
@@ -28,12 +28,12 @@ use Rattle.region_routes.proofs.RouteLaws.{nonempty}
 use Rattle.region_routes.proofs.Choosing.{chosen-best, chosen-none, sees-route, route-sees}
 
 -- the elements that pass a test are those of which P holds, where the test says so
-pub keep-sifted : (P : ℕ → Type 0) (p : ℕ → Bool) → ((x : ℕ) → p x ≡ true → P x) → ((x : ℕ) → P x → p x ≡ true)
-    → (xs : List ℕ) → Sifted P xs (keep p xs)
-keep-sifted P p f g [] = Claim.none
-keep-sifted P p f g (x ∷ xs) = go (p x) refl (keep-sifted P p f g xs)
+pub keep-selected : (P : ℕ → Type 0) (p : ℕ → Bool) → ((x : ℕ) → p x ≡ true → P x) → ((x : ℕ) → P x → p x ≡ true)
+    → (xs : List ℕ) → Selected P xs (keep p xs)
+keep-selected P p f g [] = Claim.none
+keep-selected P p f g (x ∷ xs) = go (p x) refl (keep-selected P p f g xs)
   where
-    go : (b : Bool) → p x ≡ b → Sifted P xs (keep p xs) → Sifted P (x ∷ xs) (pick b (x ∷ keep p xs) (keep p xs))
+    go : (b : Bool) → p x ≡ b → Selected P xs (keep p xs) → Selected P (x ∷ xs) (pick b (x ∷ keep p xs) (keep p xs))
     go true e s = Claim.kept (f x e) s
     go false e s = Claim.left (λ h. let z : _≡_ {A = ℕ} 0 1 = ap (λ (t : Bool). pick t 1 0) (sym e ∙ g x h) in absurd (omega arith)) s
 
@@ -44,16 +44,16 @@ module _ (m : Model) (h : Legal m) where
   pub seen-sees : (i : Item) (r : ℕ) → Seen m i r → sees m i r ≡ true
   seen-sees i r s = route-sees m i r h (s .0) (s .1)
 
-  -- a listener hears of the item exactly where the set of seers has its region
-  pub hears-from : (i : Item) (l : ℕ) → sees-from m i (place-of (m .bundles) l) ≡ true → Hears m i l
-  hears-from i l e = go (place-of (m .bundles) l) refl e
+  -- a listener hears of the item exactly where the set of regions-seeing has its region
+  pub listener-sees : (i : Item) (l : ℕ) → sees-from m i (place-of (m .bundles) l) ≡ true → ListenerSees m i l
+  listener-sees i l e = go (place-of (m .bundles) l) refl e
     where
-      go : (p : Place) → place-of (m .bundles) l ≡ p → sees-from m i p ≡ true → Hears m i l
+      go : (p : Place) → place-of (m .bundles) l ≡ p → sees-from m i p ≡ true → ListenerSees m i l
       go (Within r) q k = (r, q, sees-seen i r k)
       go Nowhere q k = let z : _≡_ {A = ℕ} 0 1 = ap (λ (t : Bool). pick t 1 0) k in absurd (omega arith)
 
-  pub from-hears : (i : Item) (l : ℕ) → Hears m i l → sees-from m i (place-of (m .bundles) l) ≡ true
-  from-hears i l s = rw (s .1) (seen-sees i (s .0) (s .2))
+  pub sees-listener : (i : Item) (l : ℕ) → ListenerSees m i l → sees-from m i (place-of (m .bundles) l) ≡ true
+  sees-listener i l s = rw (s .1) (seen-sees i (s .0) (s .2))
 
   -- the outcome of a route call
   pub shown-says : (i : Item) (r : ℕ) (entry exit : List ℕ) (a : Routed)
@@ -64,11 +64,11 @@ module _ (m : Model) (h : Legal m) where
           → RouteSays m i r entry exit a
       go none q k =
           subst (RouteSays m i r entry exit) (sym (ap (λ (x : Outcome Routed). x .answer) k))
-          (hidden (chosen-none m i r h q) (ap (λ (x : Outcome Routed). x .exit) k))
+          (says-hidden (chosen-none m i r h q) (ap (λ (x : Outcome Routed). x .exit) k))
       go (some p) q k =
           let b = chosen-best m i r h p q in
           subst (RouteSays m i r entry exit) (sym (ap (λ (x : Outcome Routed). x .answer) k))
-          (seen p b (omega (arith, nonempty (b .route))) (ap (λ (x : Outcome Routed). x .exit) k))
+          (says-route p b (omega (arith, nonempty (b .route))) (ap (λ (x : Outcome Routed). x .exit) k))
 
 -- the outcome of a hook
 pub kept-says : (P : ℕ → Type 0) (p : ℕ → Bool) → ((x : ℕ) → p x ≡ true → P x) → ((x : ℕ) → P x → p x ≡ true)
@@ -76,7 +76,7 @@ pub kept-says : (P : ℕ → Type 0) (p : ℕ → Bool) → ((x : ℕ) → p x �
     → KeptSays P xs entry exit a
 kept-says P p f g xs entry exit a e = record {
   those = keep p xs;
-  sifted = keep-sifted P p f g xs;
+  selected = keep-selected P p f g xs;
   count = ap (λ (x : Outcome Kept). x .answer) e;
   exit-is = ap (λ (x : Outcome Kept). x .exit) e;
 }

@@ -10,7 +10,7 @@ use lib.Dec.{eqb}
 use lib.ListN.{length, List·getD-eq-default}
 use borrow.Author.Tests.{eqb-true, eqb-false, lt-ltb}
 use Rattle.region_graph.specs.Size.{regions}
-use Rattle.region_graph.specs.Lists.{pick, any, All, keep}
+use Rattle.region_graph.specs.Lists.{pick, exists, All, keep}
 use Rattle.region_graph.specs.Sets.{bit, has, set-of}
 use Rattle.region_graph.specs.Model.{Model, Bundle, Legal, LegalBundle}
 use Rattle.region_graph.specs.Calls.{at-location}
@@ -25,7 +25,7 @@ use Rattle.region_graph.proofs.Views.{counted-at}
 use Rattle.region_routes.specs.Route.{Route, last, next, Best}
 use Rattle.region_routes.specs.Chosen.{chosen-by, found, chosen, sees, Crosses, Holds}
 use Rattle.region_routes.specs.Hooks.{Outcome, routed, shown, sees-from, stands-in}
-use Rattle.region_routes.specs.Search.{In, RegionSets, Conn, Searched, Reached, Found, Walkable, Walked}
+use Rattle.region_routes.specs.Search.{In, RegionSets, Conn, Searched, Reached, InLayer, Walkable, Walked}
 use Rattle.region_routes.specs.declared.Routed.{Routed}
 use Rattle.region_routes.specs.declared.Routed.the-variants.{Count}
 use Rattle.region_routes.proofs.Choosing.{crosses-inside, by-best, by-none, found-is}
@@ -61,12 +61,12 @@ region-inside m h l {r} e = place-inside (m .regions) (h .regions-legal .each) (
 
 -- the region of a held item is one of the sixteen
 held-inside : (rs : List ℕ) → All (λ r. r < regions) rs → (i : Item) (r : ℕ) (bs : List Bundle) → All (LegalBundle rs) bs
-    → any (λ b. eqb (b .region) r && provides i b) bs ≡ true → r < regions
+    → exists (λ b. eqb (b .region) r && provides i b) bs ≡ true → r < regions
 held-inside rs h i r [] a e = false-true e
 held-inside rs h i r (b ∷ bs) a e = go (eqb (b .region) r && provides i b) refl (held-inside rs h i r bs (a .1)) e
   where
-    go : (t : Bool) → (eqb (b .region) r && provides i b) ≡ t → (any (λ b. eqb (b .region) r && provides i b) bs ≡ true → r < regions)
-        → (t || any (λ b. eqb (b .region) r && provides i b) bs) ≡ true → r < regions
+    go : (t : Bool) → (eqb (b .region) r && provides i b) ≡ t → (exists (λ b. eqb (b .region) r && provides i b) bs ≡ true → r < regions)
+        → (t || exists (λ b. eqb (b .region) r && provides i b) bs) ≡ true → r < regions
     go true f g k =
         subst (λ (x : ℕ). x < regions) (eqb-true (b .region) r (and-fst (eqb (b .region) r) (provides i b) f))
         (member-all (λ x. x < regions) (b .region) rs h (a .0 .region))
@@ -122,7 +122,7 @@ module _ {cross : ℕ → ℕ → Bool} {ends : ℕ → Bool} {pred : List ℕ} 
       pub layer-of-reached : has reached r ≡ true → Reached sets deep r
       layer-of-reached e = record { low = f .low; inside = l; some-layer = f .from r (eqb-true (bit reached r) 1 (rw (lt-ltb r regions l) at e)) }
 
-      pub walk-from : {d : ℕ} → Found sets deep r d → Walkable pred sets d r
+      pub walk-from : {d : ℕ} → InLayer sets deep r d → Walkable pred sets d r
       walk-from w = record {
         layered =
             let ly = shallower (f .layered) _ (w .within) in
@@ -203,7 +203,7 @@ module _ (m : Model) (i : Item) (h : Legal m) where
       pub reached-layer : has reached r ≡ true → Reached sets deep r
       reached-layer = layer-of-reached tied f r l
 
-      pub walkable : {d : ℕ} → Found sets deep r d → Walkable (predecessor-sets m i) sets d r
+      pub walkable : {d : ℕ} → InLayer sets deep r d → Walkable (predecessor-sets m i) sets d r
       walkable = walk-from tied f r l
 
       pub walked-chosen : {d : ℕ} {entry exit : List ℕ} → Walked (predecessor-sets m i) sets d r entry exit

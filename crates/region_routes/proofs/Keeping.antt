@@ -14,7 +14,7 @@ use Rattle.region_graph.specs.Sets.{has, set-of}
 use Rattle.region_graph.specs.declared.Place.{Place}
 use Rattle.region_graph.proofs.Lists.{keep-took, keep-left}
 use Rattle.region_graph.proofs.Bits.{has-set}
-use Rattle.region_routes.specs.Hooks.{Outcome, kept, written, kept-outcome, installed}
+use Rattle.region_routes.specs.Hooks.{Outcome, kept, written, kept-outcome, is-installed}
 use Rattle.region_routes.specs.Tables.{all-placed}
 use Rattle.region_routes.specs.declared.Kept.{Kept}
 use Rattle.region_routes.specs.declared.Kept.the-variants.{Wrote}
@@ -70,13 +70,13 @@ has-by p r e l t = sym (ap (λ (x : ℕ). has x r) e ∙ has-set p r ∙ rw (lt-
 
 -- the listeners from the i-th on
 module _ (place : ℕ → Place) (xs : List ℕ) (i : ℕ) (h : i < length xs) (e : all-placed place xs ≡ all-placed place (drop i xs)) where
-  placed-next : all-placed place (drop i xs) ≡ (installed (place (getD xs i 0)) && all-placed place (drop (i + 1) xs))
+  placed-next : all-placed place (drop i xs) ≡ (is-installed (place (getD xs i 0)) && all-placed place (drop (i + 1) xs))
   placed-next = rw add-one (ap (all-placed place) (drop-cons xs i 0 h))
 
-  pub placed-stop : installed (place (getD xs i 0)) ≡ false → false ≡ all-placed place xs
+  pub placed-stop : is-installed (place (getD xs i 0)) ≡ false → false ≡ all-placed place xs
   placed-stop t = sym (e ∙ placed-next ∙ rw t)
 
-  pub placed-later : installed (place (getD xs i 0)) ≡ true → all-placed place xs ≡ all-placed place (drop (i + 1) xs)
+  pub placed-later : is-installed (place (getD xs i 0)) ≡ true → all-placed place xs ≡ all-placed place (drop (i + 1) xs)
   placed-later t = e ∙ placed-next ∙ rw t
 
 pub placed-end : (place : ℕ → Place) (xs : List ℕ) (i : ℕ) → all-placed place xs ≡ all-placed place (drop i xs) → length xs ≤ i → true ≡ all-placed place xs

@@ -6,7 +6,7 @@ use Prim.Native.Nat.{ℕ, zero, suc, _≤_, _<_}
 use native.Mathlib.Nat.{le-refl, le-of-lt, le-trans, lt-of-lt-of-le, eq-or-lt-of-le}
 use native.Mathlib.Omega.{arith}
 use lib.ListN.{length}
-use Rattle.region_routes.specs.Route.{Route, last, next, Lex, Best}
+use Rattle.region_routes.specs.Route.{Route, last, next, SmallerFirst, Best}
 use Rattle.region_routes.specs.Search.{Layered}
 use Rattle.region_routes.proofs.RouteLaws.{lt-or-ge, nonempty, head-lex}
 
@@ -18,7 +18,7 @@ best-last {E} {H} {r} h = record {
   smallest = λ q t e. go t e;
 }
   where
-    go : {q : List ℕ} → Route E H r q → 1 ≡ length q → Lex (r ∷ []) q
+    go : {q : List ℕ} → Route E H r q → 1 ≡ length q → SmallerFirst (r ∷ []) q
     go (last k) e = inr (refl, tt)
     go (next f u) e = absurd (omega (arith, nonempty u))
 
@@ -71,11 +71,11 @@ module _ {E : ℕ → ℕ → Type 0} {H : ℕ → Type 0} {L : ℕ → ℕ → 
     smallest = λ q t u. go t u;
   }
     where
-      go : {q : List ℕ} → Route E H r q → suc (length p) ≡ length q → Lex (r ∷ p) q
+      go : {q : List ℕ} → Route E H r q → suc (length p) ≡ length q → SmallerFirst (r ∷ p) q
       go (last x) u = absurd (omega arith)
       go (next {s = s′} {p = q} f t) u = inr (refl, pick (eq-or-lt-of-le (low s′ f (second d l h f t (omega arith)))))
         where
-          pick : (s ≡ s′) ⊎ (s < s′) → Lex p q
+          pick : (s ≡ s′) ⊎ (s < s′) → SmallerFirst p q
           pick (inl x) = b .smallest q (subst (λ (z : ℕ). Route E H z q) (sym x) t) (omega arith)
           pick (inr x) = head-lex (b .route) t x
 

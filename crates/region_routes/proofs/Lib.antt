@@ -6,7 +6,7 @@ pub mod Layers
 pub mod SearchLoops
 pub mod Walking
 pub mod Judging
-pub mod Entries
+pub mod TableLaws
 pub mod Chaining
 pub mod Keeping
 pub mod Answering

@@ -10,15 +10,15 @@ use Rattle.region_graph.specs.declared.Item.{Item}
 use Rattle.region_graph.proofs.Lists.{false-true, member-all}
 use Rattle.region_routes.specs.Route.{last, next}
 use Rattle.region_routes.specs.Chosen.{RouteFor}
-use Rattle.region_routes.specs.Net.{Joined, Solves, net, service, cyclic}
+use Rattle.region_routes.specs.Net.{OwnOrPassed, Solves, net, service, cyclic}
 use Rattle.region_routes.proofs.Choosing.{crosses-members}
 
 module _ (m : Model) (i : Item) where
-  first-step : {r : ℕ} {p : List ℕ} → RouteFor m i r p → Joined m i (net m i) r
+  first-step : {r : ℕ} {p : List ℕ} → RouteFor m i r p → OwnOrPassed m i (net m i) r
   first-step (last h) = inl h
   first-step (next {s = s} {p = p} e t) = inr (s, e, (p, t))
 
-  longer : (r : ℕ) → Joined m i (net m i) r → net m i r
+  longer : (r : ℕ) → OwnOrPassed m i (net m i) r → net m i r
   longer r (inl h) = (r ∷ [], last h)
   longer r (inr (s, e, n)) = (r ∷ n .0, next e (n .1))
 
@@ -35,15 +35,15 @@ module _ (m : Model) (i : Item) where
       go h (next {r = r} {s = s} e t) = solves .closes r h (inr (s, e, go (crosses-members m i r s l e .1) t))
 
 -- G7: that every region sees service 77 solves the equation, though no region has a route to it
-pub phantom : Solves cyclic (service 77) (λ r. Unit {0})
-phantom =
+pub all-see-solves : Solves cyclic (service 77) (λ r. Unit {0})
+all-see-solves =
     record {
-      opens = λ r h n. member-all (Joined cyclic (service 77) (λ r. Unit {0})) r (cyclic .regions) (inr (4, refl, tt), (inr (3, refl, tt), tt)) h;
+      opens = λ r h n. member-all (OwnOrPassed cyclic (service 77) (λ r. Unit {0})) r (cyclic .regions) (inr (4, refl, tt), (inr (3, refl, tt), tt)) h;
       closes = λ r h j. tt;
     }
 
-pub no-phantom : (r : ℕ) → net cyclic (service 77) r → ⊥
-no-phantom r n = go (n .1)
+pub nobody-sees : (r : ℕ) → net cyclic (service 77) r → ⊥
+nobody-sees r n = go (n .1)
   where
     go : {r : ℕ} {p : List ℕ} → RouteFor cyclic (service 77) r p → ⊥
     go (last h) = false-true (simp and-false at h)

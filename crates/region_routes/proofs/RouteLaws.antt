@@ -7,7 +7,7 @@ use Prim.Native.Nat.{ℕ, zero, suc, _≤_, _<_, zero-le, suc-le-suc}
 use native.Mathlib.Nat.{le-refl, le-antisymm}
 use native.Mathlib.Omega.{arith}
 use lib.ListN.{length}
-use Rattle.region_routes.specs.Route.{Route, last, next, Lex, Best}
+use Rattle.region_routes.specs.Route.{Route, last, next, SmallerFirst, Best}
 
 pub lt-or-ge : (a b : ℕ) → (a < b) ⊎ (b ≤ a)
 lt-or-ge a zero = inr zero-le
@@ -18,7 +18,7 @@ lt-or-ge (suc a) (suc b) = go (lt-or-ge a b)
     go (inl h) = inl (suc-le-suc h)
     go (inr h) = inr (suc-le-suc h)
 
-pub lex-antisym : (p q : List ℕ) → length p ≡ length q → Lex p q → Lex q p → p ≡ q
+pub lex-antisym : (p q : List ℕ) → length p ≡ length q → SmallerFirst p q → SmallerFirst q p → p ≡ q
 lex-antisym [] [] e a b = refl
 lex-antisym [] (y ∷ q) e a b = absurd (omega arith)
 lex-antisym (x ∷ p) [] e a b = absurd (omega arith)
@@ -34,7 +34,7 @@ module _ {E : ℕ → ℕ → Type 0} {H : ℕ → Type 0} where
   nonempty (next e t) = suc-le-suc zero-le
 
   -- a route from a smaller region comes first
-  pub head-lex : {r s : ℕ} {p q : List ℕ} → Route E H r p → Route E H s q → r < s → Lex p q
+  pub head-lex : {r s : ℕ} {p q : List ℕ} → Route E H r p → Route E H s q → r < s → SmallerFirst p q
   head-lex (last h) (last k) l = inl l
   head-lex (last h) (next f u) l = inl l
   head-lex (next e t) (last k) l = inl l

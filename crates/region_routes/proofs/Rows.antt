@@ -14,9 +14,9 @@ use Rattle.region_graph.specs.declared.Place.the-variants.{Within}
 use Rattle.region_graph.proofs.Legal.{legal-nothing, legal-run}
 use Rattle.region_routes.specs.Chosen.{chosen-by, chosen, sees}
 use Rattle.region_routes.specs.Hooks.{item}
-use Rattle.region_routes.specs.Table.{Says, Shown, rows, graph-g, cycle, diamond, resolves, routes, hides}
+use Rattle.region_routes.specs.Table.{Says, RowHolds, rows, graph-g, cycle, diamond, resolves, routes, hides}
 use Rattle.region_routes.proofs.Choosing.{chosen-best, chosen-none}
-use Rattle.region_routes.proofs.Claims.{keep-sifted, sees-seen, seen-sees}
+use Rattle.region_routes.proofs.Claims.{keep-selected, sees-seen, seen-sees}
 
 module _ (cs : List Call) (w : All Words cs) where
   legal : Legal (run nothing cs)
@@ -35,7 +35,7 @@ module _ (cs : List Call) (w : All Words cs) where
   finds l r xs e = (
     r,
     e,
-    keep-sifted _ (λ n. sees (run nothing cs) (item 1 n) r) (λ n. sees-seen (run nothing cs) legal (item 1 n) r)
+    keep-selected _ (λ n. sees (run nothing cs) (item 1 n) r) (λ n. sees-seen (run nothing cs) legal (item 1 n) r)
         (λ n. seen-sees (run nothing cs) legal (item 1 n) r) xs,
   )
 
@@ -49,7 +49,7 @@ words-diamond : All Words diamond
 words-diamond = search needs depth 30 fits 4000
 
 -- every row of the table holds
-pub every-row : All Shown rows
+pub every-row : All RowHolds rows
 unfolding chosen chosen-by
 every-row = (
   (finds graph-g words-g 10 0 (1 ∷ 2 ∷ 3 ∷ []) refl, tt),

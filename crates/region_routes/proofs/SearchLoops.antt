@@ -14,7 +14,7 @@ use lib.Count.{trailingZeros, ones}
 use borrow.Author.Tests.{lt-ltb}
 use Rattle.region_graph.specs.Size.{regions}
 use Rattle.region_graph.specs.Lists.{pick}
-use Rattle.region_graph.specs.Sets.{one}
+use Rattle.region_graph.specs.Sets.{singleton}
 use Rattle.region_graph.proofs.Bits.{bit-one, in-lt, low-in}
 use Rattle.region_routes.specs.Search.{In, SetOfRegions, Conn, Layer, Layered, At, Searched}
 use Rattle.region_routes.proofs.SetLaws.{not-in-empty, in-dec, or-in, in-or, diff-in, in-diff, in-one, in-pos, ones-pos, grows}
@@ -39,7 +39,7 @@ pub lowest-in : {left r : ℕ} → left < 2 ^ 64 → 0 < left → r ≡ trailing
 lowest-in {left} word pos e = subst (In left) (sym e) (low-in 64 left pos word)
 
 -- what the functions of the turn answer
-pub taken : {left r alone rest : ℕ} → SetOfRegions left → left < 2 ^ 64 → 0 < left → r ≡ trailingZeros 64 left → alone ≡ one r
+pub taken : {left r alone rest : ℕ} → SetOfRegions left → left < 2 ^ 64 → 0 < left → r ≡ trailingZeros 64 left → alone ≡ singleton r
     → rest ≡ bitAnd left (2 ^ 64 - 1 - alone) → Taken left r rest
 taken {left} {r} {alone} {rest} small word pos e o d = record {
   inside = inside;

@@ -20,12 +20,12 @@ use Rattle.region_graph.proofs.WholeList.{Change, Means}
 use Rattle.region_graph.proofs.Graph.empty.Reads as empty
 use Rattle.region_routes.specs.Hooks.{Outcome, routed, kept, item, kind-number, sees-from, all-installed, route-outcome, find-outcome, event-outcome}
 use Rattle.region_routes.specs.Chosen.{sees}
-use Rattle.region_routes.specs.Claim.{Seen, RouteSays, KeptSays, Hears}
+use Rattle.region_routes.specs.Claim.{Seen, RouteSays, KeptSays, ListenerSees}
 use Rattle.region_routes.specs.declared.Kind.{Kind}
 use Rattle.region_routes.specs.declared.Kind.the-variants as Kind
 use Rattle.region_routes.specs.declared.Routed.{Routed}
 use Rattle.region_routes.specs.declared.Kept.{Kept}
-use Rattle.region_routes.proofs.Claims.{sees-seen, seen-sees, hears-from, from-hears, shown-says, kept-says}
+use Rattle.region_routes.proofs.Claims.{sees-seen, seen-sees, listener-sees, sees-listener, shown-says, kept-says}
 use Rattle.region_routes.proofs.routes.route.Reads as route
 use Rattle.region_routes.proofs.hooks.bundle_find.Reads as bundle-find
 use Rattle.region_routes.proofs.hooks.resolve.Reads as resolve
@@ -64,7 +64,7 @@ pub record Answers (g : Graph) (m : Model) : Type 0 where
   pub finds : (k : Kind) (l r : ℕ) (xs entry exit : List ℕ) (a : Kept) → place-of (m .bundles) l ≡ Within r → length xs ≤ length entry
       → Finds g l k xs entry a exit → KeptSays (λ n. Seen m (item (kind-number k) n) r) xs entry exit a
   pub events : (k : Kind) (number : ℕ) (xs entry exit : List ℕ) (a : Kept) → all-installed m xs ≡ true → length xs ≤ length entry
-      → Events g number k xs entry a exit → KeptSays (Hears m (item (kind-number k) number)) xs entry exit a
+      → Events g number k xs entry a exit → KeptSays (ListenerSees m (item (kind-number k) number)) xs entry exit a
 
 -- each contract is the same equation for its call
 pub routes-outcome : {g : Graph} {l kind number : ℕ} {entry exit : List ℕ} {a : Routed} → Routes g l kind number entry a exit
@@ -87,19 +87,19 @@ pub answers : {g : Graph} {m : Model} → Means g m → Answers g m
 answers {g} {m} t = record {
   routes = λ l r kind number entry exit a p k b q.
       shown-says m legal (item kind number) r entry exit a
-      (routes-outcome q ∙ ap (λ (x : Model). route-outcome x l kind number entry) (t .sets) ∙ rw (p, le-leb kind 2 k, le-leb regions (length entry) b));
+      (routes-outcome q ∙ ap (λ (x : Model). route-outcome x l kind number entry) (t .model) ∙ rw (p, le-leb kind 2 k, le-leb regions (length entry) b));
   finds = λ k l r xs entry exit a p b q.
       kept-says (λ n. Seen m (item (kind-number k) n) r) (λ n. sees m (item (kind-number k) n) r)
       (λ n. sees-seen m legal (item (kind-number k) n) r) (λ n. seen-sees m legal (item (kind-number k) n) r) xs entry exit a
-      (finds-outcome q ∙ ap (λ (x : Model). find-outcome x k l xs entry) (t .sets) ∙ rw (p, le-leb (length xs) (length entry) b));
+      (finds-outcome q ∙ ap (λ (x : Model). find-outcome x k l xs entry) (t .model) ∙ rw (p, le-leb (length xs) (length entry) b));
   events = λ k number xs entry exit a p b q.
-      kept-says (Hears m (item (kind-number k) number)) (λ l. sees-from m (item (kind-number k) number) (place-of (m .bundles) l))
-      (λ l. hears-from m legal (item (kind-number k) number) l) (λ l. from-hears m legal (item (kind-number k) number) l) xs entry exit a
-      (events-outcome q ∙ ap (λ (x : Model). event-outcome x k xs number entry) (t .sets) ∙ rw (p, le-leb (length xs) (length entry) b));
+      kept-says (ListenerSees m (item (kind-number k) number)) (λ l. sees-from m (item (kind-number k) number) (place-of (m .bundles) l))
+      (λ l. listener-sees m legal (item (kind-number k) number) l) (λ l. sees-listener m legal (item (kind-number k) number) l) xs entry exit a
+      (events-outcome q ∙ ap (λ (x : Model). event-outcome x k xs number entry) (t .model) ∙ rw (p, le-leb (length xs) (length entry) b));
 }
   where
     legal : Legal m
-    legal = subst Legal (t .sets) (t .valid .good)
+    legal = subst Legal (t .model) (t .valid .good)
 
 -- From the empty record, for every list of changing calls, refused ones included: each number is the model's, and after the list the route
 -- call, the finds and the events answer as the routes of the model say.

@@ -1,11 +1,11 @@
 -- The route that document 01 picks, computed; the theorems of proofs/Choosing.antt say that it is the one of `Best`.
 use mathlib.Core.Path.{_≡_}
-use mathlib.Core.Bool.{Bool, true, false, _&&_}
+use mathlib.Core.Bool.{Bool, true, false}
 use mathlib.Core.List.{List, [], _∷_}
 use mathlib.Core.Option.{Option, some, none}
 use Prim.Native.Nat.{ℕ, zero, suc}
 use Rattle.region_graph.specs.Size.{regions}
-use Rattle.region_graph.specs.Lists.{pick, count-from}
+use Rattle.region_graph.specs.Lists.{count-from}
 use Rattle.region_graph.specs.Model.{Model}
 use Rattle.region_graph.specs.Items.{holds, crosses}
 use Rattle.region_graph.specs.declared.Item.{Item}
@@ -20,9 +20,9 @@ abbrev pub put-before : ℕ → Option (List ℕ) → Option (List ℕ)
 put-before r none = none
 put-before r (some p) = some (r ∷ p)
 
-abbrev pub when : Bool → Option (List ℕ) → Option (List ℕ)
-when true o = o
-when false o = none
+abbrev pub guarded : Bool → Option (List ℕ) → Option (List ℕ)
+guarded true o = o
+guarded false o = none
 
 abbrev pub or-else : Option (List ℕ) → Option (List ℕ) → Option (List ℕ)
 or-else (some p) o = some p
@@ -31,8 +31,8 @@ or-else none o = o
 module _ (cross : ℕ → ℕ → Bool) (ends : ℕ → Bool) where
   -- of the routes of exactly k connections from r the one whose region number is smaller where two first differ
   abbrev pub exactly : ℕ → ℕ → Option (List ℕ)
-  exactly zero r = when (ends r) (some (r ∷ []))
-  exactly (suc k) r = put-before r (first-of (λ s. when (cross r s) (exactly k s)) (count-from 0 regions))
+  exactly zero r = guarded (ends r) (some (r ∷ []))
+  exactly (suc k) r = put-before r (first-of (λ s. guarded (cross r s) (exactly k s)) (count-from 0 regions))
 
   -- with k connections, or one more, and so on, in n tries
   abbrev pub from : ℕ → ℕ → ℕ → Option (List ℕ)

@@ -1,10 +1,8 @@
 -- Demand 3's words on the queries: what the route call, the finds and the events must say of the routes of a model.
 use mathlib.Core.Path.{_≡_}
 use mathlib.Core.List.{List, [], _∷_}
-use mathlib.Core.Logic.{_⊎_}
-use Prim.Native.Nat.{ℕ, suc, _≤_}
+use Prim.Native.Nat.{ℕ, suc}
 use lib.ListN.{length}
-use Rattle.region_graph.specs.Size.{regions}
 use Rattle.region_graph.specs.Model.{Model}
 use Rattle.region_graph.specs.Promise.{place-of}
 use Rattle.region_graph.specs.declared.Item.{Item}
@@ -17,10 +15,10 @@ use Rattle.region_routes.specs.declared.Kept.{Kept}
 use Rattle.region_routes.specs.declared.Kept.the-variants.{Wrote}
 
 -- ys are exactly those of xs of which P holds, in the order given, repetitions kept
-pub data Sifted (P : ℕ → Type 0) : List ℕ → List ℕ → Type 0 where
-  none : Sifted P [] []
-  kept : {x : ℕ} {xs ys : List ℕ} → P x → Sifted P xs ys → Sifted P (x ∷ xs) (x ∷ ys)
-  left : {x : ℕ} {xs ys : List ℕ} → (P x → ⊥) → Sifted P xs ys → Sifted P (x ∷ xs) ys
+pub data Selected (P : ℕ → Type 0) : List ℕ → List ℕ → Type 0 where
+  none : Selected P [] []
+  kept : {x : ℕ} {xs ys : List ℕ} → P x → Selected P xs ys → Selected P (x ∷ xs) (x ∷ ys)
+  left : {x : ℕ} {xs ys : List ℕ} → (P x → ⊥) → Selected P xs ys → Selected P (x ∷ xs) ys
 
 -- some route lets the item through to the region
 abbrev pub Seen : Model → Item → ℕ → Type 0
@@ -28,16 +26,16 @@ Seen m i r = (p : List ℕ) × RouteFor m i r p
 
 -- hidden exactly when there is no route; else the best one is written and its count of connections returned
 pub data RouteSays (m : Model) (i : Item) (r : ℕ) (entry exit : List ℕ) : Routed → Type 0 where
-  hidden : NoRouteFor m i r → exit ≡ entry → RouteSays m i r entry exit Hidden
-  seen : {n : ℕ} (p : List ℕ) → BestFor m i r p → length p ≡ suc n → exit ≡ written p entry → RouteSays m i r entry exit (Count n)
+  says-hidden : NoRouteFor m i r → exit ≡ entry → RouteSays m i r entry exit Hidden
+  says-route : {n : ℕ} (p : List ℕ) → BestFor m i r p → length p ≡ suc n → exit ≡ written p entry → RouteSays m i r entry exit (Count n)
 
 -- exactly those of which P holds are written, and their count is returned
 pub record KeptSays (P : ℕ → Type 0) (xs entry exit : List ℕ) (answer : Kept) : Type 0 where
   pub those : List ℕ
-  pub sifted : Sifted P xs those
+  pub selected : Selected P xs those
   pub count : answer ≡ Wrote (length those)
   pub exit-is : exit ≡ written those entry
 
 -- a listener is installed in a region that sees the item
-abbrev pub Hears : Model → Item → ℕ → Type 0
-Hears m i l = (r : ℕ) × (place-of (m .bundles) l ≡ Within r) × Seen m i r
+abbrev pub ListenerSees : Model → Item → ℕ → Type 0
+ListenerSees m i l = (r : ℕ) × (place-of (m .bundles) l ≡ Within r) × Seen m i r

@@ -1,5 +1,4 @@
 -- Document 01, "Routes" and "Hooks": what the route call, the finds and the events answer and leave in the buffer that they are lent.
-use mathlib.Core.Path.{_≡_}
 use mathlib.Core.Bool.{Bool, true, false, _&&_}
 use mathlib.Core.List.{List, [], _∷_, _++_}
 use mathlib.Core.Option.{Option, some, none}
@@ -64,25 +63,25 @@ abbrev pub kept : Kept → List ℕ → Outcome Kept
 kept answer exit = record { answer = answer; returned = kept-as answer; exit = exit }
 
 -- whether a bundle, and every listener, is installed
-abbrev pub installed : Place → Bool
-installed (Within r) = true
-installed Nowhere = false
+abbrev pub is-installed : Place → Bool
+is-installed (Within r) = true
+is-installed Nowhere = false
 
 abbrev pub all-installed : Model → List ℕ → Bool
 all-installed m [] = true
-all-installed m (l ∷ ls) = installed (place-of (m .bundles) l) && all-installed m ls
+all-installed m (l ∷ ls) = is-installed (place-of (m .bundles) l) && all-installed m ls
 
 -- the questions that the queries pass, by number
 abbrev pub route-questions : Model → ℕ → ℕ → List ℕ → List Question
 route-questions m location kind entry =
-    ask not-installed (installed (place-of (m .bundles) location))
+    ask not-installed (is-installed (place-of (m .bundles) location))
     ∷ ask not-a-kind (leb kind 2)
     ∷ ask no-place (leb regions (length entry))
     ∷ []
 
 abbrev pub find-questions : Model → ℕ → List ℕ → List ℕ → List Question
 find-questions m location candidates entry =
-    ask not-installed (installed (place-of (m .bundles) location))
+    ask not-installed (is-installed (place-of (m .bundles) location))
     ∷ ask no-place (leb (length candidates) (length entry))
     ∷ []
 

@@ -15,13 +15,13 @@ use Rattle.region_routes.specs.Table.{cycle}
 use Rattle.region_routes.specs.declared.Kind.the-variants as Kind
 
 -- the item is in r's own region, or in the net region, filtered, of a region that r is connected to
-abbrev pub Joined : Model → Item → (ℕ → Type 0) → ℕ → Type 0
-Joined m i N r = Holds m i r ⊎ ((s : ℕ) × Crosses m i r s × N s)
+abbrev pub OwnOrPassed : Model → Item → (ℕ → Type 0) → ℕ → Type 0
+OwnOrPassed m i N r = Holds m i r ⊎ ((s : ℕ) × Crosses m i r s × N s)
 
 -- N r, for each region r, that the item is in its net region: the equation, read both ways
 pub record Solves (m : Model) (i : Item) (N : ℕ → Type 0) : Type 0 where
-  pub opens : (r : ℕ) → member r (m .regions) ≡ true → N r → Joined m i N r
-  pub closes : (r : ℕ) → member r (m .regions) ≡ true → Joined m i N r → N r
+  pub opens : (r : ℕ) → member r (m .regions) ≡ true → N r → OwnOrPassed m i N r
+  pub closes : (r : ℕ) → member r (m .regions) ≡ true → OwnOrPassed m i N r → N r
 
 -- the net region that routes give: the item has a route
 abbrev pub net : Model → Item → ℕ → Type 0

@@ -14,13 +14,13 @@ abbrev pub NoRoute : (ℕ → ℕ → Type 0) → (ℕ → Type 0) → ℕ → T
 NoRoute E H r = (p : List ℕ) → Route E H r p → ⊥
 
 -- the first list has the smaller number where the two first differ, or they do not differ
-abbrev pub Lex : List ℕ → List ℕ → Type 0
-Lex [] q = Unit {0}
-Lex (x ∷ p) [] = Unit {0}
-Lex (x ∷ p) (y ∷ q) = (x < y) ⊎ ((x ≡ y) × Lex p q)
+abbrev pub SmallerFirst : List ℕ → List ℕ → Type 0
+SmallerFirst [] q = Unit {0}
+SmallerFirst (x ∷ p) [] = Unit {0}
+SmallerFirst (x ∷ p) (y ∷ q) = (x < y) ⊎ ((x ≡ y) × SmallerFirst p q)
 
 -- a route with fewest connections; among those the one whose region number is smaller where two first differ
 pub record Best (E : ℕ → ℕ → Type 0) (H : ℕ → Type 0) (r : ℕ) (p : List ℕ) : Type 0 where
   pub route : Route E H r p
   pub fewest : (q : List ℕ) → Route E H r q → length p ≤ length q
-  pub smallest : (q : List ℕ) → Route E H r q → length p ≡ length q → Lex p q
+  pub smallest : (q : List ℕ) → Route E H r q → length p ≡ length q → SmallerFirst p q

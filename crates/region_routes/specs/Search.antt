@@ -1,7 +1,7 @@
 -- What the functions of the search promise each other: layers of regions by their distance to a holder, as sets.
 use mathlib.Core.Path.{_≡_}
 use mathlib.Core.List.{List, _++_}
-use Prim.Native.Nat.{ℕ, zero, suc, _<_, _≤_, _^_}
+use Prim.Native.Nat.{ℕ, suc, _<_, _≤_, _^_}
 use lib.ListN.{length, getD, drop}
 use Rattle.region_graph.specs.Size.{regions}
 use Rattle.region_graph.specs.Sets.{bit}
@@ -59,7 +59,7 @@ pub record Reached (sets : List ℕ) (deep region : ℕ) : Type 0 where
   pub inside : region < regions
   pub some-layer : (j : ℕ) × (j ≤ deep) × (At sets j region)
 
-pub record Found (sets : List ℕ) (deep region layer : ℕ) : Type 0 where
+pub record InLayer (sets : List ℕ) (deep region layer : ℕ) : Type 0 where
   pub within : layer ≤ deep
   pub here : At sets layer region
 

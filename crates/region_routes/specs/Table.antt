@@ -5,14 +5,14 @@ use mathlib.Core.List.{List, [], _∷_}
 use Prim.Native.Nat.{ℕ, suc}
 use lib.ListN.{length}
 use Rattle.region_graph.specs.Lists.{All}
-use Rattle.region_graph.specs.Model.{Model, Bundle, Part, Connection, nothing}
+use Rattle.region_graph.specs.Model.{Model, Part, nothing}
 use Rattle.region_graph.specs.Calls.{Call, run, numbers}
 use Rattle.region_graph.specs.Promise.{place-of}
 use Rattle.region_graph.specs.declared.Item.{Item}
 use Rattle.region_graph.specs.declared.Place.the-variants.{Within}
 use Rattle.region_routes.specs.Chosen.{NoRouteFor, BestFor}
 use Rattle.region_routes.specs.Hooks.{item}
-use Rattle.region_routes.specs.Claim.{Sifted, Seen}
+use Rattle.region_routes.specs.Claim.{Selected, Seen}
 
 pub data Claim : Type 0 where
   -- the numbers of the calls
@@ -30,7 +30,7 @@ Asks m l P = (r : ℕ) × (place-of (m .bundles) l ≡ Within r) × P r
 
 abbrev pub Says : List Call → Claim → Type 0
 Says cs (answers ns) = numbers nothing cs ≡ ns
-Says cs (resolves l xs ys) = let m = run nothing cs in Asks m l (λ r. Sifted (λ n. Seen m (item 1 n) r) xs ys)
+Says cs (resolves l xs ys) = let m = run nothing cs in Asks m l (λ r. Selected (λ n. Seen m (item 1 n) r) xs ys)
 Says cs (routes l i p n) = let m = run nothing cs in Asks m l (λ r. BestFor m i r p × (length p ≡ suc n))
 Says cs (hides l i) = let m = run nothing cs in Asks m l (NoRouteFor m i)
 
@@ -39,8 +39,8 @@ pub record Row : Type 0 where
   pub claims : List Claim
 
 -- all that a row claims holds
-abbrev pub Shown : Row → Type 0
-Shown w = All (Says (w .calls)) (w .claims)
+abbrev pub RowHolds : Row → Type 0
+RowHolds w = All (Says (w .calls)) (w .claims)
 
 -- a bundle with packages and services, and connections that pass packages, services or bundles
 abbrev pub bundle-of : ℕ → ℕ → List ℕ → List ℕ → Call

@@ -6,23 +6,23 @@ use Prim.Native.Nat.{ℕ, _+_, _*_, _/_, _%_, _≤_}
 use lib.Dec.{eqb}
 use lib.ListN.{length, take}
 use Rattle.region_graph.specs.Size.{regions, most-connections, most-listed}
-use Rattle.region_graph.specs.Lists.{pick, any, count-from}
+use Rattle.region_graph.specs.Lists.{pick, exists, concat-map, count-from}
 use Rattle.region_graph.specs.Sets.{set-of}
 use Rattle.region_graph.specs.Model.{Model, Bundle, Part, Connection, Legal}
 use Rattle.region_graph.specs.Items.{provided, part-of}
 use Rattle.region_graph.specs.declared.Place.{Place}
 use Rattle.region_graph.specs.declared.Place.the-variants.{Within, Nowhere}
-use Rattle.region_routes.specs.Hooks.{installed}
+use Rattle.region_routes.specs.Hooks.{is-installed}
 
--- an entry: a number of an item with the place that it goes with, below `width`; the number `every`, which no item has, stands for all
+-- an entry: a number of an item with the place that it goes with, below `width`; the number `everything-number`, which no item has, stands for all
 abbrev pub width : ℕ
 width = 65536
 
-abbrev pub every : ℕ
-every = 4294967296
+abbrev pub everything-number : ℕ
+everything-number = 4294967296
 
-abbrev pub entry : ℕ → ℕ → ℕ
-entry n place = n * width + place
+abbrev pub packed : ℕ → ℕ → ℕ
+packed n place = n * width + place
 
 abbrev pub number-in : ℕ → ℕ
 number-in e = e / width
@@ -44,29 +44,24 @@ target-in e = place-in e % regions
 abbrev pub most-entries : ℕ
 most-entries = most-connections * most-listed
 
--- the entries of each element, one after the other
-abbrev pub gather : {A : Type 0} → (A → List ℕ) → List A → List ℕ
-gather f [] = []
-gather f (x ∷ xs) = f x ++ gather f xs
-
 -- what a part of a filter passes
 abbrev pub passed : Part → List ℕ
 passed (Part.listed xs) = xs
-passed Part.everything = every ∷ []
+passed Part.everything = everything-number ∷ []
 
 -- what a bundle brings, of a kind, with its region; what a connection passes, of a kind, with its two ends
 abbrev pub offer : ℕ → Bundle → List ℕ
-offer kind b = map (λ n. entry n (b .region)) (provided kind b)
+offer kind b = map (λ n. packed n (b .region)) (provided kind b)
 
 abbrev pub passage : ℕ → Connection → List ℕ
-passage kind c = map (λ n. entry n (ends (c .source) (c .target))) (passed (part-of kind (c .filter)))
+passage kind c = map (λ n. packed n (ends (c .source) (c .target))) (passed (part-of kind (c .filter)))
 
 -- the tables of a kind
 abbrev pub offers : ℕ → List Bundle → List ℕ
-offers kind bs = gather (offer kind) bs
+offers kind bs = concat-map (offer kind) bs
 
 abbrev pub passages : ℕ → List Connection → List ℕ
-passages kind cs = gather (passage kind) cs
+passages kind cs = concat-map (passage kind) cs
 
 -- xs was put at the places from `at` on; what stands before them is as it was, and `next` is the place after them
 pub record Appended (before : List ℕ) (at : ℕ) (xs after : List ℕ) (next : ℕ) : Type 0 where
@@ -81,10 +76,10 @@ pub record Holding (xs items : List ℕ) (count : ℕ) : Type 0 where
 
 -- the regions that the entries of a number name, and whether one of them leads from a region to another
 abbrev pub held-in : List ℕ → ℕ → ℕ
-held-in es n = set-of (λ r. any (λ e. eqb (place-in e) r && eqb (number-in e) n) es)
+held-in es n = set-of (λ r. exists (λ e. eqb (place-in e) r && eqb (number-in e) n) es)
 
 abbrev pub leads-in : List ℕ → ℕ → ℕ → ℕ → Bool
-leads-in es n r s = any (λ e. (eqb (source-in e) r && eqb (target-in e) s) && eqb (number-in e) n) es
+leads-in es n r s = exists (λ e. (eqb (source-in e) r && eqb (target-in e) s) && eqb (number-in e) n) es
 
 abbrev pub leads-also : (ℕ → ℕ → Bool) → List ℕ → ℕ → ℕ → ℕ → Bool
 leads-also leads es n r s = leads r s || leads-in es n r s
@@ -101,7 +96,7 @@ place-at (e ∷ es) l = pick (eqb (number-in e) l) (Within (place-in e)) (place-
 -- each number has a place
 abbrev pub all-placed : (ℕ → Place) → List ℕ → Bool
 all-placed place [] = true
-all-placed place (l ∷ ls) = installed (place l) && all-placed place ls
+all-placed place (l ∷ ls) = is-installed (place l) && all-placed place ls
 
 -- the tables are those of a model, for a kind
 pub record Tables (m : Model) (kind : ℕ) (offered passing : List ℕ) : Type 0 where

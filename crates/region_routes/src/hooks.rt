@@ -12,9 +12,9 @@ ghost use Rattle.region_routes.specs.Tables.{Tables, «most-entries», �
 ghost use Rattle.region_routes.specs.Chains.{Chained};
 use crate::Kept;
 use crate::Kind;
-use crate::search::seers;
-use crate::search::seers_by;
-use crate::tables::EVERY_NUMBER;
+use crate::search::regions_seeing;
+use crate::search::regions_seeing_by;
+use crate::tables::EVERYTHING_NUMBER;
 use crate::tables::MOST_ENTRIES;
 use crate::tables::chained;
 use crate::tables::offers;
@@ -59,13 +59,13 @@ fn keep_seen(
     let offer_links = chained(offered);
     let pass_links = chained(passing);
     let none = [0u64; REGIONS];
-    let always = predecessors(passing, &pass_links, EVERY_NUMBER, none);
+    let always = predecessors(passing, &pass_links, EVERYTHING_NUMBER, none);
     let mut n: usize = 0;
     let mut i: usize = 0;
     while i < candidates.len() {
         let number = candidates[i];
         i += 1;
-        let set = seers_by(offered, &offer_links, passing, &pass_links, always, number);
+        let set = regions_seeing_by(offered, &offer_links, passing, &pass_links, always, number);
         if has(set, region) {
             out[n] = number;
             n += 1;
@@ -105,7 +105,7 @@ fn keep_few(graph: Graph, kind: Kind, region: u32, candidates: &[u32], out: &mut
     while i < candidates.len() {
         let number = candidates[i];
         i += 1;
-        let set = seers(graph, Item { kind, number });
+        let set = regions_seeing(graph, Item { kind, number });
         if has(set, region) {
             out[n] = number;
             n += 1;
@@ -201,7 +201,7 @@ fn event(graph: Graph, kind: Kind, listeners: &[u32], number: u32, out: &mut [u3
         return Kept::Refused(NO_PLACE);
     }
     let kind = kind_number(kind);
-    let set = seers(graph, Item { kind, number });
+    let set = regions_seeing(graph, Item { kind, number });
     let written = keep_standing(&bundles[..count], &links, set, listeners, out);
     Kept::Wrote(written)
 }

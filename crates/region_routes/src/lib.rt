@@ -12,7 +12,7 @@ pub use hooks::resolve;
 pub use hooks::service_event;
 pub use hooks::service_find;
 pub use routes::route;
-pub use search::seers;
+pub use search::regions_seeing;
 
 // The kinds of items.
 pub enum Kind {

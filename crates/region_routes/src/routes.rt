@@ -19,7 +19,7 @@ use region_graph::refusals::NOT_INSTALLED;
 use region_graph::region_set::difference;
 use region_graph::region_set::has;
 use region_graph::region_set::lowest;
-use region_graph::region_set::one;
+use region_graph::region_set::singleton;
 use region_graph::size::REGIONS;
 
 // The smallest region of a set to which a connection from a region leads.
@@ -34,7 +34,7 @@ fn next_to(pred: &[u64], set: u64, region: u32) -> u32
         if has(pred[at], region) {
             return n;
         }
-        left = difference(left, one(n));
+        left = difference(left, singleton(n));
     }
     0
 }

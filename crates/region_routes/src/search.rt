@@ -8,9 +8,9 @@ ghost use Rattle.region_graph.specs.Record.{Valid, meaning};
 ghost use Rattle.region_graph.specs.Sets.{«set-of»};
 ghost use Rattle.region_routes.specs.Chosen.{sees};
 ghost use Rattle.region_routes.specs.Hooks.{item};
-ghost use Rattle.region_routes.specs.Tables.{Tables, every, «leads-in», «led-by»};
+ghost use Rattle.region_routes.specs.Tables.{Tables, everything-number, «leads-in», «led-by»};
 ghost use Rattle.region_routes.specs.Chains.{Chained};
-ghost use Rattle.region_routes.specs.Search.{RegionSets, SetOfRegions, Layer, Searched, Reached, Found};
+ghost use Rattle.region_routes.specs.Search.{RegionSets, SetOfRegions, Layer, Searched, Reached, InLayer};
 use crate::tables::holders;
 use crate::tables::predecessors;
 use crate::tables::wide;
@@ -19,7 +19,7 @@ use region_graph::Item;
 use region_graph::region_set::difference;
 use region_graph::region_set::has;
 use region_graph::region_set::lowest;
-use region_graph::region_set::one;
+use region_graph::region_set::singleton;
 use region_graph::size::REGIONS;
 
 // The layers sets[0] to sets[deep], and all regions in them.
@@ -38,7 +38,7 @@ fn layer(pred: &[u64], prev: u64, reached: u64) -> u64
     let mut left = prev;
     while left != 0 {
         let n = lowest(left);
-        left = difference(left, one(n));
+        left = difference(left, singleton(n));
         let at = n as usize;
         next = next | pred[at];
     }
@@ -74,7 +74,7 @@ pub fn search(pred: &[u64], holders: u64) -> Layers
 // The layer of a region that was reached: its distance to a holder.
 pub fn distance(found: Layers, region: u32) -> usize
     requires { ⌜ Reached (found .sets) (found .deep) region ⌝ }
-    ensures { λ r. ⌜ Found (found .sets) (found .deep) region r ⌝ }
+    ensures { λ r. ⌜ InLayer (found .sets) (found .deep) region r ⌝ }
 {
     let mut d: usize = 0;
     while d < REGIONS {
@@ -105,7 +105,7 @@ pub fn search_for(graph: Graph, item: Item) -> ItemSearch
 }
 
 // The regions that see an item.
-pub fn seers(graph: Graph, item: Item) -> u64
+pub fn regions_seeing(graph: Graph, item: Item) -> u64
     requires { ⌜ Valid graph ⌝ }
     ensures { λ r. ⌜ r ≡ set-of (sees (meaning graph) item) ⌝ }
 {
@@ -115,7 +115,7 @@ pub fn seers(graph: Graph, item: Item) -> u64
 }
 
 // The regions that see an item, by the chained tables of its kind and the predecessors that the entries for all numbers give.
-pub fn seers_by(
+pub fn regions_seeing_by(
     offered: &[u64],
     offer_links: &[u16],
     passing: &[u64],
@@ -125,7 +125,7 @@ pub fn seers_by(
 ) -> u64
     requires { ⌜ Chained (now offered) (now «offer_links») ⌝ }
     requires { ⌜ Chained (now passing) (now «pass_links») ⌝ }
-    requires { ⌜ always ≡ led-by (leads-in (now passing) every) ⌝ }
+    requires { ⌜ always ≡ led-by (leads-in (now passing) everything-number) ⌝ }
     ensures { λ r. ⌜ ((m : Model) (kind : ℕ) → Tables m kind (now (offered .entry)) (now (passing .entry)) → r ≡ set-of (sees m (item kind number))) ⌝ }
 {
     let sought = wide(number);

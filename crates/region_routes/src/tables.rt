@@ -17,7 +17,7 @@ use region_graph::Place;
 use region_graph::Provided;
 use region_graph::StoredBundle;
 use region_graph::StoredConnection;
-use region_graph::region_set::one;
+use region_graph::region_set::singleton;
 use region_graph::size::EVERYTHING;
 use region_graph::size::MOST_CONNECTIONS;
 use region_graph::size::MOST_LISTED;
@@ -27,7 +27,7 @@ use region_graph::size::REGIONS;
 const WIDTH: u64 = 65536;
 
 // The number of an entry that stands for all numbers: no item has it.
-pub const EVERY_NUMBER: u64 = 4294967296;
+pub const EVERYTHING_NUMBER: u64 = 4294967296;
 
 // What the connections pass at most; the bundles bring no more.
 pub const MOST_ENTRIES: usize = MOST_CONNECTIONS * MOST_LISTED;
@@ -39,7 +39,7 @@ const CHAINS: usize = 256;
 const LINKS: usize = CHAINS + MOST_ENTRIES;
 
 pub fn wide(number: u32) -> u64
-    ensures { λ r. ⌜ (r ≡ number) × (r < Tables.every) ⌝ }
+    ensures { λ r. ⌜ (r ≡ number) × (r < Tables.everything-number) ⌝ }
 {
     number as u64
 }
@@ -52,8 +52,8 @@ fn place(number: u16) -> usize
 
 // Puts one entry at a place, and gives the next place.
 fn append_one(out: &mut [u64], at: usize, number: u64, place: u32) -> usize
-    requires { ⌜ (at < length (now out)) × (number ≤ Tables.every) ⌝ }
-    ensures { λ r. ⌜ Tables.Appended (now (out .entry)) at (Tables.entry number place ∷ []) (now (out .exit)) r ⌝ }
+    requires { ⌜ (at < length (now out)) × (number ≤ Tables.everything-number) ⌝ }
+    ensures { λ r. ⌜ Tables.Appended (now (out .entry)) at (Tables.packed number place ∷ []) (now (out .exit)) r ⌝ }
 {
     out[at] = number * WIDTH + wide(place);
     at + 1
@@ -62,8 +62,8 @@ fn append_one(out: &mut [u64], at: usize, number: u64, place: u32) -> usize
 // Puts an entry for each number of a list.
 fn append(out: &mut [u64], at: usize, list: Numbers, place: u32) -> usize
     requires { ⌜ NumbersStored list ⌝ }
-    requires { ⌜ at + length (map (λ n. Tables.entry n place) (numbers-of list)) ≤ length (now out) ⌝ }
-    ensures { λ r. ⌜ Tables.Appended (now (out .entry)) at (map (λ n. Tables.entry n place) (numbers-of list)) (now (out .exit)) r ⌝ }
+    requires { ⌜ at + length (map (λ n. Tables.packed n place) (numbers-of list)) ≤ length (now out) ⌝ }
+    ensures { λ r. ⌜ Tables.Appended (now (out .entry)) at (map (λ n. Tables.packed n place) (numbers-of list)) (now (out .exit)) r ⌝ }
 {
     let count = list.count;
     let mut n = at;
@@ -78,8 +78,8 @@ fn append(out: &mut [u64], at: usize, list: Numbers, place: u32) -> usize
 
 fn append_provided(out: &mut [u64], at: usize, list: Provided, place: u32) -> usize
     requires { ⌜ ProvidedStored list ⌝ }
-    requires { ⌜ at + length (map (λ n. Tables.entry n place) (provided-of list)) ≤ length (now out) ⌝ }
-    ensures { λ r. ⌜ Tables.Appended (now (out .entry)) at (map (λ n. Tables.entry n place) (provided-of list)) (now (out .exit)) r ⌝ }
+    requires { ⌜ at + length (map (λ n. Tables.packed n place) (provided-of list)) ≤ length (now out) ⌝ }
+    ensures { λ r. ⌜ Tables.Appended (now (out .entry)) at (map (λ n. Tables.packed n place) (provided-of list)) (now (out .exit)) r ⌝ }
 {
     let count = list.count;
     let mut n = at;
@@ -114,11 +114,11 @@ fn append_offer(out: &mut [u64], at: usize, b: StoredBundle, kind: Kind) -> usiz
 // Puts what a part of a filter passes.
 fn append_part(out: &mut [u64], at: usize, part: Numbers, ends: u32) -> usize
     requires { ⌜ PartStored part ⌝ }
-    requires { ⌜ at + length (map (λ n. Tables.entry n ends) (Tables.passed (part-in part))) ≤ length (now out) ⌝ }
-    ensures { λ r. ⌜ Tables.Appended (now (out .entry)) at (map (λ n. Tables.entry n ends) (Tables.passed (part-in part))) (now (out .exit)) r ⌝ }
+    requires { ⌜ at + length (map (λ n. Tables.packed n ends) (Tables.passed (part-in part))) ≤ length (now out) ⌝ }
+    ensures { λ r. ⌜ Tables.Appended (now (out .entry)) at (map (λ n. Tables.packed n ends) (Tables.passed (part-in part))) (now (out .exit)) r ⌝ }
 {
     if part.count == EVERYTHING {
-        return append_one(out, at, EVERY_NUMBER, ends);
+        return append_one(out, at, EVERYTHING_NUMBER, ends);
     }
     append(out, at, part, ends)
 }
@@ -239,7 +239,7 @@ pub fn holders(table: &[u64], links: &[u16], number: u64) -> u64
         let e = table[i];
         i = next_of(links, i);
         if e / WIDTH == number {
-            set = set | one((e % WIDTH) as u32);
+            set = set | singleton((e % WIDTH) as u32);
         }
     }
     set
@@ -264,7 +264,7 @@ pub fn predecessors(
             let ends = (e % WIDTH) as usize;
             let source = ends / REGIONS;
             let target = ends % REGIONS;
-            sets[target] = sets[target] | one(source as u32);
+            sets[target] = sets[target] | singleton(source as u32);
         }
     }
     sets

@@ -102,11 +102,11 @@ fn network(holder: u32, connections: &[u8]) -> Graph
 fn bundles_g() -> Graph
     ensures { λ r. ⌜ Valid r ⌝ }
 {
-    let one = [1u32];
+    let singleton = [1u32];
     let three = [1u32, 2, 3];
     let g = regions(0, 3);
     let first = bundle(g, 0, 10);
-    let second = provider(first, 1, 20, &one);
+    let second = provider(first, 1, 20, &singleton);
     provider(second, 2, 30, &three)
 }
 

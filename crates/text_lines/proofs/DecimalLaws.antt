@@ -11,8 +11,8 @@ use lib.Dec.{ltb}
 use lib.ListN.{length, set, length-append}
 use Rattle.region_graph.specs.Lists.{pick}
 use Rattle.region_graph.proofs.Lists.{pick-yes, pick-no}
-use Rattle.text_lines.specs.Written.{Wrote}
-use Rattle.text_lines.specs.Decimal.{digit-count, last-digits, most-digits, decimal, field}
+use Rattle.text_lines.specs.Written.{WrittenAt}
+use Rattle.text_lines.specs.Decimal.{digit-count, last-digits, most-digits, decimal, decimal-field}
 use Rattle.text_lines.proofs.Writes.{wrote-is, wrote-before}
 
 last-length : (w n : ℕ) → length (last-digits w n) ≡ w
@@ -33,7 +33,7 @@ decimal-is n e = ap (λ (k : ℕ). last-digits k n) e
 pub decimal-size : {w : ℕ} (n : ℕ) → w ≡ digit-count most-digits n → length (decimal n) ≡ w
 decimal-size n e = decimal-length n ∙ sym e
 
-pub field-size : {w : ℕ} (n end : ℕ) → w ≡ digit-count most-digits n → length (field n end) ≡ w + 1
+pub field-size : {w : ℕ} (n end : ℕ) → w ≡ digit-count most-digits n → length (decimal-field n end) ≡ w + 1
 field-size n end e = omega (arith, length-append (decimal n) (end ∷ []), decimal-size n e)
 
 -- one digit, and one digit more
@@ -105,7 +105,7 @@ digit-next n k = div-div-eq-div-mul n (10 ^ k) 10 ∙ ap (λ (p : ℕ). n / p) (
 
 -- the next higher digit of a number in front of the lower ones
 pub wrote-digit : (n k : ℕ) {old new : List ℕ} {from at next m rest : ℕ} → from ≡ suc at → m ≡ suc k → rest ≡ n / 10 ^ k
-    → Wrote old new from (last-digits k n) next → Wrote old (set new at (rest % 10 + 48)) at (last-digits m n) next
+    → WrittenAt old new from (last-digits k n) next → WrittenAt old (set new at (rest % 10 + 48)) at (last-digits m n) next
 wrote-digit n k {rest = rest} e f g w =
     wrote-is (ap (λ (q : ℕ). (q % 10 + 48) ∷ last-digits k n) g ∙ ap (λ (j : ℕ). last-digits j n) (sym f)) (wrote-before (rest % 10 + 48) e w)
 

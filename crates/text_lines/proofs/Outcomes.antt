@@ -10,7 +10,7 @@ use lib.Dec.{leb}
 use lib.ListN.{length, take, drop}
 use Rattle.region_graph.proofs.Lists.{pick-yes, pick-no}
 use Rattle.text_lines.specs.Outcome.{Put, put, put-outcome}
-use Rattle.text_lines.specs.Written.{Wrote}
+use Rattle.text_lines.specs.Written.{WrittenAt}
 use Rattle.text_lines.proofs.Writes.{wrote-then, room-first, room-rest}
 
 -- room after a place that is in the buffer
@@ -42,7 +42,7 @@ put-none entry at xs {room = room} e f g =
 
 module _ {entry exit : List ℕ} {at next : ℕ} {xs : List ℕ} where
   -- where there is room, a put is a write
-  pub put-wrote : put next exit ≡ put-outcome entry at xs → at + length xs ≤ length entry → Wrote entry exit at xs next
+  pub put-wrote : put next exit ≡ put-outcome entry at xs → at + length xs ≤ length entry → WrittenAt entry exit at xs next
   put-wrote e h =
       let f : put next exit ≡ whole entry at xs = e ∙ put-whole entry at xs h in
       let g : next ≡ at + length xs = ap (λ (p : Put). p .next) f in
@@ -53,7 +53,7 @@ module _ {entry exit : List ℕ} {at next : ℕ} {xs : List ℕ} where
       }
 
   -- and a write is a put
-  pub wrote-put : Wrote entry exit at xs next → put next exit ≡ put-outcome entry at xs
+  pub wrote-put : WrittenAt entry exit at xs next → put next exit ≡ put-outcome entry at xs
   wrote-put w =
       let f : exit ≡ take at entry ++ (xs ++ drop (at + length xs) entry) =
       w .shape ∙ ap (λ (n : ℕ). take at entry ++ (xs ++ drop n entry)) (w .ends) in
@@ -62,7 +62,7 @@ module _ {entry exit : List ℕ} {at next : ℕ} {xs : List ℕ} where
 
 -- a put in front of a write, where there is room for both
 pub puts : {entry mid exit : List ℕ} {at to next : ℕ} (xs rest : List ℕ) → put to mid ≡ put-outcome entry at xs
-    → (to + length rest ≤ length mid → Wrote mid exit to rest next) → at + length (xs ++ rest) ≤ length entry → Wrote entry exit at (xs ++ rest) next
+    → (to + length rest ≤ length mid → WrittenAt mid exit to rest next) → at + length (xs ++ rest) ≤ length entry → WrittenAt entry exit at (xs ++ rest) next
 puts {entry} {at = at} xs rest e k h =
     let w = put-wrote e (room-first xs rest at (length entry) h) in
     wrote-then w (k (room-rest rest w h))

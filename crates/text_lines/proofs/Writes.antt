@@ -1,4 +1,4 @@
--- Laws of `Wrote`: writes one after the other are one write.
+-- Laws of `WrittenAt`: writes one after the other are one write.
 use mathlib.Core.Path.{_≡_, refl, sym, ap, _∙_, subst}
 use mathlib.Core.List.{List, [], _∷_, _++_, append-assoc}
 use Prim.Native.Nat.{ℕ, suc, _+_, _≤_, _<_}
@@ -7,28 +7,28 @@ use native.Mathlib.Nat.{add-zero}
 use native.Mathlib.Omega.{arith}
 use lib.ListN.{length, getD, take, drop, set, length-append, length-drop, take-append-drop}
 use lib.Seq.{set-split, take-at, drop-at, take-append-le, take-suc, take-take, drop-append-add, drop-drop, length-take-le}
-use Rattle.text_lines.specs.Written.{Wrote}
+use Rattle.text_lines.specs.Written.{WrittenAt}
 
 -- no bytes are written at any place
-pub wrote-none : (old : List ℕ) (at : ℕ) → at ≤ length old → Wrote old old at [] at
+pub wrote-none : (old : List ℕ) (at : ℕ) → at ≤ length old → WrittenAt old old at [] at
 wrote-none old at h = record { shape = sym (take-append-drop at old); ends = sym (add-zero at); room = h }
 
 -- one byte
-pub wrote-byte : (old : List ℕ) (at b : ℕ) → at < length old → Wrote old (set old at b) at (b ∷ []) (at + 1)
+pub wrote-byte : (old : List ℕ) (at b : ℕ) → at < length old → WrittenAt old (set old at b) at (b ∷ []) (at + 1)
 wrote-byte old at b h = record { shape = rw add-one (set-split old at b h); ends = refl; room = omega arith }
 
 module _ {old new : List ℕ} {at next : ℕ} {xs : List ℕ} where
   -- what stands before the end of a write
-  wrote-front : Wrote old new at xs next → length (take at old ++ xs) ≡ next
+  wrote-front : WrittenAt old new at xs next → length (take at old ++ xs) ≡ next
   wrote-front w = rw (length-append, length-take-le at old (omega (arith, w .ends, w .room))) (sym (w .ends))
 
   -- a write keeps the length
-  pub wrote-length : Wrote old new at xs next → length new ≡ length old
+  pub wrote-length : WrittenAt old new at xs next → length new ≡ length old
   wrote-length w =
       rw (w .shape, ← append-assoc (take at old) xs (drop next old), length-append, wrote-front w, length-drop) (omega (arith, w .room))
 
   -- a write and one at its end
-  pub wrote-then : {last : List ℕ} {end : ℕ} {ys : List ℕ} → Wrote old new at xs next → Wrote new last next ys end → Wrote old last at (xs ++ ys) end
+  pub wrote-then : {last : List ℕ} {end : ℕ} {ys : List ℕ} → WrittenAt old new at xs next → WrittenAt new last next ys end → WrittenAt old last at (xs ++ ys) end
   wrote-then {last} {end} {ys} v w =
       record {
         shape = w .shape ∙ ap (λ (l : List ℕ). l ++ (ys ++ drop end new)) front ∙ ap (λ (l : List ℕ). (take at old ++ xs) ++ (ys ++ l)) back ∙ simp append-assoc;
@@ -51,21 +51,21 @@ module _ {old new : List ℕ} {at next : ℕ} {xs : List ℕ} where
           ∙ drop-drop (length ys) next old ∙ ap (λ (n : ℕ). drop n old) (sym (w .ends))
 
 -- nothing more is written yet
-pub wrote-start : {old new : List ℕ} {at next : ℕ} {xs : List ℕ} → Wrote old new at xs next → Wrote new new next [] next
+pub wrote-start : {old new : List ℕ} {at next : ℕ} {xs : List ℕ} → WrittenAt old new at xs next → WrittenAt new new next [] next
 wrote-start {new = new} {next = next} w = wrote-none new next (omega (arith, w .room, wrote-length w))
 
 -- other words for what was written
-pub wrote-is : {old new : List ℕ} {at next : ℕ} {xs ys : List ℕ} → xs ≡ ys → Wrote old new at xs next → Wrote old new at ys next
-wrote-is {old} {new} {at} {next} e w = subst (λ (l : List ℕ). Wrote old new at l next) e w
+pub wrote-is : {old new : List ℕ} {at next : ℕ} {xs ys : List ℕ} → xs ≡ ys → WrittenAt old new at xs next → WrittenAt old new at ys next
+wrote-is {old} {new} {at} {next} e w = subst (λ (l : List ℕ). WrittenAt old new at l next) e w
 
 -- where two pieces of what has room are written, the next piece has room
-pub wrote-room : {old mid new front xs : List ℕ} {at from to : ℕ} (n k : ℕ) → Wrote old mid at front from → Wrote mid new from xs to → at + n ≤ length old
+pub wrote-room : {old mid new front xs : List ℕ} {at from to : ℕ} (n k : ℕ) → WrittenAt old mid at front from → WrittenAt mid new from xs to → at + n ≤ length old
     → length front + length xs + k ≤ n → to + k ≤ length new
 wrote-room n k v w h l = omega (arith, v .ends, w .ends, wrote-length v, wrote-length w)
 
 -- a byte put in front of what was written joins it
-pub wrote-before : {old new : List ℕ} {from at next : ℕ} {xs : List ℕ} (b : ℕ) → from ≡ suc at → Wrote old new from xs next
-    → Wrote old (set new at b) at (b ∷ xs) next
+pub wrote-before : {old new : List ℕ} {from at next : ℕ} {xs : List ℕ} (b : ℕ) → from ≡ suc at → WrittenAt old new from xs next
+    → WrittenAt old (set new at b) at (b ∷ xs) next
 wrote-before {old} {new} {from} {at} {next} {xs} b e v =
     record {
       shape = set-split new at b (omega (arith, wrote-length w, w .ends, w .room)) ∙ ap (λ (l : List ℕ). l ++ (b ∷ drop (suc at) new)) front ∙ ap (λ (l : List ℕ). take at old ++ (b ∷ l)) back;
@@ -73,8 +73,8 @@ wrote-before {old} {new} {from} {at} {next} {xs} b e v =
       room = w .room;
     }
   where
-    w : Wrote old new (suc at) xs next
-    w = subst (λ (n : ℕ). Wrote old new n xs next) e v
+    w : WrittenAt old new (suc at) xs next
+    w = subst (λ (n : ℕ). WrittenAt old new n xs next) e v
 
     long : length (take (suc at) old) ≡ suc at
     long = length-take-le (suc at) old (omega (arith, w .ends, w .room))
@@ -87,18 +87,18 @@ wrote-before {old} {new} {from} {at} {next} {xs} b e v =
 
 -- bytes one after the other: one byte more
 pub wrote-next : (xs : List ℕ) (i : ℕ) {old new : List ℕ} {at : ℕ} → i < length xs → at + length xs ≤ length old
-    → Wrote old new at (take i xs) (at + i) → Wrote old (set new (at + i) (getD xs i 0)) at (take (i + 1) xs) (at + (i + 1))
+    → WrittenAt old new at (take i xs) (at + i) → WrittenAt old (set new (at + i) (getD xs i 0)) at (take (i + 1) xs) (at + (i + 1))
 wrote-next xs i {old} {new} {at} h r w =
     let b = getD xs i 0 in
     let v = wrote-then w (wrote-byte new (at + i) b (omega (arith, wrote-length w))) in
     let e : at + i + 1 ≡ at + (i + 1) = omega arith in
     let f : take i xs ++ (b ∷ []) ≡ take (i + 1) xs = sym (take-suc xs i 0 h) ∙ ap (λ (k : ℕ). take k xs) (sym (add-one i)) in
-    subst (λ (k : ℕ). Wrote old (set new (at + i) b) at (take (i + 1) xs) k) e (wrote-is f v)
+    subst (λ (k : ℕ). WrittenAt old (set new (at + i) b) at (take (i + 1) xs) k) e (wrote-is f v)
 
 -- where there is room for two pieces, there is for the first, and once it is written for the second
 pub room-first : (xs ys : List ℕ) (at n : ℕ) → at + length (xs ++ ys) ≤ n → at + length xs ≤ n
 room-first xs ys at n h = omega (arith, length-append xs ys)
 
-pub room-rest : {old new xs : List ℕ} {at to : ℕ} (ys : List ℕ) → Wrote old new at xs to → at + length (xs ++ ys) ≤ length old
+pub room-rest : {old new xs : List ℕ} {at to : ℕ} (ys : List ℕ) → WrittenAt old new at xs to → at + length (xs ++ ys) ≤ length old
     → to + length ys ≤ length new
 room-rest {xs = xs} ys w h = omega (arith, length-append xs ys, w .ends, wrote-length w)

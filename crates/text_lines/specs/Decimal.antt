@@ -34,5 +34,5 @@ abbrev pub newline : ℕ
 newline = 10
 
 -- a number, and the byte after it
-abbrev pub field : ℕ → ℕ → List ℕ
-field n end = decimal n ++ (end ∷ [])
+abbrev pub decimal-field : ℕ → ℕ → List ℕ
+decimal-field n end = decimal n ++ (end ∷ [])

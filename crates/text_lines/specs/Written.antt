@@ -5,7 +5,7 @@ use Prim.Native.Nat.{ℕ, _+_, _≤_}
 use lib.ListN.{length, take, drop}
 
 -- new is old with the bytes xs from `at` to `next`
-pub record Wrote (old new : List ℕ) (at : ℕ) (xs : List ℕ) (next : ℕ) : Type 0 where
+pub record WrittenAt (old new : List ℕ) (at : ℕ) (xs : List ℕ) (next : ℕ) : Type 0 where
   pub shape : new ≡ take at old ++ (xs ++ drop next old)
   pub ends : next ≡ at + length xs
   pub room : next ≤ length old

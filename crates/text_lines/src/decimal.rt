@@ -2,9 +2,9 @@
 ghost use mathlib.Core.Path.{_≡_};
 ghost use Prim.Native.Nat.{_+_, _≤_};
 ghost use lib.ListN.{length};
-ghost use Rattle.text_lines.specs.Decimal.{«digit-count», «most-digits», «last-digits», decimal, field};
+ghost use Rattle.text_lines.specs.Decimal.{«digit-count», «most-digits», «last-digits», decimal, decimal-field};
 ghost use Rattle.text_lines.specs.Outcome.{put, «put-outcome»};
-ghost use Rattle.text_lines.specs.Written.{Wrote};
+ghost use Rattle.text_lines.specs.Written.{WrittenAt};
 use crate::bytes::has_room;
 
 // How many digits a number has.
@@ -23,7 +23,7 @@ fn digits(number: u32) -> usize
 // Writes the last digits of a number, the last one first.
 fn put_digits(buffer: &mut [u8], at: usize, width: usize, number: u32)
     requires { ⌜ at + width ≤ length (now buffer) ⌝ }
-    ensures { λ r. ⌜ Wrote (now (buffer .entry)) (now (buffer .exit)) at (last-digits width number) (at + width) ⌝ }
+    ensures { λ r. ⌜ WrittenAt (now (buffer .entry)) (now (buffer .exit)) at (last-digits width number) (at + width) ⌝ }
 {
     let mut left = width;
     let mut rest = number;
@@ -48,7 +48,7 @@ pub fn put_decimal(buffer: &mut [u8], at: usize, number: u32) -> usize
 
 // Writes a number and the byte after it; hands back the place after that byte.
 pub fn put_field(buffer: &mut [u8], at: usize, number: u32, end: u8) -> usize
-    ensures { λ r. ⌜ put r (now (buffer .exit)) ≡ put-outcome (now (buffer .entry)) at (field number end) ⌝ }
+    ensures { λ r. ⌜ put r (now (buffer .exit)) ≡ put-outcome (now (buffer .entry)) at (decimal-field number end) ⌝ }
 {
     let width = digits(number);
     if !has_room(buffer.len(), at, width + 1) {

@@ -1,13 +1,7 @@
 use borrow.Author.Needs.{needs}
-use Rattle.region_archive.proofs.Answers.{count-over, count-within}
+use Rattle.region_archive.proofs.CountedReads.{count-over, count-within}
 use Rattle.region_archive.proofs.numbers.count_at.Statement.{statement}
 use Rattle.region_archive.proofs.numbers.count_at.Tie as tie
-
-number-at-requires : tie.Need-number-at-requires
-number-at-requires c κs = search needs
-
-cast-if1 : tie.Need-cast-if1
-cast-if1 c = search needs
 
 returns : tie.Need-returns
 returns c =
@@ -22,4 +16,4 @@ returns-2 c =
     count-within (s .args .most) (s .pre .1) (s .args .bytes .now) (s .args .at) (r .result .number) (r .result .next) (r .result .ok) (r .ensures) (c .if1 .left)
 
 pub count-at-spec : {M : Type 1} → statement M
-count-at-spec = tie.close (tie.spec number-at-requires cast-if1 returns returns-2)
+count-at-spec = tie.close (tie.spec (λ c κs. search needs) (λ c. search needs) returns returns-2)

@@ -3,7 +3,7 @@ use Prim.Native.Nat.{ℕ, suc, _+_, _-_, _/_, _^_, _≤_}
 use native.Mathlib.Nat.{div-one}
 use native.Mathlib.Omega.{arith}
 use borrow.Author.Needs.{needs}
-use Rattle.text_lines.specs.Written.{Wrote}
+use Rattle.text_lines.specs.Written.{WrittenAt}
 use Rattle.text_lines.proofs.Writes.{wrote-none, wrote-length}
 use Rattle.region_archive.specs.Bytes.{big}
 use Rattle.region_archive.proofs.Pieces.{div-next}
@@ -13,7 +13,7 @@ use Rattle.region_archive.proofs.numbers.put_number.Tie as tie
 
 abbrev Inv-loop : tie.InvT-loop
 Inv-loop buffer₀ at width number left₀ rest₀ buffer left rest =
-    (left ≤ width) × (rest ≡ number / 256 ^ (width - left)) × Wrote buffer₀ buffer (at + left) (big (width - left) number) (at + width)
+    (left ≤ width) × (rest ≡ number / 256 ^ (width - left)) × WrittenAt buffer₀ buffer (at + left) (big (width - left) number) (at + width)
 
 abbrev μ-loop : tie.MeasureT-loop
 μ-loop buffer₀ at width number left₀ rest₀ buffer left rest = left
@@ -23,20 +23,8 @@ loop-holds c =
     let e : c .args .width - c .args .width ≡ 0 = omega arith in
     (omega arith, rw e (sym (div-one (c .args .number))), rw e (wrote-none (c .args .buffer .now) (c .args .at + c .args .width) (omega arith)))
 
-sub-left : tie.Need-sub-left Inv-loop μ-loop
-sub-left c = search needs
-
-cast-buffer : tie.Need-cast-buffer Inv-loop μ-loop
-cast-buffer c = search needs
-
-add-buffer : tie.Need-add-buffer Inv-loop μ-loop
-add-buffer c = search needs
-
 slice-write-buffer : tie.Need-slice-write-buffer Inv-loop μ-loop
 slice-write-buffer c = omega (arith, wrote-length (c .before .loop .inv .2))
-
-loop-less : tie.Need-loop-less Inv-loop μ-loop
-loop-less c = search needs
 
 loop-again : tie.Need-loop-again Inv-loop μ-loop
 loop-again c =
@@ -47,9 +35,6 @@ loop-again c =
       ap (λ (q : ℕ). q / 256) (l .inv .1) ∙ div-next (s .number) (s .width - l .left) ∙ ap (λ (k : ℕ). s .number / 256 ^ k) (sym e),
       wrote-higher (s .number) (s .width - l .left) (omega arith) e (l .inv .1) (l .inv .2),
     )
-
-add-result : tie.Need-add-result Inv-loop μ-loop
-add-result c = search needs
 
 same-length : tie.Need-same-length Inv-loop μ-loop
 same-length c = wrote-length (c .before .loop .inv .2)
@@ -68,12 +53,12 @@ put-number-spec =
     Inv-loop
     μ-loop
     loop-holds
-    sub-left
-    cast-buffer
-    add-buffer
+    (λ c. search needs)
+    (λ c. search needs)
+    (λ c. search needs)
     slice-write-buffer
-    loop-less
+    (λ c. search needs)
     loop-again
-    add-result
+    (λ c. search needs)
     same-length
     returns)

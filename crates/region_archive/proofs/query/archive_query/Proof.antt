@@ -5,8 +5,8 @@ use borrow.Author.Needs.{needs}
 use Rattle.region_graph.specs.Refusals.{not-refused}
 use Rattle.region_graph.specs.Lists.{pick}
 use Rattle.region_graph.specs.Record.{meaning}
-use Rattle.region_archive.specs.File.{FileMeaning, sets, read-number}
-use Rattle.region_archive.specs.Promise.{seen, hidden, query-answer}
+use Rattle.region_archive.specs.File.{FileMeaning, read-model, read-number}
+use Rattle.region_archive.specs.Promise.{seen-number, hidden-number, query-answer}
 use Rattle.region_archive.proofs.QueryLaws.{query-refused, query-outside, query-unknown, query-told}
 use Rattle.region_archive.proofs.query.archive_query.Statement.{statement}
 use Rattle.region_archive.proofs.query.archive_query.Tie as tie
@@ -15,7 +15,7 @@ use Rattle.region_archive.proofs.query.archive_query.Tie as tie
 accepted : (c : tie.Else1) (f : FileMeaning (c .before .before .before .before .args .bytes .now)) → not-refused ≡ read-number f
 accepted c f = sym (c .if1 .left) ∙ c .before .before .read .ensures .says f .number
 
-means : (c : tie.Else1) (f : FileMeaning (c .before .before .before .before .args .bytes .now)) → meaning (c .before .before .read .result .graph) ≡ sets f
+means : (c : tie.Else1) (f : FileMeaning (c .before .before .before .before .args .bytes .now)) → meaning (c .before .before .read .result .graph) ≡ read-model f
 means c f = c .before .before .read .ensures .says f .next
 
 returns : tie.Need-returns
@@ -39,19 +39,19 @@ returns-3 c =
     λ f. query-unknown f (s .location) (s .kind) (s .item) (accepted a f) (means a f) (sym (c .before .before .before .before .region-of .ensures))
     (c .before .before .place .given .1) (c .if2 .taken)
 
-seers-requires : tie.Need-seers-requires
-seers-requires c κs = c .before .before .before .before .before .before .before .before .read .ensures .valid
+regions-seeing-requires : tie.Need-regions-seeing-requires
+regions-seeing-requires c κs = c .before .before .before .before .before .before .before .before .read .ensures .valid
 
 -- the answer, by whether the region is in the set of those that see the item
 told : (c : tie.After-has) {t : Bool} → c .has .result ≡ t
     → (let s = c .before .before .before .before .before .before .before .before .before .before .before .before .args in
-    (f : FileMeaning (s .bytes .now)) → pick t seen hidden ≡ query-answer f (s .location) (s .kind) (s .item))
+    (f : FileMeaning (s .bytes .now)) → pick t seen-number hidden-number ≡ query-answer f (s .location) (s .kind) (s .item))
 told c e =
     let a = c .before .before .before .before .before .before .before .before in
     let s = a .before .before .before .before .args in
     λ f. query-told f (s .location) (s .kind) (s .item) (accepted a f) (means a f) (sym (c .before .before .before .before .before .before .region-of .ensures))
     (c .before .before .before .before .place .given .1) (c .before .before .if2 .left) (a .before .before .read .ensures .valid .good)
-    (c .before .seers .ensures) (c .has .ensures) e
+    (c .before .regions-seeing .ensures) (c .has .ensures) e
 
 returns-4 : tie.Need-returns-4
 returns-4 c = told (c .before) (c .if3 .taken)
@@ -70,7 +70,7 @@ archive-query-spec =
     (λ c. search needs)
     returns-2
     returns-3
-    seers-requires
+    regions-seeing-requires
     (λ c κs. search needs)
     returns-4
     returns-5)

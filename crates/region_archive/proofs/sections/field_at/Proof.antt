@@ -5,7 +5,7 @@ use borrow.Author.Needs.{needs}
 use lib.ListN.{length}
 use borrow.Rule.Slice.PartMut.{putMid, mid-len, same-len-mid}
 use Rattle.region_graph.specs.Sets.{members}
-use Rattle.region_archive.specs.Entries.{row-width}
+use Rattle.region_archive.specs.RecordFields.{row-width}
 use Rattle.region_archive.specs.Sections.{FieldRead}
 use Rattle.region_archive.proofs.RecordLaws.{wide, most-in-few}
 use Rattle.region_archive.proofs.FieldReads.{place-room, part-put}

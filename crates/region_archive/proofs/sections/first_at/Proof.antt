@@ -1,7 +1,7 @@
 use native.Mathlib.Omega.{arith}
 use borrow.Author.Needs.{needs}
 use Rattle.region_graph.specs.Sets.{members}
-use Rattle.region_archive.proofs.Answers.{number-stands, number-fails}
+use Rattle.region_archive.proofs.CountedReads.{number-stands, number-fails}
 use Rattle.region_archive.proofs.Sizes.{narrow-first}
 use Rattle.region_archive.proofs.FieldReads.{first-missing, first-read}
 use borrow.Author.Needs.{needs}

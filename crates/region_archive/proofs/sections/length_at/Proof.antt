@@ -1,6 +1,6 @@
 use native.Mathlib.Omega.{arith}
 use borrow.Author.Needs.{needs}
-use Rattle.region_archive.proofs.Answers.{number-stands, number-fails}
+use Rattle.region_archive.proofs.CountedReads.{number-stands, number-fails}
 use Rattle.region_archive.proofs.LengthReads.{no-length, short-length, length-read}
 use borrow.Author.Needs.{needs}
 use Rattle.region_archive.proofs.sections.length_at.Statement.{statement}

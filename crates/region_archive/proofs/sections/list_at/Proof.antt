@@ -6,7 +6,7 @@ use lib.ListN.{length, set, length-set}
 use Rattle.region_graph.specs.Model.{Word, Numbered}
 use Rattle.region_archive.specs.Bytes.{big}
 use Rattle.region_archive.proofs.Delimits.{big-same, no-next, low-next}
-use Rattle.region_archive.proofs.Answers.{Count, count-stands, no-count, number-stands, number-fails}
+use Rattle.region_archive.proofs.CountedReads.{Count, count-stands, no-count, number-stands, number-fails}
 use Rattle.region_archive.proofs.ListReads.{Numbering, numbering-start, numbering-more, list-end, list-stuck}
 use Rattle.region_archive.proofs.sections.list_at.Statement.{statement}
 use Rattle.region_archive.proofs.sections.list_at.Tie as tie

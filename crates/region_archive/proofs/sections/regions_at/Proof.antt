@@ -7,7 +7,7 @@ use borrow.Author.Tests.{not-true, not-false, ltb-true, ltb-false}
 use lib.Bits.{bitOr}
 use lib.ListN.{length, set, length-set}
 use Rattle.region_graph.specs.Size.{regions}
-use Rattle.region_archive.proofs.Answers.{count-stands, number-stands, number-fails}
+use Rattle.region_archive.proofs.CountedReads.{count-stands, number-stands, number-fails}
 use Rattle.region_archive.proofs.RegionReads.{Regions, regions-start, regions-missing, regions-end, regions-more, no-byte, low-region, high-region}
 use Rattle.region_archive.proofs.sections.regions_at.Statement.{statement}
 use Rattle.region_archive.proofs.sections.regions_at.Tie as tie
@@ -67,7 +67,7 @@ loop-again c =
         (
           length-set (l .list) (l .n) region ∙ l .inv .1 .1 .0,
           subst (λ (y : ℕ). Regions b (c .before .before .before .before .before .before .before .before .before .before .before .before .count-at .result .next) (set (l .list) (l .n) region) (bitOr (l .set) y) (r .result .next) (region + 1) (l .n + 1))
-              (sym (c .one .ensures)) (regions-more (l .inv .1 .1 .1) room (number-stands 1 (c .before .before .before .before .before .before .before .before .before .before .before .before .before .before .before .args .bytes .now) (c .before .before .before .before .before .before .before .before .loop .at) (c .before .before .before .before .before .before .number-at .result) (c .before .before .before .before .if2 .left) (c .before .before .before .before .before .before .number-at .ensures)) (c .before .before .before .if3 .left) inside),
+              (sym (c .singleton .ensures)) (regions-more (l .inv .1 .1 .1) room (number-stands 1 (c .before .before .before .before .before .before .before .before .before .before .before .before .before .before .before .args .bytes .now) (c .before .before .before .before .before .before .before .before .loop .at) (c .before .before .before .before .before .before .number-at .result) (c .before .before .before .before .if2 .left) (c .before .before .before .before .before .before .number-at .ensures)) (c .before .before .before .if3 .left) inside),
         ),
       ),
     )

@@ -1,6 +1,6 @@
 use borrow.Author.Needs.{needs}
 use Rattle.region_graph.specs.Sets.{members}
-use Rattle.region_archive.proofs.Answers.{number-stands, number-fails}
+use Rattle.region_archive.proofs.CountedReads.{number-stands, number-fails}
 use Rattle.region_archive.proofs.FieldReads.{second-missing, second-read}
 use borrow.Author.Needs.{needs}
 use Rattle.region_archive.proofs.sections.second_at.Statement.{statement}

@@ -11,10 +11,10 @@ use lib.Seq.{length-take-le}
 use Rattle.region_graph.specs.Sets.{members}
 use Rattle.region_graph.proofs.FlatLaws.{members-small}
 use Rattle.region_archive.specs.Bytes.{big}
-use Rattle.region_archive.specs.Rows.{Parsed, Answer}
-use Rattle.region_archive.specs.Entries.{bytes-to, GoodTo, FieldGood, field-bytes, field-count, row-width, most, key}
+use Rattle.region_archive.specs.Parsing.{Parsed, Answer}
+use Rattle.region_archive.specs.RecordFields.{bytes-to, GoodTo, FieldGood, field-bytes, field-count, row-width, most, key}
 use Rattle.region_archive.specs.Sections.{LengthStands}
-use Rattle.region_archive.proofs.Answers.{count-stands}
+use Rattle.region_archive.proofs.CountedReads.{count-stands}
 use Rattle.region_archive.proofs.RecordLaws.{Element, wide}
 use Rattle.region_archive.proofs.Sizes.{few-fields}
 use Rattle.region_archive.proofs.LengthReads.{length-stands, length-fails}
@@ -100,12 +100,6 @@ slice-aggregate-field-at c = sym (length-take-le (c .before .before .before .bef
 mul-field-at : tie.Need-mul-field-at Inv-fields μ-fields Inv-records μ-records
 mul-field-at c = omega (arith, room (c .before .before .before .before .before .before) .1)
 
-sub-field-at : tie.Need-sub-field-at Inv-fields μ-fields Inv-records μ-records
-sub-field-at c = omega arith
-
-part-field-at-start : tie.Need-part-field-at-start Inv-fields μ-fields Inv-records μ-records
-part-field-at-start c = omega arith
-
 part-field-at-end : tie.Need-part-field-at-end Inv-fields μ-fields Inv-records μ-records
 part-field-at-end c = omega (arith, room (c .before .before .before .before .before .before) .0, c .before .before .fields .inv .1 .1 .0)
 
@@ -164,7 +158,7 @@ slice-read-second : tie.Need-slice-read-second Inv-fields μ-fields Inv-records 
 slice-read-second c = omega (arith, room (c .before .before .before .before .before .before .before .before) .0, c .before .before .before .before .fields .inv .1 .1 .0, c .before .before .before .before .before .before .before .before .before .before .width .ensures, wide (c .before .before .before .before .before .before .before .before .before .before .before .before .before .before .before .before .before .before .before .args .section))
 
 -- all fields were read
-done : (c : tie.After-order Inv-fields μ-fields Inv-records μ-records)
+done : (c : tie.After-field-key Inv-fields μ-fields Inv-records μ-records)
     → (let a = c .before .before .before .before .before .before .before .before .before .before .before .before .before .before .before .before .before .before .before .before .args in let l = c .before .before .before .before .before .before .before .before .before .before .records in let v = c .before .before .before .before .before .fields in let r = c .before .before .before .before .before .before .before .before .length-at .result in
     FieldsRead (a .section) (members (a .regions)) (l .least) (field-count (a .section)) (take (r .stop) (a .bytes .now)) (r .next)
     (midOf (l .base) (l .base + c .before .before .before .before .before .before .before .before .before .before .before .width .result - l .base) (v .rows)) (v .to))
@@ -181,24 +175,24 @@ done c =
     e (v .inv .1 .1 .1)
 
 -- the rows reach to the end of this one
-reached : (c : tie.After-order Inv-fields μ-fields Inv-records μ-records) → c .before .before .before .before .before .before .before .before .before .before .records .base + c .before .before .before .before .before .before .before .before .before .before .before .width .result ≤ length (c .before .before .before .before .before .fields .rows)
+reached : (c : tie.After-field-key Inv-fields μ-fields Inv-records μ-records) → c .before .before .before .before .before .before .before .before .before .before .records .base + c .before .before .before .before .before .before .before .before .before .before .before .width .result ≤ length (c .before .before .before .before .before .fields .rows)
 reached c = omega (arith, room (c .before .before .before .before .before .before .before .before .before) .0, c .before .before .before .before .before .fields .inv .1 .1 .0)
 
-ends : (c : tie.After-order Inv-fields μ-fields Inv-records μ-records) → c .before .before .before .before .before .before .before .before .before .before .records .base + c .before .before .before .before .before .before .before .before .before .before .before .width .result ≡ c .before .before .before .before .before .before .before .before .before .before .records .base + row-width (c .before .before .before .before .before .before .before .before .before .before .before .before .before .before .before .before .before .before .before .before .args .section)
+ends : (c : tie.After-field-key Inv-fields μ-fields Inv-records μ-records) → c .before .before .before .before .before .before .before .before .before .before .records .base + c .before .before .before .before .before .before .before .before .before .before .before .width .result ≡ c .before .before .before .before .before .before .before .before .before .before .records .base + row-width (c .before .before .before .before .before .before .before .before .before .before .before .before .before .before .before .before .before .before .before .before .args .section)
 ends c = ap (λ (n : ℕ). c .before .before .before .before .before .before .before .before .before .before .records .base + n) (c .before .before .before .before .before .before .before .before .before .before .before .width .ensures)
 
 -- the element, and its order
-abbrev element : (c : tie.After-order Inv-fields μ-fields Inv-records μ-records) → Element (members (c .before .before .before .before .before .before .before .before .before .before .before .before .before .before .before .before .before .before .before .before .args .regions)) (c .before .before .before .before .before .before .before .before .before .before .records .least) (c .before .before .before .before .before .before .before .before .before .before .before .before .before .before .before .before .before .before .before .before .args .section) (done c .value)
+abbrev element : (c : tie.After-field-key Inv-fields μ-fields Inv-records μ-records) → Element (members (c .before .before .before .before .before .before .before .before .before .before .before .before .before .before .before .before .before .before .before .before .args .regions)) (c .before .before .before .before .before .before .before .before .before .before .records .least) (c .before .before .before .before .before .before .before .before .before .before .before .before .before .before .before .before .before .before .before .before .args .section) (done c .value)
 element c =
     let a = c .before .before .before .before .before .before .before .before .before .before .before .before .before .before .before .before .before .before .before .before .args in
     read-element (a .section) (members (a .regions)) (members-small (a .regions)) (a .bytes .now) (c .before .before .before .before .before .before .before .before .before .before .records .inv .1 .1 .1) (c .before .before .before .before .before .before .before .before .length-at .result) (stands (c .before .before .before .before .before .before))
     (c .before .before .before .before .before .fields .rows) (ends c) (reached c) (done c)
 
-ordered : (c : tie.After-order Inv-fields μ-fields Inv-records μ-records) → c .order .result ≡ key (c .before .before .before .before .before .before .before .before .before .before .before .before .before .before .before .before .before .before .before .before .args .section) (element c .elem)
+ordered : (c : tie.After-field-key Inv-fields μ-fields Inv-records μ-records) → c .field-key .result ≡ key (c .before .before .before .before .before .before .before .before .before .before .before .before .before .before .before .before .before .before .before .before .args .section) (element c .elem)
 ordered c =
     let a = c .before .before .before .before .before .before .before .before .before .before .before .before .before .before .before .before .before .before .before .before .args in
     order-is (a .section) (members (a .regions)) (members-small (a .regions)) (a .bytes .now) (c .before .before .before .before .before .before .before .before .before .before .records .inv .1 .1 .1) (c .before .before .before .before .before .before .before .before .length-at .result) (stands (c .before .before .before .before .before .before))
-    (c .before .before .before .before .before .fields .rows) (ends c) (reached c) (done c) refl refl (c .order .ensures) (wide (a .section))
+    (c .before .before .before .before .before .fields .rows) (ends c) (reached c) (done c) refl refl (c .field-key .ensures) (wide (a .section))
 
 add-least : tie.Need-add-least Inv-fields μ-fields Inv-records μ-records
 add-least c = let a = c .before .before .before .before .before .before .before .before .before .before .before .before .before .before .before .before .before .before .before .before .args in omega (arith, ordered c, key-small (a .section) (members (a .regions)) (members-small (a .regions)) (element c .elem) (element c .legal))
@@ -298,8 +292,8 @@ section-at-spec =
     fields-holds
     slice-aggregate-field-at
     mul-field-at
-    sub-field-at
-    part-field-at-start
+    (λ c. omega arith)
+    (λ c. omega arith)
     part-field-at-end
     field-at-requires
     add-field

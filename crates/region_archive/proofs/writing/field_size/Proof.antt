@@ -2,19 +2,13 @@ use borrow.Author.Needs.{needs}
 use mathlib.Core.Path.{sym, ap, _∙_}
 use native.Mathlib.Omega.{arith}
 use lib.ListN.{length}
-use Rattle.region_archive.specs.Entries.{PartFits, fields-in, first-width}
+use Rattle.region_archive.specs.RecordFields.{PartFits, fields-in, first-width}
 use Rattle.region_graph.proofs.Lists.{all-at}
 use Rattle.region_archive.proofs.Pieces.{big-length}
 use Rattle.region_archive.proofs.Records.{first-field, part-field}
 use Rattle.region_archive.proofs.Sizes.{few-fields, narrow-first}
 use Rattle.region_archive.proofs.writing.field_size.Statement.{statement}
 use Rattle.region_archive.proofs.writing.field_size.Tie as tie
-
-first-width-requires : tie.Need-first-width-requires
-first-width-requires c κs = search needs
-
-sub-part : tie.Need-sub-part
-sub-part c = search needs
 
 mul-part : tie.Need-mul-part
 mul-part c = omega (arith, few-fields (c .before .args .section), c .before .pre .1)
@@ -33,9 +27,6 @@ returns c =
     let e = ap length (first-field (s .args .section) (fields-in (s .args .t3)) (c .before .match .keys1)) ∙ big-length (first-width (s .args .section)) (s .args .t3 .first) in
     (c .first-width .ensures ∙ sym e, omega (arith, c .first-width .ensures, narrow-first (s .args .section)))
 
-returns-2 : tie.Need-returns-2
-returns-2 c = search needs
-
 returns-3 : tie.Need-returns-3
 returns-3 c =
     let s = c .before .before .before in
@@ -45,11 +36,11 @@ pub field-size-spec : {M : Type 1} → statement M
 field-size-spec =
     tie.close
     (tie.spec
-    first-width-requires
-    sub-part
+    (λ c κs. search needs)
+    (λ c. search needs)
     mul-part
     element-copy-out-part
     part-size-requires
     returns
-    returns-2
+    (λ c. search needs)
     returns-3)

@@ -4,24 +4,18 @@ use native.Mathlib.Omega.{arith}
 use borrow.Author.Needs.{needs}
 use lib.ListN.{length, length-append}
 use Rattle.region_archive.specs.Bounds.{part-bound}
-use Rattle.region_archive.specs.Entries.{bytes-to, field-bytes, fields-in}
+use Rattle.region_archive.specs.RecordFields.{bytes-to, field-bytes, fields-in}
 use Rattle.region_archive.proofs.Pieces.{bytes-next}
 use Rattle.region_archive.proofs.Sizes.{few-fields}
 use Rattle.region_archive.proofs.writing.fields_size.Statement.{statement}
 use Rattle.region_archive.proofs.writing.fields_size.Tie as tie
 
 abbrev Inv-loop : tie.InvT-loop
-Inv-loop section entry total size₀ field₀ size field =
-    (field ≤ total) × (size ≡ length (bytes-to (field-bytes section) field (fields-in entry))) × (size ≤ field * part-bound)
+Inv-loop section values total size₀ field₀ size field =
+    (field ≤ total) × (size ≡ length (bytes-to (field-bytes section) field (fields-in values))) × (size ≤ field * part-bound)
 
 abbrev μ-loop : tie.MeasureT-loop
-μ-loop section entry total size₀ field₀ size field = total - field
-
-fields-requires : tie.Need-fields-requires Inv-loop μ-loop
-fields-requires c κs = search needs
-
-loop-holds : tie.Need-loop-holds Inv-loop μ-loop
-loop-holds c = search needs
+μ-loop section values total size₀ field₀ size field = total - field
 
 field-size-requires : tie.Need-field-size-requires Inv-loop μ-loop
 field-size-requires c κs = (c .before .before .before .pre, omega (arith, c .before .before .fields .ensures))
@@ -29,18 +23,12 @@ field-size-requires c κs = (c .before .before .before .pre, omega (arith, c .be
 add-size : tie.Need-add-size Inv-loop μ-loop
 add-size c = omega (arith, few-fields (c .before .before .before .before .args .section), c .before .before .before .fields .ensures, c .field-size .ensures .1)
 
-add-field : tie.Need-add-field Inv-loop μ-loop
-add-field c = search needs
-
-loop-less : tie.Need-loop-less Inv-loop μ-loop
-loop-less c = search needs
-
 loop-again : tie.Need-loop-again Inv-loop μ-loop
 loop-again c =
     let s = c .before .before .before .before .args in
     let l = c .before .before .loop in
     let f = field-bytes (s .section) in
-    let x = fields-in (s .entry) in (
+    let x = fields-in (s .values) in (
       omega arith,
       omega (arith, c .field-size .ensures .0, ap length (bytes-next f (l .field) x) ∙ length-append (bytes-to f (l .field) x) (f (l .field) x)),
       omega (arith, c .field-size .ensures .1),
@@ -50,7 +38,7 @@ returns : tie.Need-returns Inv-loop μ-loop
 returns c =
     let s = c .before .before .before .args in
     let e : c .before .loop .field ≡ c .before .before .fields .result = omega arith in
-    (c .before .loop .inv .1 ∙ ap (λ (k : ℕ). length (bytes-to (field-bytes (s .section)) k (fields-in (s .entry)))) (e ∙ c .before .before .fields .ensures), omega (arith, c .before .before .fields .ensures, few-fields (s .section)))
+    (c .before .loop .inv .1 ∙ ap (λ (k : ℕ). length (bytes-to (field-bytes (s .section)) k (fields-in (s .values)))) (e ∙ c .before .before .fields .ensures), omega (arith, c .before .before .fields .ensures, few-fields (s .section)))
 
 pub fields-size-spec : {M : Type 1} → statement M
 fields-size-spec =
@@ -58,11 +46,11 @@ fields-size-spec =
     (tie.spec
     Inv-loop
     μ-loop
-    fields-requires
-    loop-holds
+    (λ c κs. search needs)
+    (λ c. search needs)
     field-size-requires
     add-size
-    add-field
-    loop-less
+    (λ c. search needs)
+    (λ c. search needs)
     loop-again
     returns)

@@ -7,34 +7,22 @@ use lib.ListN.{length}
 use Rattle.region_graph.proofs.Lists.{all-at}
 use Rattle.text_lines.proofs.Writes.{wrote-is, wrote-length}
 use Rattle.region_archive.specs.Bytes.{big}
-use Rattle.region_archive.specs.Entries.{PartFits, fields-in, first-width}
+use Rattle.region_archive.specs.RecordFields.{PartFits, fields-in, first-width}
 use Rattle.region_archive.proofs.Pieces.{big-length}
 use Rattle.region_archive.proofs.Records.{first-field, second-field, part-field}
 use Rattle.region_archive.proofs.Sizes.{few-fields}
 use Rattle.region_archive.proofs.writing.put_field.Statement.{statement}
 use Rattle.region_archive.proofs.writing.put_field.Tie as tie
 
-cast-first : tie.Need-cast-first
-cast-first c = search needs
-
-first-width-requires : tie.Need-first-width-requires
-first-width-requires c κs = search needs
-
 put-number-requires : tie.Need-put-number-requires
 put-number-requires c κs =
     let s = c .before .before .before .before in
     omega (arith, s .pre .1 .1, c .before .first-width .ensures, ap length (first-field (s .args .section) (fields-in (s .args .t5)) (c .before .before .match .keys1)) ∙ big-length (first-width (s .args .section)) (s .args .t5 .first))
 
-cast-second : tie.Need-cast-second
-cast-second c = search needs
-
 put-number-requires-2 : tie.Need-put-number-requires-2
 put-number-requires-2 c κs =
     let s = c .before .before .before in
     omega (arith, s .pre .1 .1, ap length (second-field (s .args .section) (fields-in (s .args .t5)) (c .before .match .keys2)))
-
-sub-part : tie.Need-sub-part
-sub-part c = search needs
 
 mul-part : tie.Need-mul-part
 mul-part c = omega (arith, few-fields (c .before .before .args .section), c .before .before .pre .1 .0)
@@ -80,12 +68,12 @@ pub put-field-spec : {M : Type 1} → statement M
 put-field-spec =
     tie.close
     (tie.spec
-    cast-first
-    first-width-requires
+    (λ c. search needs)
+    (λ c κs. search needs)
     put-number-requires
-    cast-second
+    (λ c. search needs)
     put-number-requires-2
-    sub-part
+    (λ c. search needs)
     mul-part
     element-copy-out-part
     put-part-requires

@@ -3,11 +3,12 @@ use Prim.Native.Nat.{ℕ, _-_, _≤_}
 use native.Mathlib.Omega.{arith}
 use borrow.Author.Needs.{needs}
 use lib.ListN.{length, take}
+use Rattle.region_graph.specs.Lists.{concat-map}
 use Rattle.region_graph.specs.Record.{numbers-of}
-use Rattle.text_lines.specs.Written.{Wrote}
+use Rattle.text_lines.specs.Written.{WrittenAt}
 use Rattle.text_lines.proofs.Writes.{wrote-start, wrote-then, wrote-length, wrote-room}
-use Rattle.region_archive.specs.Bytes.{big, each, counted}
-use Rattle.region_archive.proofs.Pieces.{each-next, each-within}
+use Rattle.region_archive.specs.Bytes.{big, counted}
+use Rattle.region_archive.proofs.Pieces.{concat-next, concat-within}
 use Rattle.region_archive.proofs.Sizes.{numbers-length}
 use Rattle.region_archive.proofs.Writes.{wrote-counted}
 use Rattle.region_archive.proofs.writing.put_list.Statement.{statement}
@@ -15,13 +16,10 @@ use Rattle.region_archive.proofs.writing.put_list.Tie as tie
 
 abbrev Inv-loop : tie.InvT-loop
 Inv-loop buffer₀ at list total to₀ i₀ buffer to i =
-    (i ≤ total) × Wrote buffer₀ buffer to₀ (each (big 4) (take i (list .items))) to
+    (i ≤ total) × WrittenAt buffer₀ buffer to₀ (concat-map (big 4) (take i (list .items))) to
 
 abbrev μ-loop : tie.MeasureT-loop
 μ-loop buffer₀ at list total to₀ i₀ buffer to i = total - i
-
-put-number-requires : tie.Need-put-number-requires Inv-loop μ-loop
-put-number-requires c κs = search needs
 
 loop-holds : tie.Need-loop-holds Inv-loop μ-loop
 loop-holds c = (omega arith, wrote-start (c .before .before .put-number .ensures))
@@ -32,9 +30,6 @@ mul-put-number c = omega (arith, c .before .before .before .before .before .befo
 element-copy-out-put-number : tie.Need-element-copy-out-put-number Inv-loop μ-loop
 element-copy-out-put-number c = omega (arith, c .before .before .before .before .before .before .before .before .pre .0 .count)
 
-cast-put-number : tie.Need-cast-put-number Inv-loop μ-loop
-cast-put-number c = search needs
-
 put-number-requires-2 : tie.Need-put-number-requires-2 Inv-loop μ-loop
 unfolding numbers-of
 put-number-requires-2 c κs =
@@ -42,19 +37,13 @@ put-number-requires-2 c κs =
     let l = c .before .before .before .loop in
     let n = s .args .t3 in
     wrote-room (length (counted (big 4) (numbers-of n))) 4 (c .before .before .before .before .before .before .put-number .ensures) (l .inv .1) (s .pre .1)
-    (omega (arith, each-within (big 4) (n .items) (l .i) (n .count) 0 (omega arith) (omega (arith, s .pre .0 .count, s .pre .0 .size))))
-
-add-i : tie.Need-add-i Inv-loop μ-loop
-add-i c = search needs
-
-loop-less : tie.Need-loop-less Inv-loop μ-loop
-loop-less c = search needs
+    (omega (arith, concat-within (big 4) (n .items) (l .i) (n .count) 0 (omega arith) (omega (arith, s .pre .0 .count, s .pre .0 .size))))
 
 loop-again : tie.Need-loop-again Inv-loop μ-loop
 loop-again c =
     let s = c .before .before .before .before .before .before .before .before .before .before .before .before in
     let l = c .before .before .before .before .before .before .loop in
-    (omega arith, rw (each-next (big 4) (s .args .t3 .items) (l .i) 0 (omega (arith, s .pre .0 .count, s .pre .0 .size))) (wrote-then (l .inv .1) (c .before .before .put-number2 .ensures)))
+    (omega arith, rw (concat-next (big 4) (s .args .t3 .items) (l .i) 0 (omega (arith, s .pre .0 .count, s .pre .0 .size))) (wrote-then (l .inv .1) (c .before .before .put-number2 .ensures)))
 
 same-length : tie.Need-same-length Inv-loop μ-loop
 same-length c = wrote-length (c .before .loop .inv .1) ∙ wrote-length (c .before .before .before .before .put-number .ensures)
@@ -65,7 +54,7 @@ returns c =
     let s = c .before .before .before .before .before .before .before in
     let n = s .args .t3 in
     let e : c .before .loop .i ≡ n .count = omega arith in
-    wrote-counted (big 4) (numbers-of n) (numbers-length n (s .pre .0)) (omega (arith, s .pre .0 .count)) (ap (λ (k : ℕ). each (big 4) (take k (n .items))) e) (c .before .before .before .before .put-number .ensures) (c .before .loop .inv .1)
+    wrote-counted (big 4) (numbers-of n) (numbers-length n (s .pre .0)) (omega (arith, s .pre .0 .count)) (ap (λ (k : ℕ). concat-map (big 4) (take k (n .items))) e) (c .before .before .before .before .put-number .ensures) (c .before .loop .inv .1)
 
 pub put-list-spec : {M : Type 1} → statement M
 put-list-spec =
@@ -73,14 +62,14 @@ put-list-spec =
     (tie.spec
     Inv-loop
     μ-loop
-    put-number-requires
+    (λ c κs. search needs)
     loop-holds
     mul-put-number
     element-copy-out-put-number
-    cast-put-number
+    (λ c. search needs)
     put-number-requires-2
-    add-i
-    loop-less
+    (λ c. search needs)
+    (λ c. search needs)
     loop-again
     same-length
     returns)

@@ -3,12 +3,13 @@ use Prim.Native.Nat.{_-_, _≤_}
 use native.Mathlib.Omega.{arith}
 use borrow.Author.Needs.{needs}
 use lib.ListN.{length}
+use Rattle.region_graph.specs.Lists.{concat-map}
 use Rattle.region_graph.specs.Size.{regions}
 use Rattle.region_graph.specs.Record.{meaning}
-use Rattle.text_lines.specs.Written.{Wrote}
+use Rattle.text_lines.specs.Written.{WrittenAt}
 use Rattle.text_lines.proofs.Writes.{wrote-start, wrote-then, wrote-is, wrote-length, wrote-room}
-use Rattle.region_archive.specs.Bytes.{big, each, counted}
-use Rattle.region_archive.proofs.Pieces.{each-snoc}
+use Rattle.region_archive.specs.Bytes.{big, counted}
+use Rattle.region_archive.proofs.Pieces.{concat-snoc}
 use Rattle.region_archive.proofs.Members.{met, met-took, met-left, met-all, met-byte}
 use Rattle.region_archive.proofs.Writes.{wrote-counted}
 use Rattle.region_archive.proofs.writing.put_regions.Statement.{statement}
@@ -16,34 +17,13 @@ use Rattle.region_archive.proofs.writing.put_regions.Tie as tie
 
 abbrev Inv-loop : tie.InvT-loop
 Inv-loop buffer₀ at set total to₀ region₀ buffer to region =
-    (region ≤ regions) × Wrote buffer₀ buffer to₀ (each (big 1) (met set region)) to
+    (region ≤ regions) × WrittenAt buffer₀ buffer to₀ (concat-map (big 1) (met set region)) to
 
 abbrev μ-loop : tie.MeasureT-loop
 μ-loop buffer₀ at set total to₀ region₀ buffer to region = regions - region
 
-region-set-requires : tie.Need-region-set-requires Inv-loop μ-loop
-region-set-requires c κs = search needs
-
-region-count-requires : tie.Need-region-count-requires Inv-loop μ-loop
-region-count-requires c κs = search needs
-
-put-number-requires : tie.Need-put-number-requires Inv-loop μ-loop
-put-number-requires c κs = search needs
-
 loop-holds : tie.Need-loop-holds Inv-loop μ-loop
 loop-holds c = (omega arith, wrote-start (c .before .before .put-number .ensures))
-
-cast-loop : tie.Need-cast-loop Inv-loop μ-loop
-cast-loop c = search needs
-
-has-requires : tie.Need-has-requires Inv-loop μ-loop
-has-requires c κs = search needs
-
-cast-number : tie.Need-cast-number Inv-loop μ-loop
-cast-number c = search needs
-
-add-region : tie.Need-add-region Inv-loop μ-loop
-add-region c = search needs
 
 put-number-requires-2 : tie.Need-put-number-requires-2 Inv-loop μ-loop
 put-number-requires-2 c κs =
@@ -52,26 +32,20 @@ put-number-requires-2 c κs =
     wrote-room (length (counted (big 1) (meaning (s .args .graph) .regions))) 1 (c .before .before .before .before .before .before .before .put-number .ensures) (l .inv .1) (s .pre .1)
     (omega (arith, met-byte (s .args .graph) (s .pre .0) (c .before .before .before .before .before .before .before .before .before .before .region-set .ensures) (l .region) (omega arith) (sym (c .before .before .has .ensures) ∙ c .before .if1 .taken)))
 
-loop-less : tie.Need-loop-less Inv-loop μ-loop
-loop-less c = search needs
-
 loop-again : tie.Need-loop-again Inv-loop μ-loop
 loop-again c =
     let l = c .before .before .before .before .before .before .before .loop in
     let x = c .before .before .before .before .before .before .before .before .before .before .before .before .before .region-set .result in (
       omega arith,
       wrote-is
-          (sym (ap (each (big 1)) (met-took x (l .region) (omega arith) (sym (c .before .before .before .before .before .has .ensures) ∙ c .before .before .before .before .if1 .taken)) ∙ each-snoc (big 1) (met x (l .region)) (l .region)))
+          (sym (ap (concat-map (big 1)) (met-took x (l .region) (omega arith) (sym (c .before .before .before .before .before .has .ensures) ∙ c .before .before .before .before .if1 .taken)) ∙ concat-snoc (big 1) (met x (l .region)) (l .region)))
           (wrote-then (l .inv .1) (c .before .before .put-number2 .ensures)),
     )
-
-loop-less-2 : tie.Need-loop-less-2 Inv-loop μ-loop
-loop-less-2 c = search needs
 
 loop-again-2 : tie.Need-loop-again-2 Inv-loop μ-loop
 loop-again-2 c =
     let l = c .before .before .before .loop in
-    (omega arith, wrote-is (sym (ap (each (big 1)) (met-left (c .before .before .before .before .before .before .before .before .before .region-set .result) (l .region) (omega arith) (sym (c .before .has .ensures) ∙ c .if1 .left)))) (l .inv .1))
+    (omega arith, wrote-is (sym (ap (concat-map (big 1)) (met-left (c .before .before .before .before .before .before .before .before .before .region-set .result) (l .region) (omega arith) (sym (c .before .has .ensures) ∙ c .if1 .left)))) (l .inv .1))
 
 same-length : tie.Need-same-length Inv-loop μ-loop
 same-length c = wrote-length (c .before .loop .inv .1) ∙ wrote-length (c .before .before .before .before .put-number .ensures)
@@ -81,7 +55,7 @@ returns c =
     let s = c .before .before .before .before .before .before .before .before .before in
     let l = c .before .loop in
     wrote-counted (big 1) (meaning (s .args .graph) .regions) (c .before .before .before .before .before .before .region-count .ensures .0) (omega (arith, c .before .before .before .before .before .before .region-count .ensures .1))
-    (ap (each (big 1)) (met-all (s .args .graph) (s .pre .0) (c .before .before .before .before .before .before .before .region-set .ensures) (l .region) (omega arith))) (c .before .before .before .before .put-number .ensures) (l .inv .1)
+    (ap (concat-map (big 1)) (met-all (s .args .graph) (s .pre .0) (c .before .before .before .before .before .before .before .region-set .ensures) (l .region) (omega arith))) (c .before .before .before .before .put-number .ensures) (l .inv .1)
 
 pub put-regions-spec : {M : Type 1} → statement M
 put-regions-spec =
@@ -89,18 +63,18 @@ put-regions-spec =
     (tie.spec
     Inv-loop
     μ-loop
-    region-set-requires
-    region-count-requires
-    put-number-requires
+    (λ c κs. search needs)
+    (λ c κs. search needs)
+    (λ c κs. search needs)
     loop-holds
-    cast-loop
-    has-requires
-    cast-number
-    add-region
+    (λ c. search needs)
+    (λ c κs. search needs)
+    (λ c. search needs)
+    (λ c. search needs)
     put-number-requires-2
-    loop-less
+    (λ c. search needs)
     loop-again
-    loop-less-2
+    (λ c. search needs)
     loop-again-2
     same-length
     returns)

@@ -15,27 +15,6 @@ Inv-loop set n₀ region₀ n region = (region ≤ regions) × (n ≡ length (me
 abbrev μ-loop : tie.MeasureT-loop
 μ-loop set n₀ region₀ n region = regions - region
 
-region-set-requires : tie.Need-region-set-requires Inv-loop μ-loop
-region-set-requires c κs = search needs
-
-loop-holds : tie.Need-loop-holds Inv-loop μ-loop
-loop-holds c = search needs
-
-cast-loop : tie.Need-cast-loop Inv-loop μ-loop
-cast-loop c = search needs
-
-has-requires : tie.Need-has-requires Inv-loop μ-loop
-has-requires c κs = search needs
-
-add-region : tie.Need-add-region Inv-loop μ-loop
-add-region c = search needs
-
-add-n : tie.Need-add-n Inv-loop μ-loop
-add-n c = search needs
-
-loop-less : tie.Need-loop-less Inv-loop μ-loop
-loop-less c = search needs
-
 loop-again : tie.Need-loop-again Inv-loop μ-loop
 loop-again c =
     let x = c .before .before .before .before .region-set .result in
@@ -44,9 +23,6 @@ loop-again c =
       ap (λ (n : ℕ). n + 1) (l .inv .1) ∙ sym (ap length (met-took x (l .region) (omega arith) (sym (c .before .has .ensures) ∙ c .if1 .taken)) ∙ length-append (met x (l .region)) (l .region ∷ [])),
       omega arith,
     )
-
-loop-less-2 : tie.Need-loop-less-2 Inv-loop μ-loop
-loop-less-2 c = search needs
 
 loop-again-2 : tie.Need-loop-again-2 Inv-loop μ-loop
 loop-again-2 c =
@@ -65,14 +41,14 @@ region-count-spec =
     (tie.spec
     Inv-loop
     μ-loop
-    region-set-requires
-    loop-holds
-    cast-loop
-    has-requires
-    add-region
-    add-n
-    loop-less
+    (λ c κs. search needs)
+    (λ c. search needs)
+    (λ c. search needs)
+    (λ c κs. search needs)
+    (λ c. search needs)
+    (λ c. search needs)
+    (λ c. search needs)
     loop-again
-    loop-less-2
+    (λ c. search needs)
     loop-again-2
     returns)

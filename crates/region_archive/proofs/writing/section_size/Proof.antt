@@ -5,10 +5,10 @@ use native.Mathlib.Omega.{arith}
 use borrow.Author.Needs.{needs}
 use lib.ListN.{length, take, length-append}
 use lib.Seq.{take-all}
+use Rattle.region_graph.specs.Lists.{concat-map}
 use Rattle.region_graph.specs.Model.{Model}
 use Rattle.region_graph.specs.Record.{meaning}
-use Rattle.region_archive.specs.Bytes.{each}
-use Rattle.region_archive.specs.Entries.{record-bytes, elements, fields-in, fields-of, EntryIs}
+use Rattle.region_archive.specs.RecordFields.{record-bytes, elements, fields-in, fields-of, ValuesAre}
 use Rattle.region_archive.proofs.RecordLaws.{same-bytes}
 use Rattle.region_archive.proofs.Sizes.{few-elements, section-next}
 use Rattle.region_archive.proofs.Placed.{element-at, placed-model, Placed, placed-elements, placed-count, bundle-inside, bundle-fit, bundle-element, connection-inside, connection-fit, connection-element}
@@ -17,7 +17,7 @@ use Rattle.region_archive.proofs.writing.section_size.Tie as tie
 
 abbrev Inv-loop : tie.InvT-loop
 Inv-loop section bundles connections total size₀ i₀ size i =
-    (i ≤ total) × (size ≡ 1 + length (each (record-bytes section) (take i (elements section (placed-model bundles connections total))))) × (size ≤ 1 + i * 327)
+    (i ≤ total) × (size ≡ 1 + length (concat-map (record-bytes section) (take i (elements section (placed-model bundles connections total))))) × (size ≤ 1 + i * 327)
 
 abbrev μ-loop : tie.MeasureT-loop
 μ-loop section bundles connections total size₀ i₀ size i = total - i
@@ -36,27 +36,12 @@ placed a = record {
 }
 
 -- the value is that of the section's element
-entry-is : (c : tie.At-match-came Inv-loop μ-loop) → (let a = c .before .before .before in let s = a .before .before .before .args .section in
-    EntryIs s (c .match .entry) (element-at s (model a) (c .before .before .loop .i)))
-entry-is c =
+values-are : (c : tie.At-match-came Inv-loop μ-loop) → (let a = c .before .before .before in let s = a .before .before .before .args .section in
+    ValuesAre s (c .match .values) (element-at s (model a) (c .before .before .loop .i)))
+values-are c =
     let p = placed (c .before .before .before) in
     let l : c .before .before .loop .i < c .before .before .before .count .result = omega arith in
     ⊎-elim (λ w. bundle-element p _ l (w .1 .given .1) _ (w .3 .ensures) (w .4)) (λ w. connection-element p _ l (w .1 .given .1) _ (w .3 .ensures) (w .4)) (c .match .came)
-
-bundle-places-requires : tie.Need-bundle-places-requires Inv-loop μ-loop
-bundle-places-requires c κs = search needs
-
-connection-places-requires : tie.Need-connection-places-requires Inv-loop μ-loop
-connection-places-requires c κs = search needs
-
-count-requires : tie.Need-count-requires Inv-loop μ-loop
-count-requires c κs = search needs
-
-loop-holds : tie.Need-loop-holds Inv-loop μ-loop
-loop-holds c = search needs
-
-enum-told : tie.Need-enum-told Inv-loop μ-loop
-enum-told c = search needs
 
 mul-b : tie.Need-mul-b Inv-loop μ-loop
 mul-b c =
@@ -68,12 +53,9 @@ array-copy-out-b : tie.Need-array-copy-out-b Inv-loop μ-loop
 array-copy-out-b c =
     bundle-inside (placed (c .before .before .before .before)) (c .before .before .before .loop .i) (omega arith) (c .enum-told .given .1)
 
-bundle-entry-requires : tie.Need-bundle-entry-requires Inv-loop μ-loop
-bundle-entry-requires c κs =
+bundle-values-requires : tie.Need-bundle-values-requires Inv-loop μ-loop
+bundle-values-requires c κs =
     bundle-fit (placed (c .before .before .before .before .before)) (c .before .before .before .before .loop .i) (omega arith) (c .before .enum-told .given .1) _
-
-enum-told-2 : tie.Need-enum-told-2 Inv-loop μ-loop
-enum-told-2 c = search needs
 
 mul-c : tie.Need-mul-c Inv-loop μ-loop
 mul-c c =
@@ -85,27 +67,18 @@ array-copy-out-c : tie.Need-array-copy-out-c Inv-loop μ-loop
 array-copy-out-c c =
     connection-inside (placed (c .before .before .before .before)) (c .before .before .before .loop .i) (omega arith) (c .enum-told2 .given .1)
 
-connection-entry-requires : tie.Need-connection-entry-requires Inv-loop μ-loop
-connection-entry-requires c κs =
+connection-values-requires : tie.Need-connection-values-requires Inv-loop μ-loop
+connection-values-requires c κs =
     connection-fit (placed (c .before .before .before .before .before)) (c .before .before .before .before .loop .i) (omega arith) (c .before .enum-told2 .given .1) _
 
-add-i : tie.Need-add-i Inv-loop μ-loop
-add-i c = search needs
-
 fields-size-requires : tie.Need-fields-size-requires Inv-loop μ-loop
-fields-size-requires c κs = entry-is c .fits
-
-add-size : tie.Need-add-size Inv-loop μ-loop
-add-size c = search needs
+fields-size-requires c κs = values-are c .fits
 
 add-size-2 : tie.Need-add-size-2 Inv-loop μ-loop
 add-size-2 c =
     let a = c .before .before .before .before in
     let s = a .before .before .before in
     omega (arith, few-elements (s .args .graph) (s .pre) (s .args .section), a .count .ensures, c .fields-size .ensures .1)
-
-loop-less : tie.Need-loop-less Inv-loop μ-loop
-loop-less c = search needs
 
 loop-again : tie.Need-loop-again Inv-loop μ-loop
 loop-again c =
@@ -117,8 +90,8 @@ loop-again c =
       omega arith,
       omega (
         arith,
-        c .fields-size .ensures .0 ∙ ap length (same-bytes s (fields-in (c .before .match .entry)) (fields-of s x) (entry-is (c .before) .same)),
-        ap length (section-next s m i (omega (arith, placed-count s (placed a)))) ∙ length-append (each (record-bytes s) (take i (elements s m))) (record-bytes s x),
+        c .fields-size .ensures .0 ∙ ap length (same-bytes s (fields-in (c .before .match .values)) (fields-of s x) (values-are (c .before) .same)),
+        ap length (section-next s m i (omega (arith, placed-count s (placed a)))) ∙ length-append (concat-map (record-bytes s) (take i (elements s m))) (record-bytes s x),
       ),
       omega (arith, c .fields-size .ensures .1),
     )
@@ -130,7 +103,7 @@ returns c =
     let k = s .args .section in
     let l = elements k (meaning (s .args .graph)) in
     let e : length l ≤ c .before .loop .i = omega (arith, a .count .ensures) in (
-      omega (arith, ap (λ t. length (each (record-bytes k) (take (c .before .loop .i) t))) (placed-elements k (placed a)), ap (λ t. length (each (record-bytes k) t)) (take-all (c .before .loop .i) l e)),
+      omega (arith, ap (λ t. length (concat-map (record-bytes k) (take (c .before .loop .i) t))) (placed-elements k (placed a)), ap (λ t. length (concat-map (record-bytes k) t)) (take-all (c .before .loop .i) l e)),
       omega (arith, few-elements (s .args .graph) (s .pre) k, a .count .ensures),
     )
 
@@ -140,22 +113,22 @@ section-size-spec =
     (tie.spec
     Inv-loop
     μ-loop
-    bundle-places-requires
-    connection-places-requires
-    count-requires
-    loop-holds
-    enum-told
+    (λ c κs. search needs)
+    (λ c κs. search needs)
+    (λ c κs. search needs)
+    (λ c. search needs)
+    (λ c. search needs)
     mul-b
     array-copy-out-b
-    bundle-entry-requires
-    enum-told-2
+    bundle-values-requires
+    (λ c. search needs)
     mul-c
     array-copy-out-c
-    connection-entry-requires
-    add-i
+    connection-values-requires
+    (λ c. search needs)
     fields-size-requires
-    add-size
+    (λ c. search needs)
     add-size-2
-    loop-less
+    (λ c. search needs)
     loop-again
     returns)

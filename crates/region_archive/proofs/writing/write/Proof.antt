@@ -8,20 +8,11 @@ use Rattle.region_graph.specs.Record.{meaning}
 use Rattle.text_lines.proofs.Writes.{wrote-is, wrote-then, wrote-length}
 use Rattle.region_archive.specs.Bytes.{big, counted}
 use Rattle.region_archive.specs.Image.{version, body}
-use Rattle.region_archive.specs.Entries.{section-bytes}
-use Rattle.region_archive.specs.declared.entries.Section.the-variants as Section
+use Rattle.region_archive.specs.RecordFields.{section-bytes}
+use Rattle.region_archive.specs.declared.record_fields.Section.the-variants as Section
 use Rattle.region_archive.proofs.Images.{body-size, image-size, image-pieces, regions-size, wrote-image, no-image}
 use Rattle.region_archive.proofs.writing.write.Statement.{statement}
 use Rattle.region_archive.proofs.writing.write.Tie as tie
-
-region-count-requires : tie.Need-region-count-requires
-region-count-requires c κs = search needs
-
-section-size-requires : tie.Need-section-size-requires
-section-size-requires c κs = search needs
-
-section-size-requires-2 : tie.Need-section-size-requires-2
-section-size-requires-2 c κs = search needs
 
 add-size : tie.Need-add-size
 add-size c = omega (arith, c .before .before .region-count .ensures .1)
@@ -124,9 +115,9 @@ pub write-spec : {M : Type 1} → statement M
 write-spec =
     tie.close
     (tie.spec
-    region-count-requires
-    section-size-requires
-    section-size-requires-2
+    (λ c κs. search needs)
+    (λ c κs. search needs)
+    (λ c κs. search needs)
     add-size
     add-size-2
     add-size-3

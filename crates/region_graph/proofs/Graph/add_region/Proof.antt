@@ -16,9 +16,9 @@ returns c =
     let r = s .args .region in
     outcome g (Call.add-region r) (s .pre) (c .add-number .ensures) tt
     (λ z. stored-graph (accepted (meaning g) (Call.add-region r))
-    (rw (c .before .one .ensures) (set-insert (meaning g .regions) r (regions-stored g (s .pre))))
+    (rw (c .before .singleton .ensures) (set-insert (meaning g .regions) r (regions-stored g (s .pre))))
     (bundles-stored g (s .pre) .stored) (connections-stored g (s .pre) .stored))
-    (λ u. let e = ap (bitOr (g .regions)) (c .before .one .ensures)
+    (λ u. let e = ap (bitOr (g .regions)) (c .before .singleton .ensures)
     ∙ set-kept (meaning g .regions) r (add-idle (meaning g) r (λ z. u (c .add-number .ensures ∙ z))) (regions-stored g (s .pre)) in
     λ i. record { regions = e i; bundles = g .bundles; connections = g .connections })
 

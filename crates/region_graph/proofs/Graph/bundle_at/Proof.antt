@@ -27,9 +27,6 @@ returns c =
     let s = c .before .before .before in
     filled-at (bundles-filled (s .args .self .bundles) (bundles-stored (s .args .self) (s .pre))) (s .args .i) _ no-bundle (omega arith)
 
-no-bundle-requires : tie.Need-no-bundle-requires
-no-bundle-requires c κs = search needs
-
 returns-2 : tie.Need-returns-2
 unfolding meaning
 returns-2 c =
@@ -40,4 +37,4 @@ returns-2 c =
 
 pub bundle-at-spec : {M : Type 1} → statement M
 bundle-at-spec =
-    tie.close (tie.spec mul-result element-copy-out-result returns no-bundle-requires returns-2)
+    tie.close (tie.spec mul-result element-copy-out-result returns (λ c κs. search needs) returns-2)

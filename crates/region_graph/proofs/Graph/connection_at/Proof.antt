@@ -27,9 +27,6 @@ returns c =
     let s = c .before .before .before in
     filled-at (connections-filled (s .args .self .connections) (connections-stored (s .args .self) (s .pre))) (s .args .i) _ no-connection (omega arith)
 
-no-connection-requires : tie.Need-no-connection-requires
-no-connection-requires c κs = search needs
-
 returns-2 : tie.Need-returns-2
 unfolding meaning
 returns-2 c =
@@ -41,4 +38,4 @@ returns-2 c =
 pub connection-at-spec : {M : Type 1} → statement M
 connection-at-spec =
     tie.close
-    (tie.spec mul-result element-copy-out-result returns no-connection-requires returns-2)
+    (tie.spec mul-result element-copy-out-result returns (λ c κs. search needs) returns-2)

@@ -6,14 +6,8 @@ use Rattle.region_graph.specs.Model.{nothing}
 use Rattle.region_graph.proofs.Graph.empty.Statement.{statement}
 use Rattle.region_graph.proofs.Graph.empty.Tie as tie
 
-none-requires : tie.Need-none-requires
-none-requires c κs = search needs
-
-none-requires-2 : tie.Need-none-requires-2
-none-requires-2 c κs = search needs
-
 returns : tie.Need-returns
 returns c = stores-nothing (stored-graph nothing (sym set-none) (c .before .none .ensures) (c .none2 .ensures))
 
 pub empty-spec : {M : Type 1} → statement M
-empty-spec = tie.close (tie.spec none-requires none-requires-2 returns)
+empty-spec = tie.close (tie.spec (λ c κs. search needs) (λ c κs. search needs) returns)

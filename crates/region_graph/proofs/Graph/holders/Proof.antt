@@ -7,7 +7,7 @@ use lib.Bits.{bitOr}
 use lib.ListN.{length, take, getD}
 use lib.Seq.{take-all}
 use Rattle.region_graph.specs.Size.{most-bundles}
-use Rattle.region_graph.specs.Sets.{one}
+use Rattle.region_graph.specs.Sets.{singleton}
 use Rattle.region_graph.specs.Items.{provides}
 use Rattle.region_graph.specs.Record.{meaning, bundles-of, bundle-in, no-bundle}
 use Rattle.region_graph.specs.declared.bundles.StoredBundle.{StoredBundle}
@@ -41,26 +41,11 @@ loop-holds c =
     let h = bundles-filled (s .args .self .bundles) (bundles-stored (s .args .self) (s .pre)) in
     (omega arith, rw (h .counted) (h .room), held-none (λ b. b .region) (provides (s .args .item)))
 
-mul-b : tie.Need-mul-b Inv-loop μ-loop
-mul-b c = search needs
-
-element-copy-out-b : tie.Need-element-copy-out-b Inv-loop μ-loop
-element-copy-out-b c = search needs
-
-add-i : tie.Need-add-i Inv-loop μ-loop
-add-i c = search needs
-
 bundle-provides-requires : tie.Need-bundle-provides-requires Inv-loop μ-loop
 bundle-provides-requires c κs =
     let a = c .before .before in
     let s = a .before .before in
     bundle-stored (s .args .self .bundles) (bundles-stored (s .args .self) (s .pre)) (a .loop .i) _ (omega arith)
-
-one-requires : tie.Need-one-requires Inv-loop μ-loop
-one-requires c κs = search needs
-
-loop-less : tie.Need-loop-less Inv-loop μ-loop
-loop-less c = search needs
 
 loop-again : tie.Need-loop-again Inv-loop μ-loop
 loop-again c =
@@ -69,13 +54,10 @@ loop-again c =
     let h = bundles-filled (s .args .self .bundles) (bundles-stored (s .args .self) (s .pre)) in (
       omega arith,
       a .loop .inv .1,
-      ap₂ bitOr (a .loop .inv .2) (c .one .ensures ∙ ap (λ (b : StoredBundle). one (b .region)) (filled-at h (a .loop .i) _ no-bundle (omega arith)))
+      ap₂ bitOr (a .loop .inv .2) (c .singleton .ensures ∙ ap (λ (b : StoredBundle). singleton (b .region)) (filled-at h (a .loop .i) _ no-bundle (omega arith)))
           ∙ held-took (λ b. b .region) (provides (s .args .item)) (bundles-of (s .args .self .bundles)) (a .loop .i) no-bundle (filled-inside h (a .loop .i) (omega arith))
           (tested (c .before .before) (c .before .if1 .taken)),
     )
-
-loop-less-2 : tie.Need-loop-less-2 Inv-loop μ-loop
-loop-less-2 c = search needs
 
 loop-again-2 : tie.Need-loop-again-2 Inv-loop μ-loop
 loop-again-2 c =
@@ -105,13 +87,13 @@ holders-spec =
     Inv-loop
     μ-loop
     loop-holds
-    mul-b
-    element-copy-out-b
-    add-i
+    (λ c. search needs)
+    (λ c. search needs)
+    (λ c. search needs)
     bundle-provides-requires
-    one-requires
-    loop-less
+    (λ c κs. search needs)
+    (λ c. search needs)
     loop-again
-    loop-less-2
+    (λ c. search needs)
     loop-again-2
     returns)

@@ -6,7 +6,7 @@ use borrow.Author.Needs.{needs}
 use lib.ListN.{length, take, getD}
 use lib.Seq.{take-all}
 use Rattle.region_graph.specs.Size.{most-connections}
-use Rattle.region_graph.specs.Sets.{one}
+use Rattle.region_graph.specs.Sets.{singleton}
 use Rattle.region_graph.specs.Items.{passes}
 use Rattle.region_graph.specs.Model.{Connection}
 use Rattle.region_graph.specs.Promise.{predecessor-sets}
@@ -43,15 +43,6 @@ loop-holds c =
     let h = connections-filled (s .args .self .connections) (connections-stored (s .args .self) (s .pre)) in
     (omega arith, rw (h .counted) (h .room), led-none (λ c. c .source) (λ c. c .target) (λ c. passes (s .args .item) (c .filter)))
 
-mul-c : tie.Need-mul-c Inv-loop μ-loop
-mul-c c = search needs
-
-element-copy-out-c : tie.Need-element-copy-out-c Inv-loop μ-loop
-element-copy-out-c c = search needs
-
-add-i : tie.Need-add-i Inv-loop μ-loop
-add-i c = search needs
-
 connection-passes-requires : tie.Need-connection-passes-requires Inv-loop μ-loop
 connection-passes-requires c κs =
     let a = c .before .before in
@@ -71,17 +62,11 @@ cast-target c = omega (arith, array-read-sets c)
 mul-sets : tie.Need-mul-sets Inv-loop μ-loop
 mul-sets c = omega (arith, array-read-sets c)
 
-one-requires : tie.Need-one-requires Inv-loop μ-loop
-one-requires c κs = search needs
-
 mul-sets-2 : tie.Need-mul-sets-2 Inv-loop μ-loop
 mul-sets-2 c = mul-sets (c .before)
 
 array-write-sets : tie.Need-array-write-sets Inv-loop μ-loop
 array-write-sets c = array-read-sets (c .before)
-
-loop-less : tie.Need-loop-less Inv-loop μ-loop
-loop-less c = search needs
 
 loop-again : tie.Need-loop-again Inv-loop μ-loop
 loop-again c =
@@ -92,13 +77,10 @@ loop-again c =
       a .loop .inv .1,
       led-took (λ c. c .source) (λ c. c .target) (λ c. passes (s .args .item) (c .filter)) (connections-of (s .args .self .connections)) (a .loop .i) no-connection (filled-inside h (a .loop .i) (omega arith)) (a .loop .inv .2)
           (ap (λ (x : StoredConnection). x .target) (filled-at h (a .loop .i) _ no-connection (omega arith)))
-          (c .one .ensures ∙ ap (λ (x : StoredConnection). one (x .source)) (filled-at h (a .loop .i) _ no-connection (omega arith)))
+          (c .singleton .ensures ∙ ap (λ (x : StoredConnection). singleton (x .source)) (filled-at h (a .loop .i) _ no-connection (omega arith)))
           (array-read-sets (c .before))
           (tested (c .before .before .before) (c .before .before .if1 .taken)),
     )
-
-loop-less-2 : tie.Need-loop-less-2 Inv-loop μ-loop
-loop-less-2 c = search needs
 
 loop-again-2 : tie.Need-loop-again-2 Inv-loop μ-loop
 loop-again-2 c =
@@ -128,18 +110,18 @@ predecessors-spec =
     Inv-loop
     μ-loop
     loop-holds
-    mul-c
-    element-copy-out-c
-    add-i
+    (λ c. search needs)
+    (λ c. search needs)
+    (λ c. search needs)
     connection-passes-requires
     cast-target
     mul-sets
     array-read-sets
-    one-requires
+    (λ c κs. search needs)
     mul-sets-2
     array-write-sets
-    loop-less
+    (λ c. search needs)
     loop-again
-    loop-less-2
+    (λ c. search needs)
     loop-again-2
     returns)

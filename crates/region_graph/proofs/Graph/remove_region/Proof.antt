@@ -22,7 +22,7 @@ returns c =
     changes g (Call.remove-region r) (s .pre) (c .region-number .ensures) tt (remove-idle (meaning g) (s .pre .good) r)
     (stored-graph (accepted (meaning g) (Call.remove-region r))
     (c .before .before .before .difference .ensures
-    ∙ rw (c .before .before .before .before .one .ensures) (set-remove (meaning g .regions) r (regions-stored g (s .pre))))
+    ∙ rw (c .before .before .before .before .singleton .ensures) (set-remove (meaning g .regions) r (regions-stored g (s .pre))))
     (c .before .before .without .ensures) (c .before .without2 .ensures))
 
 pub remove-region-spec : {M : Type 1} → statement M

@@ -2,15 +2,6 @@ use borrow.Author.Needs.{needs}
 use Rattle.region_graph.proofs.bundles.bundle_meets.Statement.{statement}
 use Rattle.region_graph.proofs.bundles.bundle_meets.Tie as tie
 
-enum-known-test : tie.Need-enum-known-test
-enum-known-test c = search needs
-
-enum-known-test-2 : tie.Need-enum-known-test-2
-enum-known-test-2 c = search needs
-
-enum-known-test-3 : tie.Need-enum-known-test-3
-enum-known-test-3 c = search needs
-
 returns : tie.Need-returns
 returns c = rw (c .before .before .test .given .1)
 
@@ -23,4 +14,4 @@ returns-3 c = rw (c .before .before .test3 .given .1)
 pub bundle-meets-spec : {M : Type 1} → statement M
 bundle-meets-spec =
     tie.close
-    (tie.spec enum-known-test enum-known-test-2 enum-known-test-3 returns returns-2 returns-3)
+    (tie.spec (λ c. search needs) (λ c. search needs) (λ c. search needs) returns returns-2 returns-3)

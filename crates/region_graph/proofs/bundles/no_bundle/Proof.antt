@@ -2,9 +2,6 @@ use borrow.Author.Needs.{needs}
 use Rattle.region_graph.proofs.bundles.no_bundle.Statement.{statement}
 use Rattle.region_graph.proofs.bundles.no_bundle.Tie as tie
 
-none-provided-requires : tie.Need-none-provided-requires
-none-provided-requires c κs = search needs
-
 returns : tie.Need-returns
 returns c = λ i. record {
   location = 0;
@@ -14,4 +11,4 @@ returns c = λ i. record {
 }
 
 pub no-bundle-spec : {M : Type 1} → statement M
-no-bundle-spec = tie.close (tie.spec none-provided-requires returns)
+no-bundle-spec = tie.close (tie.spec (λ c κs. search needs) returns)

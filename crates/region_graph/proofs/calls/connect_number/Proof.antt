@@ -5,10 +5,10 @@ use lib.ListN.{length}
 use borrow.Author.Needs.{needs}
 use borrow.Author.Tests.{not-true, not-false, le-ltb, lt-ltb}
 use Rattle.region_graph.specs.Size.{most-connections}
-use Rattle.region_graph.specs.Lists.{any}
+use Rattle.region_graph.specs.Lists.{exists}
 use Rattle.region_graph.specs.Calls.{joins, filter-within, filter-ascends}
 use Rattle.region_graph.specs.Record.{connections-of}
-use Rattle.region_graph.specs.Promise.{filter}
+use Rattle.region_graph.specs.Promise.{new-filter}
 use Rattle.region_graph.specs.Places.{connection-meets}
 use Rattle.region_graph.specs.declared.connections.ConnectionTest.the-variants.{Joining}
 use Rattle.region_graph.proofs.Arrays.{filled-found, filled-missed}
@@ -18,7 +18,7 @@ use Rattle.region_graph.proofs.calls.connect_number.Tie as tie
 
 -- the answers to the questions that the code has passed
 absent : (c : tie.Else1)
-    → (let a = c .before .before .before .before .before .before .args in any (joins (a .source) (a .target)) (connections-of (a .connections)) ≡ false)
+    → (let a = c .before .before .before .before .before .before .args in exists (joins (a .source) (a .target)) (connections-of (a .connections)) ≡ false)
 absent c =
     let s = c .before .before .before .before .before .before in
     filled-missed (connections-filled (s .args .connections) (s .pre)) (connection-meets (Joining (s .args .source) (s .args .target)))
@@ -26,12 +26,12 @@ absent c =
 
 short : (c : tie.Else2)
     → (let a = c .before .before .before .before .before .before .before .before .args in
-    filter-within (filter (a .bundles .now) (a .all-packages) (a .packages .now) (a .all-services) (a .services .now)) ≡ true)
+    filter-within (new-filter (a .bundles .now) (a .all-packages) (a .packages .now) (a .all-services) (a .services .now)) ≡ true)
 short c = sym (c .before .filter-within .ensures) ∙ not-false _ (c .if2 .left)
 
 ascending : (c : tie.Else3)
     → (let a = c .before .before .before .before .before .before .before .before .before .before .args in
-    filter-ascends (filter (a .bundles .now) (a .all-packages) (a .packages .now) (a .all-services) (a .services .now)) ≡ true)
+    filter-ascends (new-filter (a .bundles .now) (a .all-packages) (a .packages .now) (a .all-services) (a .services .now)) ≡ true)
 ascending c = sym (c .before .filter-ascending .ensures) ∙ not-false _ (c .if3 .left)
 
 first-requires : tie.Need-first-requires

@@ -4,7 +4,7 @@ use native.Mathlib.Omega.{arith}
 use lib.ListN.{length}
 use borrow.Author.Tests.{le-ltb, lt-ltb}
 use Rattle.region_graph.specs.Size.{most-bundles}
-use Rattle.region_graph.specs.Lists.{any}
+use Rattle.region_graph.specs.Lists.{exists}
 use Rattle.region_graph.specs.Calls.{at-location, names}
 use Rattle.region_graph.specs.Record.{bundles-of, connections-of}
 use Rattle.region_graph.specs.Places.{bundle-meets, connection-meets}
@@ -16,13 +16,13 @@ use Rattle.region_graph.proofs.calls.install_number.Statement.{statemen
 use Rattle.region_graph.proofs.calls.install_number.Tie as tie
 
 -- the answers to the questions that the code has passed
-absent : (c : tie.Else1) → (let a = c .before .before .before .args in any (at-location (a .location)) (bundles-of (a .bundles)) ≡ false)
+absent : (c : tie.Else1) → (let a = c .before .before .before .args in exists (at-location (a .location)) (bundles-of (a .bundles)) ≡ false)
 absent c =
     let s = c .before .before .before in
     filled-missed (bundles-filled (s .args .bundles) (s .pre .0)) (bundle-meets (At (s .args .location))) (c .before .before .first .ensures) (c .if1 .left)
 
 unnamed : (c : tie.Else2)
-    → (let a = c .before .before .before .before .before .before .args in any (names (a .region) (a .location)) (connections-of (a .connections)) ≡ false)
+    → (let a = c .before .before .before .before .before .before .args in exists (names (a .region) (a .location)) (connections-of (a .connections)) ≡ false)
 unnamed c =
     let s = c .before .before .before .before .before .before in
     filled-missed (connections-filled (s .args .connections) (s .pre .1)) (connection-meets (Naming (s .args .region) (s .args .location)))

@@ -7,29 +7,17 @@ use Rattle.region_graph.proofs.Storing.{named-stored}
 use Rattle.region_graph.proofs.connections.connection_meets.Statement.{statement}
 use Rattle.region_graph.proofs.connections.connection_meets.Tie as tie
 
-enum-known-test : tie.Need-enum-known-test
-enum-known-test c = search needs
-
 returns : tie.Need-returns
 returns c = rw (c .before .before .before .before .test .given .1, eq-eqb _ _ (c .before .if1 .taken))
 
-enum-known-test-2 : tie.Need-enum-known-test-2
-enum-known-test-2 c = search needs
-
 returns-2 : tie.Need-returns-2
 returns-2 c = rw (c .before .before .before .test2 .given .1, eq-eqb _ _ (c .if2 .taken))
-
-enum-known-test-3 : tie.Need-enum-known-test-3
-enum-known-test-3 c = search needs
 
 lists-requires : tie.Need-lists-requires
 lists-requires c κs = named-stored (c .before .before .before .before .before .before .args .c) (c .before .before .before .before .before .before .pre)
 
 returns-3 : tie.Need-returns-3
 returns-3 c = rw (c .before .before .before .before .before .test3 .given .1, eq-eqb _ _ (c .before .before .if3 .taken)) (c .lists .ensures)
-
-enum-known-test-4 : tie.Need-enum-known-test-4
-enum-known-test-4 c = search needs
 
 returns-4 : tie.Need-returns-4
 returns-4 c =
@@ -53,14 +41,14 @@ pub connection-meets-spec : {M : Type 1} → statement M
 connection-meets-spec =
     tie.close
     (tie.spec
-    enum-known-test
+    (λ c. search needs)
     returns
-    enum-known-test-2
+    (λ c. search needs)
     returns-2
-    enum-known-test-3
+    (λ c. search needs)
     lists-requires
     returns-3
-    enum-known-test-4
+    (λ c. search needs)
     returns-4
     returns-5
     returns-6

@@ -3,15 +3,6 @@ use mathlib.Core.Path.{sym, _∙_}
 use Rattle.region_graph.proofs.connections.filter_ascending.Statement.{statement}
 use Rattle.region_graph.proofs.connections.filter_ascending.Tie as tie
 
-ascending-requires : tie.Need-ascending-requires
-ascending-requires c κs = search needs
-
-part-ascending-requires : tie.Need-part-ascending-requires
-part-ascending-requires c κs = search needs
-
-part-ascending-requires-2 : tie.Need-part-ascending-requires-2
-part-ascending-requires-2 c κs = search needs
-
 returns : tie.Need-returns
 returns c = rw (sym (c .before .before .before .before .ascending .ensures) ∙ c .before .before .before .if1 .taken, sym (c .before .before .part-ascending .ensures) ∙ c .before .if2 .taken) (c .part-ascending2 .ensures)
 
@@ -25,9 +16,9 @@ pub filter-ascending-spec : {M : Type 1} → statement M
 filter-ascending-spec =
     tie.close
     (tie.spec
-    ascending-requires
-    part-ascending-requires
-    part-ascending-requires-2
+    (λ c κs. search needs)
+    (λ c κs. search needs)
+    (λ c κs. search needs)
     returns
     returns-2
     returns-3)

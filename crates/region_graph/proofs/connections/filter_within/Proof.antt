@@ -4,12 +4,6 @@ use mathlib.Core.Path.{sym, _∙_}
 use Rattle.region_graph.proofs.connections.filter_within.Statement.{statement}
 use Rattle.region_graph.proofs.connections.filter_within.Tie as tie
 
-part-within-requires : tie.Need-part-within-requires
-part-within-requires c κs = search needs
-
-part-within-requires-2 : tie.Need-part-within-requires-2
-part-within-requires-2 c κs = search needs
-
 returns : tie.Need-returns
 returns c = rw (le-leb _ _ (c .before .before .before .if1 .taken), sym (c .before .before .part-within .ensures) ∙ c .before .if2 .taken) (c .part-within2 .ensures)
 
@@ -21,4 +15,4 @@ returns-3 c = rw (lt-leb _ _ (c .if1 .left))
 
 pub filter-within-spec : {M : Type 1} → statement M
 filter-within-spec =
-    tie.close (tie.spec part-within-requires part-within-requires-2 returns returns-2 returns-3)
+    tie.close (tie.spec (λ c κs. search needs) (λ c κs. search needs) returns returns-2 returns-3)

@@ -2,9 +2,6 @@ use borrow.Author.Needs.{needs}
 use Rattle.region_graph.proofs.connections.no_connection.Statement.{statement}
 use Rattle.region_graph.proofs.connections.no_connection.Tie as tie
 
-no-numbers-requires : tie.Need-no-numbers-requires
-no-numbers-requires c κs = search needs
-
 returns : tie.Need-returns
 returns c = λ i. record {
   source = 0;
@@ -15,4 +12,4 @@ returns c = λ i. record {
 }
 
 pub no-connection-spec : {M : Type 1} → statement M
-no-connection-spec = tie.close (tie.spec no-numbers-requires returns)
+no-connection-spec = tie.close (tie.spec (λ c κs. search needs) returns)

@@ -27,7 +27,7 @@ loop-again c =
     let t = c .before in
     let a = t .before .before .before in
     regions-next (a .before .before .before .args .list .now) (a .before .loop .inv) (a .loop-test .taken)
-    (sym (not-false _ (t .if1 .left)) ∙ t .before .is-region .ensures) (c .one .ensures)
+    (sym (not-false _ (t .if1 .left)) ∙ t .before .is-region .ensures) (c .singleton .ensures)
 
 returns-2 : tie.Need-returns-2 Inv-loop μ-loop
 returns-2 c =

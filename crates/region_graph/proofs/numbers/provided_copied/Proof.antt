@@ -15,29 +15,8 @@ Inv-loop list items₀ i₀ items i = (i ≤ length list) × (length list ≤ mo
 abbrev μ-loop : tie.MeasureT-loop
 μ-loop list items₀ i₀ items i = length list - i
 
-none-provided-requires : tie.Need-none-provided-requires Inv-loop μ-loop
-none-provided-requires c κs = search needs
-
 loop-holds : tie.Need-loop-holds Inv-loop μ-loop
 loop-holds c = (omega arith, c .before .before .before .pre, none-provided (c .before .none-provided .ensures))
-
-mul-items : tie.Need-mul-items Inv-loop μ-loop
-mul-items c = search needs
-
-shared-slice-read-items : tie.Need-shared-slice-read-items Inv-loop μ-loop
-shared-slice-read-items c = search needs
-
-mul-items-2 : tie.Need-mul-items-2 Inv-loop μ-loop
-mul-items-2 c = search needs
-
-array-write-items : tie.Need-array-write-items Inv-loop μ-loop
-array-write-items c = search needs
-
-add-i : tie.Need-add-i Inv-loop μ-loop
-add-i c = search needs
-
-loop-less : tie.Need-loop-less Inv-loop μ-loop
-loop-less c = search needs
 
 loop-again : tie.Need-loop-again Inv-loop μ-loop
 loop-again c =
@@ -55,13 +34,13 @@ provided-copied-spec =
     (tie.spec
     Inv-loop
     μ-loop
-    none-provided-requires
+    (λ c κs. search needs)
     loop-holds
-    mul-items
-    shared-slice-read-items
-    mul-items-2
-    array-write-items
-    add-i
-    loop-less
+    (λ c. search needs)
+    (λ c. search needs)
+    (λ c. search needs)
+    (λ c. search needs)
+    (λ c. search needs)
+    (λ c. search needs)
     loop-again
     returns)

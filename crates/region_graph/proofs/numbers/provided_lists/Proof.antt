@@ -5,7 +5,7 @@ use borrow.Author.Needs.{needs}
 use lib.Dec.{eqb}
 use lib.ListN.{drop}
 use Rattle.region_graph.specs.Size.{most-provided}
-use Rattle.region_graph.specs.Lists.{any, member}
+use Rattle.region_graph.specs.Lists.{exists, member}
 use Rattle.region_graph.specs.Record.{provided-of}
 use Rattle.region_graph.proofs.Arrays.{number-here, number-later, number-end}
 use Rattle.region_graph.proofs.Storing.{provided-filled}
@@ -14,7 +14,7 @@ use Rattle.region_graph.proofs.numbers.provided_lists.Tie as tie
 
 abbrev Inv-loop : tie.InvT-loop
 Inv-loop number list count i₀ i =
-    (i ≤ list .count) × (list .count ≤ most-provided) × (member number (provided-of list) ≡ any (eqb number) (drop i (provided-of list)))
+    (i ≤ list .count) × (list .count ≤ most-provided) × (member number (provided-of list) ≡ exists (eqb number) (drop i (provided-of list)))
 
 abbrev μ-loop : tie.MeasureT-loop
 μ-loop number list count i₀ i = list .count - i
@@ -22,24 +22,12 @@ abbrev μ-loop : tie.MeasureT-loop
 loop-holds : tie.Need-loop-holds Inv-loop μ-loop
 loop-holds c = (omega arith, rw (provided-filled (c .args .t1) (c .pre) .counted) (c .pre .good), refl)
 
-mul-if1 : tie.Need-mul-if1 Inv-loop μ-loop
-mul-if1 c = search needs
-
-element-copy-out-if1 : tie.Need-element-copy-out-if1 Inv-loop μ-loop
-element-copy-out-if1 c = search needs
-
 returns : tie.Need-returns Inv-loop μ-loop
 returns c =
     let a = c .before .before .before in
     let s = a .before in
     let h = provided-filled (s .args .t1) (s .pre) in
     number-here h (s .args .number) (a .loop .i) (a .loop .inv .2) _ (omega arith) (c .if1 .taken)
-
-add-i : tie.Need-add-i Inv-loop μ-loop
-add-i c = search needs
-
-loop-less : tie.Need-loop-less Inv-loop μ-loop
-loop-less c = search needs
 
 loop-again : tie.Need-loop-again Inv-loop μ-loop
 loop-again c =
@@ -63,10 +51,10 @@ provided-lists-spec =
     Inv-loop
     μ-loop
     loop-holds
-    mul-if1
-    element-copy-out-if1
+    (λ c. search needs)
+    (λ c. search needs)
     returns
-    add-i
-    loop-less
+    (λ c. search needs)
+    (λ c. search needs)
     loop-again
     returns-2)

@@ -5,13 +5,13 @@ use native.Mathlib.Omega.{arith}
 use borrow.Author.Tests.{eq-eqb, ne-eqb}
 use lib.Dec.{eqb}
 use lib.ListN.{length, drop}
-use Rattle.region_graph.specs.Lists.{any, member}
-use Rattle.region_graph.proofs.Lists.{any-here, any-later, any-end}
+use Rattle.region_graph.specs.Lists.{exists, member}
+use Rattle.region_graph.proofs.Lists.{exists-here, exists-later, exists-end}
 use Rattle.region_listing.proofs.collection.is_in.Statement.{statement}
 use Rattle.region_listing.proofs.collection.is_in.Tie as tie
 
 abbrev Inv-loop : tie.InvT-loop
-Inv-loop list number i₀ i = (i ≤ length list) × (member number list ≡ any (eqb number) (drop i list))
+Inv-loop list number i₀ i = (i ≤ length list) × (member number list ≡ exists (eqb number) (drop i list))
 
 abbrev μ-loop : tie.MeasureT-loop
 μ-loop list number i₀ i = length list - i
@@ -19,32 +19,20 @@ abbrev μ-loop : tie.MeasureT-loop
 loop-holds : tie.Need-loop-holds Inv-loop μ-loop
 loop-holds c = (omega arith, refl)
 
-mul-if1 : tie.Need-mul-if1 Inv-loop μ-loop
-mul-if1 c = search needs
-
-shared-slice-read-if1 : tie.Need-shared-slice-read-if1 Inv-loop μ-loop
-shared-slice-read-if1 c = search needs
-
 returns : tie.Need-returns Inv-loop μ-loop
 returns c =
     let l = c .before .before .before .loop in
     let s = c .before .before .before .before .args in
-    any-here (eqb (s .number)) (s .list .now) (l .i) 0 (omega arith) (l .inv .1) (eq-eqb _ _ (sym (c .if1 .taken)))
-
-add-i : tie.Need-add-i Inv-loop μ-loop
-add-i c = search needs
-
-loop-less : tie.Need-loop-less Inv-loop μ-loop
-loop-less c = search needs
+    exists-here (eqb (s .number)) (s .list .now) (l .i) 0 (omega arith) (l .inv .1) (eq-eqb _ _ (sym (c .if1 .taken)))
 
 loop-again : tie.Need-loop-again Inv-loop μ-loop
 loop-again c =
     let l = c .before .before .before .loop in
     let s = c .before .before .before .before .args in
-    (omega arith, any-later (eqb (s .number)) (s .list .now) (l .i) 0 (omega arith) (l .inv .1) (ne-eqb _ _ (λ e. c .if1 .left (sym e))))
+    (omega arith, exists-later (eqb (s .number)) (s .list .now) (l .i) 0 (omega arith) (l .inv .1) (ne-eqb _ _ (λ e. c .if1 .left (sym e))))
 
 returns-2 : tie.Need-returns-2 Inv-loop μ-loop
-returns-2 c = any-end (eqb (c .before .before .args .number)) (c .before .before .args .list .now) (c .before .loop .i) (c .before .loop .inv .1) (omega arith)
+returns-2 c = exists-end (eqb (c .before .before .args .number)) (c .before .before .args .list .now) (c .before .loop .i) (c .before .loop .inv .1) (omega arith)
 
 pub is-in-spec : {M : Type 1} → statement M
 is-in-spec =
@@ -53,10 +41,10 @@ is-in-spec =
     Inv-loop
     μ-loop
     loop-holds
-    mul-if1
-    shared-slice-read-if1
+    (λ c. search needs)
+    (λ c. search needs)
     returns
-    add-i
-    loop-less
+    (λ c. search needs)
+    (λ c. search needs)
     loop-again
     returns-2)

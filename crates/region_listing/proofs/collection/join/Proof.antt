@@ -28,23 +28,11 @@ loop-holds c =
       record { size = p .0 .size; few = p .0 .count; room = p .1 .1; inside = omega arith; those = refl },
     )
 
-mul-number : tie.Need-mul-number Inv-loop μ-loop
-mul-number c = search needs
-
-element-copy-out-number : tie.Need-element-copy-out-number Inv-loop μ-loop
-element-copy-out-number c = search needs
-
-add-i : tie.Need-add-i Inv-loop μ-loop
-add-i c = search needs
-
 array-share-prefix-items : tie.Need-array-share-prefix-items Inv-loop μ-loop
 array-share-prefix-items c = let j = c .before .before .loop .inv .1 in omega (arith, j .size, j .few)
 
 slice-aggregate-is-in : tie.Need-slice-aggregate-is-in Inv-loop μ-loop
 slice-aggregate-is-in c = let l = c .before .before .before .loop in sym (length-take-le (l .n) (l .items) (omega (arith, l .inv .1 .size, l .inv .1 .few)))
-
-is-in-requires : tie.Need-is-in-requires Inv-loop μ-loop
-is-in-requires c κs = search needs
 
 mul-items : tie.Need-mul-items Inv-loop μ-loop
 mul-items c = let l = c .before .before .before .before .before .loop in omega (arith, l .inv .1 .few)
@@ -55,9 +43,6 @@ array-write-items c = let l = c .before .before .before .before .before .loop in
 add-n : tie.Need-add-n Inv-loop μ-loop
 add-n c = let l = c .before .before .before .before .before .loop in omega (arith, l .inv .1 .few)
 
-loop-less : tie.Need-loop-less Inv-loop μ-loop
-loop-less c = search needs
-
 loop-again : tie.Need-loop-again Inv-loop μ-loop
 unfolding numbers-in provided-of
 loop-again c =
@@ -67,9 +52,6 @@ loop-again c =
       joining-took (l .inv .1) (omega (arith, l .inv .0)) (sym (getD-take (s .count) (s .items) (l .i) 0 (omega arith)))
           (sym (c .before .is-in .ensures) ∙ not-true _ (c .if1 .taken)),
     )
-
-loop-less-2 : tie.Need-loop-less-2 Inv-loop μ-loop
-loop-less-2 c = search needs
 
 loop-again-2 : tie.Need-loop-again-2 Inv-loop μ-loop
 unfolding numbers-in provided-of
@@ -96,17 +78,17 @@ join-spec =
     Inv-loop
     μ-loop
     loop-holds
-    mul-number
-    element-copy-out-number
-    add-i
+    (λ c. search needs)
+    (λ c. search needs)
+    (λ c. search needs)
     array-share-prefix-items
     slice-aggregate-is-in
-    is-in-requires
+    (λ c κs. search needs)
     mul-items
     array-write-items
     add-n
-    loop-less
+    (λ c. search needs)
     loop-again
-    loop-less-2
+    (λ c. search needs)
     loop-again-2
     returns)

@@ -6,18 +6,6 @@ use Rattle.region_graph.proofs.Storing.{packages-stored, services-stored}
 use Rattle.region_listing.proofs.collection.provided_by.Statement.{statement}
 use Rattle.region_listing.proofs.collection.provided_by.Tie as tie
 
-enum-told : tie.Need-enum-told
-enum-told c = search needs
-
-array-write-items : tie.Need-array-write-items
-array-write-items c = search needs
-
-enum-told-2 : tie.Need-enum-told-2
-enum-told-2 c = search needs
-
-enum-told-3 : tie.Need-enum-told-3
-enum-told-3 c = search needs
-
 returns : tie.Need-returns
 unfolding provided-of store-provided
 returns c = rw (c .enum-told .given .1) (record { stored = refl; good = omega arith }, refl)
@@ -35,4 +23,4 @@ returns-3 c =
 pub provided-by-spec : {M : Type 1} → statement M
 provided-by-spec =
     tie.close
-    (tie.spec enum-told array-write-items enum-told-2 enum-told-3 returns returns-2 returns-3)
+    (tie.spec (λ c. search needs) (λ c. search needs) (λ c. search needs) (λ c. search needs) returns returns-2 returns-3)

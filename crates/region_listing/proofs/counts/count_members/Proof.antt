@@ -17,7 +17,7 @@ turn : (c : tie.After-difference Inv-loop μ-loop)
     → Taken (c .before .before .before .before .loop .left) (c .before .before .lowest .result) (c .difference .result)
 turn c =
     let a = c .before .before .before .before .loop .inv .1 in
-    taken (a .inside) (a .word) (above-none _ (c .before .before .before .loop-test .taken)) (c .before .before .lowest .ensures) (c .before .one .ensures)
+    taken (a .inside) (a .word) (above-none _ (c .before .before .before .loop-test .taken)) (c .before .before .lowest .ensures) (c .before .singleton .ensures)
     (c .difference .ensures)
 
 loop-holds : tie.Need-loop-holds Inv-loop μ-loop

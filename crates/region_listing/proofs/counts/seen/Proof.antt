@@ -35,7 +35,7 @@ count-members-requires : tie.Need-count-members-requires Inv-loop μ-loop
 count-members-requires c κs =
     let v = c .before .before .loop .inv in (
       tally-fits (v .3) (omega (arith, v .1, v .2)),
-      subst (λ (x : ℕ). x < 2 ^ regions) (sym (c .seers .ensures)) (set-below-lt regions _),
+      subst (λ (x : ℕ). x < 2 ^ regions) (sym (c .regions-seeing .ensures)) (set-below-lt regions _),
     )
 
 loop-again : tie.Need-loop-again Inv-loop μ-loop
@@ -47,7 +47,7 @@ loop-again c =
       v .1,
       v .2,
       tally-more (v .3) (omega (arith, v .2)) (sym (getD-take (d .count) (d .items) (l .i) 0 (omega arith)))
-          (c .before .seers .ensures) (c .count-members .ensures),
+          (c .before .regions-seeing .ensures) (c .count-members .ensures),
     )
 
 returns : tie.Need-returns Inv-loop μ-loop

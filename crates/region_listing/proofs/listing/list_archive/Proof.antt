@@ -8,25 +8,10 @@ use Rattle.region_listing.proofs.ListingLaws.{text-stored, refused-text
 use Rattle.region_listing.proofs.listing.list_archive.Statement.{statement}
 use Rattle.region_listing.proofs.listing.list_archive.Tie as tie
 
-read-requires : tie.Need-read-requires
-read-requires c κs = search needs
-
-blank-requires : tie.Need-blank-requires
-blank-requires c κs = search needs
-
-slice-aggregate-put-refusal : tie.Need-slice-aggregate-put-refusal
-slice-aggregate-put-refusal c = search needs
-
-put-refusal-requires : tie.Need-put-refusal-requires
-put-refusal-requires c κs = search needs
-
 returns : tie.Need-returns
 returns c =
     λ f. text-stored (c .before .before .before .before .before .blank .ensures) (c .before .put-refusal .ensures)
     ∙ ap store-text (refused-text f (c .before .before .before .before .before .before .read .ensures .says f .number) (λ z. omega (arith, z, c .before .before .before .if1 .taken)))
-
-slice-aggregate-put-listing : tie.Need-slice-aggregate-put-listing
-slice-aggregate-put-listing c = search needs
 
 put-listing-requires : tie.Need-put-listing-requires
 put-listing-requires c κs =
@@ -41,11 +26,11 @@ pub list-archive-spec : {M : Type 1} → statement M
 list-archive-spec =
     tie.close
     (tie.spec
-    read-requires
-    blank-requires
-    slice-aggregate-put-refusal
-    put-refusal-requires
+    (λ c κs. search needs)
+    (λ c κs. search needs)
+    (λ c. search needs)
+    (λ c κs. search needs)
     returns
-    slice-aggregate-put-listing
+    (λ c. search needs)
     put-listing-requires
     returns-2)

@@ -4,11 +4,11 @@ use native.Mathlib.Omega.{arith}
 use borrow.Author.Needs.{needs}
 use lib.ListN.{length}
 use lib.Seq.{take-all}
+use Rattle.region_graph.specs.Lists.{concat-map}
 use Rattle.region_graph.specs.Record.{meaning, bundles-of}
-use Rattle.text_lines.specs.Written.{Wrote}
+use Rattle.text_lines.specs.Written.{WrittenAt}
 use Rattle.text_lines.proofs.Writes.{wrote-none, wrote-then, wrote-is, wrote-length}
 use Rattle.text_lines.proofs.Outcomes.{put-wrote}
-use Rattle.region_archive.specs.Bytes.{each}
 use Rattle.region_listing.specs.Listing.{line, listing-text, header}
 use Rattle.region_listing.proofs.Collecting.{in-places, places-stored, places-mean, places-count, places-few}
 use Rattle.region_listing.proofs.ListingLaws.{row, Lining, lining-region, lining-room, lining-more, rows-are, header-length, lines-few, legal-inside}
@@ -24,7 +24,7 @@ abbrev μ-loop : tie.MeasureT-loop
 
 -- the header is written
 begun : (c : tie.After-put-bytes Inv-loop μ-loop)
-    → Wrote (c .before .before .before .before .before .before .before .before .before .args .buffer .now)
+    → WrittenAt (c .before .before .before .before .before .before .before .before .before .args .buffer .now)
     (c .put-bytes .last .0) 0 header (c .put-bytes .result)
 unfolding header
 begun c = put-wrote (c .put-bytes .ensures) (omega (arith, c .before .before .before .before .before .before .before .before .before .pre .1))
@@ -37,9 +37,9 @@ places-are c = places-mean (c .before .before .before .before .before .before .p
 
 rows : (c : tie.After-bundle-count Inv-loop μ-loop)
     → (let m = meaning (c .before .before .before .before .before .before .args .graph) in
-    each (row (c .before .before .before .before .seen .result) (c .before .before .before .seen2 .result) (c .before .before .seen3 .result))
+    concat-map (row (c .before .before .before .before .seen .result) (c .before .before .before .seen2 .result) (c .before .before .seen3 .result))
     (bundles-of (in-places (c .before .bundle-places .result) (c .bundle-count .result)))
-    ≡ each (line m) (m .bundles))
+    ≡ concat-map (line m) (m .bundles))
 rows c =
     let s = c .before .before .before .before .before .before in
     rows-are (meaning (s .args .graph)) (c .before .before .before .before .seen .ensures) (c .before .before .before .seen2 .ensures)
@@ -90,7 +90,7 @@ returns c =
     let n = w .before .before .before in
     let bs = bundles-of (in-places (n .before .bundle-places .result) (n .bundle-count .result)) in
     let f = row (n .before .before .before .before .seen .result) (n .before .before .before .seen2 .result) (n .before .before .seen3 .result) in
-    wrote-then (begun w) (wrote-is (ap (each f) (take-all (l .i) bs (omega (arith, places-count (l .inv .stored)))) ∙ rows n) (l .inv .wrote))
+    wrote-then (begun w) (wrote-is (ap (concat-map f) (take-all (l .i) bs (omega (arith, places-count (l .inv .stored)))) ∙ rows n) (l .inv .wrote))
 
 pub put-listing-spec : {M : Type 1} → statement M
 put-listing-spec =

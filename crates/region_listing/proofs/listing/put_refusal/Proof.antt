@@ -1,6 +1,6 @@
 use borrow.Author.Needs.{needs}
 use native.Mathlib.Omega.{arith}
-use Rattle.text_lines.specs.Decimal.{field, newline}
+use Rattle.text_lines.specs.Decimal.{decimal-field, newline}
 use Rattle.text_lines.proofs.Outcomes.{put-wrote, puts}
 use Rattle.region_listing.specs.Listing.{refusal-text, refused-word}
 use Rattle.region_listing.proofs.ListingLaws.{refusal-fits}
@@ -12,7 +12,7 @@ unfolding refusal-text refused-word
 returns c =
     let w = c .before .before .before .before .before .before in
     let s = w .before .before .before .before in
-    puts refused-word (field (s .args .number) newline) (w .put-bytes .ensures) (put-wrote (c .before .before .put-field .ensures))
+    puts refused-word (decimal-field (s .args .number) newline) (w .put-bytes .ensures) (put-wrote (c .before .before .put-field .ensures))
     (omega (arith, s .pre, refusal-fits (s .args .number)))
 
 pub put-refusal-spec : {M : Type 1} → statement M

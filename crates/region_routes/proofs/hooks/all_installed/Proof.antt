@@ -3,7 +3,7 @@ use Prim.Native.Nat.{_-_, _≤_}
 use native.Mathlib.Omega.{arith}
 use borrow.Author.Needs.{needs}
 use lib.ListN.{length, getD, drop}
-use Rattle.region_routes.specs.Hooks.{installed}
+use Rattle.region_routes.specs.Hooks.{is-installed}
 use Rattle.region_routes.specs.Tables.{place-at, all-placed}
 use Rattle.region_routes.proofs.Keeping.{placed-stop, placed-later, placed-end}
 use Rattle.region_routes.proofs.hooks.all_installed.Statement.{statement}
@@ -34,7 +34,7 @@ returns c =
     let a = c .before .before .before .before .before .before in
     let s = c .before .before .before .before .before .before .before .before .before .before in
     placed-stop (place-at (s .args .bundles .now)) (s .args .listeners .now) (a .loop .i) (omega arith) (a .loop .inv .1)
-    (ap installed (place (c .before .before) ∙ c .enum-told .given .1))
+    (ap is-installed (place (c .before .before) ∙ c .enum-told .given .1))
 
 loop-again : tie.Need-loop-again Inv-loop μ-loop
 loop-again c =
@@ -42,7 +42,7 @@ loop-again c =
     let s = c .before .before .before .before .before .before .before .before .before .before in (
       omega arith,
       placed-later (place-at (s .args .bundles .now)) (s .args .listeners .now) (a .loop .i) (omega arith) (a .loop .inv .1)
-          (ap installed (place (c .before .before) ∙ c .enum-told2 .given .1)),
+          (ap is-installed (place (c .before .before) ∙ c .enum-told2 .given .1)),
     )
 
 returns-2 : tie.Need-returns-2 Inv-loop μ-loop

@@ -7,7 +7,7 @@ use Rattle.region_graph.specs.Sets.{set-of}
 use Rattle.region_graph.specs.Record.{meaning}
 use Rattle.region_routes.specs.Chosen.{sees}
 use Rattle.region_routes.specs.Hooks.{item, kind-number, kept-outcome, all-installed}
-use Rattle.region_routes.proofs.Entries.{holding-long, holding-few, place-table, placed-installed}
+use Rattle.region_routes.proofs.TableLaws.{holding-long, holding-few, place-table, placed-installed}
 use Rattle.region_routes.proofs.Judging.{keep-stands}
 use Rattle.region_routes.proofs.Answering.{event-outside, event-cramped, event-answers}
 use Rattle.region_routes.proofs.hooks.event.Statement.{statement}
@@ -58,7 +58,7 @@ returns-3 c =
     (c .before .before .keep-standing .ensures
     ∙ ap (λ (ls : List ℕ). kept-outcome ls (s .args .out .now))
     (keep-stands m (item (kind-number (s .args .kind)) n) (s .pre .good)
-    (d .seers .ensures ∙ ap (λ (k : ℕ). set-of (sees m (item k n))) (d .before .kind-number .ensures))
+    (d .regions-seeing .ensures ∙ ap (λ (k : ℕ). set-of (sees m (item k n))) (d .before .kind-number .ensures))
     (place-table (s .pre .good) (b .offers .ensures .table)) (s .args .listeners .now)))
 
 pub event-spec : {M : Type 1} → statement M

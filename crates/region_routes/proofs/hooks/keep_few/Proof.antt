@@ -28,13 +28,13 @@ tested c e =
     let a = c .before .before .before .before in
     let s = a .before .before .before .before in
     has-by (sees (meaning (s .args .graph)) (item (a .before .kind-number .result) (getD (s .args .candidates .now) (a .loop .i) 0))) (s .args .region)
-    (c .before .seers .ensures) (s .pre .1 .0) (sym (c .has .ensures) ∙ e)
+    (c .before .regions-seeing .ensures) (s .pre .1 .0) (sym (c .has .ensures) ∙ e)
 
 loop-holds : tie.Need-loop-holds Inv-loop μ-loop
 loop-holds c = keeping-start (c .before .before .before .pre .1 .1)
 
-seers-requires : tie.Need-seers-requires Inv-loop μ-loop
-seers-requires c κs = c .before .before .before .before .before .before .pre .0
+regions-seeing-requires : tie.Need-regions-seeing-requires Inv-loop μ-loop
+regions-seeing-requires c κs = c .before .before .before .before .before .before .pre .0
 
 loop-again : tie.Need-loop-again Inv-loop μ-loop
 loop-again c = keeping-took (c .before .before .before .before .before .loop .inv) (omega arith) (tested (c .before) (c .if1 .taken))
@@ -65,7 +65,7 @@ keep-few-spec =
     (λ c. search needs)
     (λ c. search needs)
     (λ c. search needs)
-    seers-requires
+    regions-seeing-requires
     (λ c κs. search needs)
     (λ c. search needs)
     (λ c. search needs)

@@ -8,7 +8,7 @@ use Rattle.region_graph.specs.Model.{Model}
 use Rattle.region_routes.specs.Chosen.{sees}
 use Rattle.region_routes.specs.Hooks.{item}
 use Rattle.region_routes.specs.Tables.{Tables}
-use Rattle.region_routes.proofs.Entries.{led-none}
+use Rattle.region_routes.proofs.TableLaws.{led-none}
 use Rattle.region_routes.proofs.Keeping.{Keeping, keeping-start, keeping-took, keeping-left, keeping-end, has-by}
 use Rattle.region_routes.proofs.hooks.keep_seen.Statement.{statement}
 use Rattle.region_routes.proofs.hooks.keep_seen.Tie as tie
@@ -29,7 +29,7 @@ tested : (c : tie.After-has Inv-loop μ-loop) {b : Bool} → c .has .result ≡ 
 tested c e m k t =
     let a = c .before .before .before .before .before .before in
     let s = a .before .before .before .before .before .before .before .before .before in
-    has-by (sees m (item k (getD (s .args .candidates .now) (a .loop .i) 0))) (s .args .region) (c .before .seers-by .ensures m k t) (s .pre .1 .0)
+    has-by (sees m (item k (getD (s .args .candidates .now) (a .loop .i) 0))) (s .args .region) (c .before .regions-seeing-by .ensures m k t) (s .pre .1 .0)
     (sym (c .has .ensures) ∙ e)
 
 chained-requires : tie.Need-chained-requires Inv-loop μ-loop
@@ -46,8 +46,8 @@ loop-holds c =
     let s = c .before .before .before .before .before .before .before .before in
     (omega arith, s .pre .1 .1, omega arith, refl, λ m k t. keeping-start (s .pre .1 .1))
 
-seers-by-requires : tie.Need-seers-by-requires Inv-loop μ-loop
-seers-by-requires c κs =
+regions-seeing-by-requires : tie.Need-regions-seeing-by-requires Inv-loop μ-loop
+regions-seeing-by-requires c κs =
     let a = c .before .before .before .before .before in
     (a .before .before .before .chained .ensures, (a .before .before .chained2 .ensures, a .predecessors .ensures (λ r s. false) led-none))
 
@@ -93,7 +93,7 @@ keep-seen-spec =
     (λ c. search needs)
     (λ c. search needs)
     (λ c. search needs)
-    seers-by-requires
+    regions-seeing-by-requires
     (λ c κs. search needs)
     (λ c. search needs)
     (λ c. search needs)

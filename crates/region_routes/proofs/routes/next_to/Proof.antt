@@ -30,7 +30,7 @@ turn : (c : tie.After-difference Inv-loop μ-loop)
 turn c =
     let a = c .before .before .before .before .before .before .before in
     taken (λ n h. a .before .before .pre .1 .small n (a .loop .inv .within n h)) (a .loop .inv .word) (above-none _ (c .before .before .before .before .before .before .loop-test .taken))
-    (c .before .before .before .before .before .lowest .ensures) (c .before .one .ensures) (c .difference .ensures)
+    (c .before .before .before .before .before .lowest .ensures) (c .before .singleton .ensures) (c .difference .ensures)
 
 loop-holds : tie.Need-loop-holds Inv-loop μ-loop
 loop-holds c = looking (search needs)
@@ -54,8 +54,8 @@ returns : tie.Need-returns Inv-loop μ-loop
 returns c =
     next-here (c .before .before .before .before .before .loop .inv) (c .before .before .before .lowest .ensures) (inside (c .before .before .before)) (has-in _ _ (sym (c .before .has .ensures) ∙ c .if1 .taken))
 
-one-requires : tie.Need-one-requires Inv-loop μ-loop
-one-requires c κs = tt
+singleton-requires : tie.Need-singleton-requires Inv-loop μ-loop
+singleton-requires c κs = tt
 
 difference-requires : tie.Need-difference-requires Inv-loop μ-loop
 difference-requires c κs = tt
@@ -83,7 +83,7 @@ next-to-spec =
     shared-slice-read-has
     has-requires
     returns
-    one-requires
+    singleton-requires
     difference-requires
     loop-less
     loop-again

@@ -22,15 +22,6 @@ place c = sym (c .before .before .before .region-of .ensures) ∙ c .before .pla
 inside : (c : tie.After-known-told) → c .before .place .given .0 .0 < regions
 inside c = region-inside (meaning (c .before .before .before .before .before .args .graph)) (c .before .before .before .before .before .pre .good) (c .before .before .before .before .before .args .location) (place c)
 
-region-of-requires : tie.Need-region-of-requires
-region-of-requires c κs = search needs
-
-enum-known-place : tie.Need-enum-known-place
-enum-known-place c = search needs
-
-enum-told : tie.Need-enum-told
-enum-told c = search needs
-
 returns : tie.Need-returns
 returns c =
     let s = c .before .before .before .before in
@@ -45,12 +36,6 @@ returns-3 : tie.Need-returns-3
 returns-3 c =
     let s = c .before .before .before .before .before .before .before in
     route-cramped (meaning (s .args .graph)) (s .args .location) (s .args .kind) (s .args .number) (s .args .out .now) (place (c .before .before)) (c .before .if1 .left) (c .if2 .taken)
-
-search-for-requires : tie.Need-search-for-requires
-search-for-requires c κs = search needs
-
-has-requires : tie.Need-has-requires
-has-requires c κs = search needs
 
 returns-4 : tie.Need-returns-4
 returns-4 c =
@@ -67,9 +52,6 @@ distance-requires c κs =
     reached-layer (meaning (s .args .graph)) (item (s .args .kind) (s .args .number)) (s .pre .good) (c .before .before .before .before .search-for .ensures .1) (c .before .before .before .before .before .before .before .before .place .given .0 .0) (inside (c .before .before .before .before .before .before .before))
     (sym (c .before .has .ensures) ∙ not-false _ (c .if3 .left))
 
-slice-aggregate-walk : tie.Need-slice-aggregate-walk
-slice-aggregate-walk c = search needs
-
 walk-requires : tie.Need-walk-requires
 walk-requires c κs =
     let s = c .before .before .before .before .before .before .before .before .before .before .before .before .before .before .before in
@@ -79,9 +61,6 @@ walk-requires c κs =
       (ap length (e .0) ∙ predecessors-sets m i .long, c .before .before .before .before .before .before .before .before .if2 .left),
       rw (e .0) (walkable m i (s .pre .good) (e .1) (c .before .before .before .before .before .before .before .before .before .before .before .place .given .0 .0) (inside (c .before .before .before .before .before .before .before .before .before .before)) (c .before .before .distance .ensures)),
     )
-
-same-length : tie.Need-same-length
-same-length c = search needs
 
 returns-5 : tie.Need-returns-5
 returns-5 c =
@@ -96,17 +75,17 @@ pub route-spec : {M : Type 1} → statement M
 route-spec =
     tie.close
     (tie.spec
-    region-of-requires
-    enum-known-place
-    enum-told
+    (λ c κs. search needs)
+    (λ c. search needs)
+    (λ c. search needs)
     returns
     returns-2
     returns-3
-    search-for-requires
-    has-requires
+    (λ c κs. search needs)
+    (λ c κs. search needs)
     returns-4
     distance-requires
-    slice-aggregate-walk
+    (λ c. search needs)
     walk-requires
-    same-length
+    (λ c. search needs)
     returns-5)

@@ -21,35 +21,14 @@ low c = next-low (c .before .before .before .before .before .before .pre .1) (c 
 cast-out : tie.Need-cast-out Inv-loop μ-loop
 cast-out c = let w = c .before .before .before .pre .1 in omega (arith, w .small _ _ (search needs) (w .here))
 
-slice-write-out : tie.Need-slice-write-out Inv-loop μ-loop
-slice-write-out c = search needs
-
 loop-holds : tie.Need-loop-holds Inv-loop μ-loop
 loop-holds c = let s = c .before .before .before in stored (s .pre .1) (s .args .out .now) (search needs)
-
-sub-d : tie.Need-sub-d Inv-loop μ-loop
-sub-d c = search needs
-
-mul-next-to : tie.Need-mul-next-to Inv-loop μ-loop
-mul-next-to c = search needs
-
-array-read-next-to : tie.Need-array-read-next-to Inv-loop μ-loop
-array-read-next-to c = search needs
 
 next-to-requires : tie.Need-next-to-requires Inv-loop μ-loop
 next-to-requires c κs = let s = c .before .before .before .before .before in (s .pre .0 .0, leading (s .pre .1) (c .before .loop .inv) (search needs))
 
-add-i : tie.Need-add-i Inv-loop μ-loop
-add-i c = search needs
-
 cast-out-2 : tie.Need-cast-out-2 Inv-loop μ-loop
 cast-out-2 c = omega (arith, low c)
-
-slice-write-out-2 : tie.Need-slice-write-out-2 Inv-loop μ-loop
-slice-write-out-2 c = search needs
-
-loop-less : tie.Need-loop-less Inv-loop μ-loop
-loop-less c = search needs
 
 loop-again : tie.Need-loop-again Inv-loop μ-loop
 loop-again c = onward (c .before .before .before .before .before .before .pre .1) (c .before .before .loop .inv) (search needs) (c .next-to .ensures)
@@ -67,16 +46,16 @@ walk-spec =
     Inv-loop
     μ-loop
     cast-out
-    slice-write-out
+    (λ c. search needs)
     loop-holds
-    sub-d
-    mul-next-to
-    array-read-next-to
+    (λ c. search needs)
+    (λ c. search needs)
+    (λ c. search needs)
     next-to-requires
-    add-i
+    (λ c. search needs)
     cast-out-2
-    slice-write-out-2
-    loop-less
+    (λ c. search needs)
+    (λ c. search needs)
     loop-again
     same-length
     returns)

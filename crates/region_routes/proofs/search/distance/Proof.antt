@@ -24,12 +24,6 @@ passed c = has-not _ _ (c .before .before .before .before .before .pre .inside) 
 loop-holds : tie.Need-loop-holds Inv-loop μ-loop
 loop-holds c = let r = c .pre .some-layer in (r .0, search needs, r .1, r .2)
 
-mul-set : tie.Need-mul-set Inv-loop μ-loop
-mul-set c = search needs
-
-element-copy-out-set : tie.Need-element-copy-out-set Inv-loop μ-loop
-element-copy-out-set c = search needs
-
 has-requires : tie.Need-has-requires Inv-loop μ-loop
 has-requires c κs = tt
 
@@ -37,12 +31,6 @@ returns : tie.Need-returns Inv-loop μ-loop
 returns c =
     let v = c .before .before .before .before .loop .inv in
     record { within = omega (arith, v .1, v .2); here = has-in _ _ (sym (c .before .has .ensures) ∙ c .if1 .taken) }
-
-add-d : tie.Need-add-d Inv-loop μ-loop
-add-d c = search needs
-
-loop-less : tie.Need-loop-less Inv-loop μ-loop
-loop-less c = search needs
 
 loop-again : tie.Need-loop-again Inv-loop μ-loop
 loop-again c =
@@ -60,11 +48,11 @@ distance-spec =
     Inv-loop
     μ-loop
     loop-holds
-    mul-set
-    element-copy-out-set
+    (λ c. search needs)
+    (λ c. search needs)
     has-requires
     returns
-    add-d
-    loop-less
+    (λ c. search needs)
+    (λ c. search needs)
     loop-again
     returns-2)

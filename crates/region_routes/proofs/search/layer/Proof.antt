@@ -18,7 +18,7 @@ turn : (c : tie.After-difference Inv-loop μ-loop)
 turn c =
     let a = c .before .before .before .before in
     taken (λ n h. a .before .before .pre .1 n (a .loop .inv .within n h)) (a .loop .inv .word) (above-none _ (c .before .before .before .loop-test .taken))
-    (c .before .before .lowest .ensures) (c .before .one .ensures) (c .difference .ensures)
+    (c .before .before .lowest .ensures) (c .before .singleton .ensures) (c .difference .ensures)
 
 loop-holds : tie.Need-loop-holds Inv-loop μ-loop
 loop-holds c = start (search needs)
@@ -26,8 +26,8 @@ loop-holds c = start (search needs)
 lowest-requires : tie.Need-lowest-requires Inv-loop μ-loop
 lowest-requires c κs = tt
 
-one-requires : tie.Need-one-requires Inv-loop μ-loop
-one-requires c κs = tt
+singleton-requires : tie.Need-singleton-requires Inv-loop μ-loop
+singleton-requires c κs = tt
 
 difference-requires : tie.Need-difference-requires Inv-loop μ-loop
 difference-requires c κs = tt
@@ -63,7 +63,7 @@ layer-spec =
     μ-loop
     loop-holds
     lowest-requires
-    one-requires
+    singleton-requires
     difference-requires
     cast-at
     mul-next

@@ -19,9 +19,6 @@ abbrev μ-loop : tie.MeasureT-loop
 fits : (c : tie.Else1 Inv-loop μ-loop) → suc (c .before .before .loop .deep) < regions
 fits c = room (c .before .before .loop .inv) (c .before .layer .ensures) (omega arith)
 
-array-write-sets : tie.Need-array-write-sets Inv-loop μ-loop
-array-write-sets c = search needs
-
 loop-holds : tie.Need-loop-holds Inv-loop μ-loop
 loop-holds c = begin (search needs) refl refl
 
@@ -30,9 +27,6 @@ layer-requires c κs = (c .before .before .pre .0, last-regions (c .loop .inv))
 
 returns : tie.Need-returns Inv-loop μ-loop
 returns c = whole (c .before .before .loop .inv) (c .before .layer .ensures) (c .if1 .taken)
-
-add-deep : tie.Need-add-deep Inv-loop μ-loop
-add-deep c = search needs
 
 mul-sets : tie.Need-mul-sets Inv-loop μ-loop
 mul-sets c = omega (arith, fits c)
@@ -52,11 +46,11 @@ search-spec =
     (tie.spec
     Inv-loop
     μ-loop
-    array-write-sets
+    (λ c. search needs)
     loop-holds
     layer-requires
     returns
-    add-deep
+    (λ c. search needs)
     mul-sets
     array-write-sets-2
     loop-less

@@ -7,15 +7,6 @@ use Rattle.region_routes.proofs.Judging.{predecessors-sets}
 use Rattle.region_routes.proofs.search.search_for.Statement.{statement}
 use Rattle.region_routes.proofs.search.search_for.Tie as tie
 
-predecessors-requires : tie.Need-predecessors-requires
-predecessors-requires c κs = search needs
-
-holders-requires : tie.Need-holders-requires
-holders-requires c κs = search needs
-
-slice-aggregate-search : tie.Need-slice-aggregate-search
-slice-aggregate-search c = search needs
-
 search-requires : tie.Need-search-requires
 search-requires c κs =
     let s = c .before .before .before in
@@ -32,8 +23,8 @@ pub search-for-spec : {M : Type 1} → statement M
 search-for-spec =
     tie.close
     (tie.spec
-    predecessors-requires
-    holders-requires
-    slice-aggregate-search
+    (λ c κs. search needs)
+    (λ c κs. search needs)
+    (λ c. search needs)
     search-requires
     returns)

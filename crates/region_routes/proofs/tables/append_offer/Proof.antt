@@ -4,41 +4,20 @@ use Rattle.region_graph.proofs.Storing.{packages-stored, services-stored}
 use Rattle.region_routes.proofs.tables.append_offer.Statement.{statement}
 use Rattle.region_routes.proofs.tables.append_offer.Tie as tie
 
-enum-told : tie.Need-enum-told
-enum-told c = search needs
-
-wide-requires : tie.Need-wide-requires
-wide-requires c κs = search needs
-
 append-one-requires : tie.Need-append-one-requires
 append-one-requires c κs = (omega (arith, rw (c .before .before .enum-told .given .1) at (c .before .before .before .before .before .pre .1)), omega (arith, c .wide .ensures .1))
-
-enum-told-2 : tie.Need-enum-told-2
-enum-told-2 c = search needs
 
 append-provided-requires : tie.Need-append-provided-requires
 append-provided-requires c κs = (packages-stored (c .before .before .before .before .before .args .b) (c .before .before .before .before .before .pre .0), rw (c .before .before .enum-told2 .given .1) at (c .before .before .before .before .before .pre .1))
 
-enum-told-3 : tie.Need-enum-told-3
-enum-told-3 c = search needs
-
 append-provided-requires-2 : tie.Need-append-provided-requires-2
 append-provided-requires-2 c κs = (services-stored (c .before .before .before .before .before .args .b) (c .before .before .before .before .before .pre .0), rw (c .before .before .enum-told3 .given .1) at (c .before .before .before .before .before .pre .1))
-
-same-length : tie.Need-same-length
-same-length c = search needs
 
 returns : tie.Need-returns
 returns c = rw (c .before .before .before .before .before .enum-told .given .1) (rw (c .before .before .before .wide .ensures .0) at (c .before .before .append-one .ensures))
 
-same-length-2 : tie.Need-same-length-2
-same-length-2 c = search needs
-
 returns-2 : tie.Need-returns-2
 returns-2 c = rw (c .before .before .before .before .before .enum-told2 .given .1) (c .before .before .append-provided .ensures)
-
-same-length-3 : tie.Need-same-length-3
-same-length-3 c = search needs
 
 returns-3 : tie.Need-returns-3
 returns-3 c = rw (c .before .before .before .before .before .enum-told3 .given .1) (c .before .before .append-provided2 .ensures)
@@ -47,16 +26,16 @@ pub append-offer-spec : {M : Type 1} → statement M
 append-offer-spec =
     tie.close
     (tie.spec
-    enum-told
-    wide-requires
+    (λ c. search needs)
+    (λ c κs. search needs)
     append-one-requires
-    enum-told-2
+    (λ c. search needs)
     append-provided-requires
-    enum-told-3
+    (λ c. search needs)
     append-provided-requires-2
-    same-length
+    (λ c. search needs)
     returns
-    same-length-2
+    (λ c. search needs)
     returns-2
-    same-length-3
+    (λ c. search needs)
     returns-3)

@@ -8,17 +8,11 @@ use Rattle.region_routes.proofs.tables.append_part.Tie as tie
 append-one-requires : tie.Need-append-one-requires
 append-one-requires c κs = (omega (arith, rw (eq-eqb _ _ (c .before .if1 .taken)) at (c .before .before .before .before .pre .1)), omega arith)
 
-same-length : tie.Need-same-length
-same-length c = search needs
-
 returns : tie.Need-returns
 returns c = rw (eq-eqb _ _ (c .before .before .before .before .if1 .taken)) (c .before .before .append-one .ensures)
 
 append-requires : tie.Need-append-requires
 append-requires c κs = (listed-stored (c .before .before .before .before .args .part) (c .before .before .before .before .pre .0) (c .before .if1 .left), rw (ne-eqb _ _ (c .before .if1 .left)) at (c .before .before .before .before .pre .1))
-
-same-length-2 : tie.Need-same-length-2
-same-length-2 c = search needs
 
 returns-2 : tie.Need-returns-2
 returns-2 c = rw (ne-eqb _ _ (c .before .before .before .before .if1 .left)) (c .before .before .append .ensures)
@@ -26,4 +20,4 @@ returns-2 c = rw (ne-eqb _ _ (c .before .before .before .before .if1 .left)) (c 
 pub append-part-spec : {M : Type 1} → statement M
 append-part-spec =
     tie.close
-    (tie.spec append-one-requires same-length returns append-requires same-length-2 returns-2)
+    (tie.spec append-one-requires (λ c. search needs) returns append-requires (λ c. search needs) returns-2)

@@ -9,14 +9,14 @@ use Rattle.region_graph.specs.Size.{most-provided}
 use Rattle.region_graph.specs.Record.{provided-of}
 use Rattle.region_graph.proofs.Arrays.{filled-at, filled-inside}
 use Rattle.region_graph.proofs.Storing.{provided-filled}
-use Rattle.region_routes.specs.Tables.{entry, Appended}
-use Rattle.region_routes.proofs.Entries.{appended-none, appended-room, appended-next}
+use Rattle.region_routes.specs.Tables.{packed, Appended}
+use Rattle.region_routes.proofs.TableLaws.{appended-none, appended-room, appended-next}
 use Rattle.region_routes.proofs.tables.append_provided.Statement.{statement}
 use Rattle.region_routes.proofs.tables.append_provided.Tie as tie
 
 abbrev Inv-loop : tie.InvT-loop
 Inv-loop out₀ at place list count n₀ i₀ out n i =
-    (i ≤ list .count) × (list .count ≤ most-provided) × (length out ≡ length out₀) × Appended out₀ at (map (λ x. entry x place) (take i (provided-of list))) out n
+    (i ≤ list .count) × (list .count ≤ most-provided) × (length out ≡ length out₀) × Appended out₀ at (map (λ x. packed x place) (take i (provided-of list))) out n
 
 abbrev μ-loop : tie.MeasureT-loop
 μ-loop out₀ at place list count n₀ i₀ out n i = list .count - i
@@ -25,15 +25,6 @@ loop-holds : tie.Need-loop-holds Inv-loop μ-loop
 loop-holds c =
     let s = c .before in
     (omega arith, rw (provided-filled (s .args .t3) (s .pre .0) .counted) (s .pre .0 .good), refl, appended-none)
-
-mul-wide : tie.Need-mul-wide Inv-loop μ-loop
-mul-wide c = search needs
-
-element-copy-out-wide : tie.Need-element-copy-out-wide Inv-loop μ-loop
-element-copy-out-wide c = search needs
-
-wide-requires : tie.Need-wide-requires Inv-loop μ-loop
-wide-requires c κs = search needs
 
 append-one-requires : tie.Need-append-one-requires Inv-loop μ-loop
 append-one-requires c κs =
@@ -44,12 +35,6 @@ append-one-requires c κs =
       omega (arith, c .before .wide .ensures .1),
     )
 
-add-i : tie.Need-add-i Inv-loop μ-loop
-add-i c = search needs
-
-loop-less : tie.Need-loop-less Inv-loop μ-loop
-loop-less c = search needs
-
 loop-again : tie.Need-loop-again Inv-loop μ-loop
 loop-again c =
     let a = c .before .before .before .before .before .before .before in
@@ -58,13 +43,10 @@ loop-again c =
       omega arith,
       a .loop .inv .1,
       search needs,
-      appended-next (λ x. entry x (s .args .place)) (provided-of (s .args .t3)) (a .loop .i) (filled-inside h (a .loop .i) (omega arith)) (a .loop .inv .3)
-          (ap (λ (x : ℕ). entry x (s .args .place)) (c .before .before .before .before .wide .ensures .0 ∙ filled-at h (a .loop .i) _ 0 (omega arith)))
+      appended-next (λ x. packed x (s .args .place)) (provided-of (s .args .t3)) (a .loop .i) (filled-inside h (a .loop .i) (omega arith)) (a .loop .inv .3)
+          (ap (λ (x : ℕ). packed x (s .args .place)) (c .before .before .before .before .wide .ensures .0 ∙ filled-at h (a .loop .i) _ 0 (omega arith)))
           (c .before .before .append-one .ensures),
     )
-
-same-length : tie.Need-same-length Inv-loop μ-loop
-same-length c = search needs
 
 returns : tie.Need-returns Inv-loop μ-loop
 returns c =
@@ -80,12 +62,12 @@ append-provided-spec =
     Inv-loop
     μ-loop
     loop-holds
-    mul-wide
-    element-copy-out-wide
-    wide-requires
+    (λ c. search needs)
+    (λ c. search needs)
+    (λ c κs. search needs)
     append-one-requires
-    add-i
-    loop-less
+    (λ c. search needs)
+    (λ c. search needs)
     loop-again
-    same-length
+    (λ c. search needs)
     returns)

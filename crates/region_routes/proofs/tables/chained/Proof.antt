@@ -12,9 +12,6 @@ Inv-loop table end links₀ i₀ links i = Linking table links i
 abbrev μ-loop : tie.MeasureT-loop
 μ-loop table end links₀ i₀ links i = i
 
-cast-end : tie.Need-cast-end Inv-loop μ-loop
-cast-end c = search needs
-
 loop-holds : tie.Need-loop-holds Inv-loop μ-loop
 loop-holds c = linking-start (c .before .args .table .now) (c .before .pre)
 
@@ -38,7 +35,7 @@ chained-spec =
     (tie.spec
     Inv-loop
     μ-loop
-    cast-end
+    (λ c. search needs)
     loop-holds
     (λ c. search needs)
     (λ c. search needs)

@@ -53,9 +53,9 @@ loop-again c =
     let t = s .args .table .now in
     let n = s .args .number in
     let h = c .before .before .before .before .loop-test .taken in
-    let set = bitOr (a .loop .set) (c .one .result) in
+    let set = bitOr (a .loop .set) (c .singleton .result) in
     walk-next (Named t n set) t n (skip t n set) (s .pre) (a .loop .inv) h
-    (ap₂ bitOr (a .loop .inv .done) (c .one .ensures) ∙ held-took place-in (λ e. eqb (number-in e) n) t (a .loop .i) 0 h (eq-eqb _ _ (c .before .if1 .taken)))
+    (ap₂ bitOr (a .loop .inv .done) (c .singleton .ensures) ∙ held-took place-in (λ e. eqb (number-in e) n) t (a .loop .i) 0 h (eq-eqb _ _ (c .before .if1 .taken)))
     (c .before .before .next-of .ensures)
 
 loop-less-2 : tie.Need-loop-less-2 Inv-loop μ-loop

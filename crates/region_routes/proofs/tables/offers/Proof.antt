@@ -5,20 +5,20 @@ use native.Mathlib.Omega.{arith}
 use borrow.Author.Needs.{needs}
 use lib.ListN.{length, take}
 use Rattle.region_graph.specs.Size.{most-bundles, most-provided}
-use Rattle.region_graph.specs.Lists.{All}
+use Rattle.region_graph.specs.Lists.{All, concat-map}
 use Rattle.region_graph.specs.Record.{meaning, store-bundle, bundle-in, no-bundle}
 use Rattle.region_graph.proofs.Arrays.{Filled}
 use Rattle.region_graph.proofs.Storing.{bundles-each}
 use Rattle.region_routes.specs.Hooks.{kind-number}
-use Rattle.region_routes.specs.Tables.{most-entries, gather, offer, Appended}
-use Rattle.region_routes.proofs.Entries.{appended-none, gathered-step, gathered-room, gathered-end, offers-few, bundle-placed}
+use Rattle.region_routes.specs.Tables.{most-entries, offer, Appended}
+use Rattle.region_routes.proofs.TableLaws.{appended-none, gathered-step, gathered-room, gathered-end, offers-few, bundle-placed}
 use Rattle.region_routes.proofs.tables.offers.Statement.{statement}
 use Rattle.region_routes.proofs.tables.offers.Tie as tie
 
 abbrev Inv-loop : tie.InvT-loop
 Inv-loop items₀ kind bundles count n₀ i₀ items n i =
     (i ≤ count) × (count ≤ most-bundles) × (length items ≡ most-entries)
-    × Appended items₀ 0 (gather (offer (kind-number kind)) (take i (map bundle-in (take count bundles)))) items n
+    × Appended items₀ 0 (concat-map (offer (kind-number kind)) (take i (map bundle-in (take count bundles)))) items n
 
 abbrev μ-loop : tie.MeasureT-loop
 μ-loop items₀ kind bundles count n₀ i₀ items n i = count - i

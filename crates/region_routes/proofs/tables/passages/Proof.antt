@@ -5,20 +5,20 @@ use native.Mathlib.Omega.{arith}
 use borrow.Author.Needs.{needs}
 use lib.ListN.{length, take}
 use Rattle.region_graph.specs.Size.{most-connections, most-listed}
-use Rattle.region_graph.specs.Lists.{All}
+use Rattle.region_graph.specs.Lists.{All, concat-map}
 use Rattle.region_graph.specs.Record.{meaning, store-connection, connection-in, no-connection}
 use Rattle.region_graph.proofs.Arrays.{Filled}
 use Rattle.region_graph.proofs.Storing.{connections-each, short-connections}
 use Rattle.region_routes.specs.Hooks.{kind-number}
-use Rattle.region_routes.specs.Tables.{most-entries, gather, passage, Appended}
-use Rattle.region_routes.proofs.Entries.{appended-none, gathered-step, gathered-room, gathered-end, passages-few, connection-placed, connection-ends}
+use Rattle.region_routes.specs.Tables.{most-entries, passage, Appended}
+use Rattle.region_routes.proofs.TableLaws.{appended-none, gathered-step, gathered-room, gathered-end, passages-few, connection-placed, connection-ends}
 use Rattle.region_routes.proofs.tables.passages.Statement.{statement}
 use Rattle.region_routes.proofs.tables.passages.Tie as tie
 
 abbrev Inv-loop : tie.InvT-loop
 Inv-loop items₀ kind connections count n₀ i₀ items n i =
     (i ≤ count) × (count ≤ most-connections) × (length items ≡ most-entries)
-    × Appended items₀ 0 (gather (passage (kind-number kind)) (take i (map connection-in (take count connections)))) items n
+    × Appended items₀ 0 (concat-map (passage (kind-number kind)) (take i (map connection-in (take count connections)))) items n
 
 abbrev μ-loop : tie.MeasureT-loop
 μ-loop items₀ kind connections count n₀ i₀ items n i = count - i

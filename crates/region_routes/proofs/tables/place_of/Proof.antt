@@ -9,7 +9,7 @@ use lib.Dec.{eqb}
 use lib.ListN.{length, getD, drop}
 use Rattle.region_routes.specs.Tables.{number-in, place-at}
 use Rattle.region_routes.proofs.Chaining.{Walk, walk-start, walk-past, link-inside, link-less, starts-inside}
-use Rattle.region_routes.proofs.Entries.{place-here, place-later, place-end}
+use Rattle.region_routes.proofs.TableLaws.{place-here, place-later, place-end}
 use Rattle.region_routes.proofs.tables.place_of.Statement.{statement}
 use Rattle.region_routes.proofs.tables.place_of.Tie as tie
 

@@ -11,7 +11,7 @@ use lib.ListN.{length, getD, take, set}
 use lib.Seq.{take-all}
 use Rattle.region_routes.specs.Tables.{number-in, target-in, leads-also, led-by}
 use Rattle.region_routes.proofs.Chaining.{Walk, walk-start, walk-next, walk-past, link-inside, link-less, starts-inside}
-use Rattle.region_routes.proofs.Entries.{led-entry, led-other, led-start}
+use Rattle.region_routes.proofs.TableLaws.{led-entry, led-other, led-start}
 use Rattle.region_routes.proofs.tables.predecessors.Statement.{statement}
 use Rattle.region_routes.proofs.tables.predecessors.Tie as tie
 
@@ -69,10 +69,10 @@ loop-again c =
     let g = s .args .given in
     let h = c .before .before .before .before .loop-test .taken in
     let target = target-in (getD t (a .loop .i) 0) in
-    let sets = set (a .loop .sets) target (bitOr (getD (a .loop .sets) target 0) (c .one .result)) in
+    let sets = set (a .loop .sets) target (bitOr (getD (a .loop .sets) target 0) (c .singleton .result)) in
     walk-next (Led t n g sets) t n (skip t n g sets) (s .pre) (a .loop .inv) h
     (λ leads e.
-    led-entry leads t n (a .loop .i) h (eq-eqb _ _ (c .before .if1 .taken)) (a .loop .inv .done leads e) (c .one .ensures) (array-read-sets (c .before)))
+    led-entry leads t n (a .loop .i) h (eq-eqb _ _ (c .before .if1 .taken)) (a .loop .inv .done leads e) (c .singleton .ensures) (array-read-sets (c .before)))
     (c .before .before .next-of .ensures)
 
 loop-less-2 : tie.Need-loop-less-2 Inv-loop μ-loop

@@ -5,7 +5,7 @@ use native.Mathlib.Nat.{add-zero}
 use native.Mathlib.Omega.{arith}
 use lib.ListN.{length, take}
 use lib.Seq.{take-all}
-use Rattle.text_lines.specs.Written.{Wrote}
+use Rattle.text_lines.specs.Written.{WrittenAt}
 use Rattle.text_lines.proofs.Writes.{wrote-none, wrote-length, wrote-is, wrote-next}
 use Rattle.text_lines.proofs.Outcomes.{has-place, put-none, wrote-put}
 use Rattle.text_lines.proofs.bytes.put_bytes.Statement.{statement}
@@ -13,7 +13,7 @@ use Rattle.text_lines.proofs.bytes.put_bytes.Tie as tie
 
 abbrev Inv-loop : tie.InvT-loop
 Inv-loop buffer₀ at bytes i₀ buffer i =
-    (i ≤ length bytes) × (at + length bytes ≤ length buffer₀) × Wrote buffer₀ buffer at (take i bytes) (at + i)
+    (i ≤ length bytes) × (at + length bytes ≤ length buffer₀) × WrittenAt buffer₀ buffer at (take i bytes) (at + i)
 
 abbrev μ-loop : tie.MeasureT-loop
 μ-loop buffer₀ at bytes i₀ buffer i = length bytes - i

@@ -16,9 +16,6 @@ loop-holds c = counting-start (c .args .number) (search needs)
 add-count : tie.Need-add-count Inv-loop μ-loop
 add-count c = let k = c .before .loop .inv in omega (arith, k .within)
 
-loop-less : tie.Need-loop-less Inv-loop μ-loop
-loop-less c = search needs
-
 loop-again : tie.Need-loop-again Inv-loop μ-loop
 loop-again c = counting-more (c .before .loop .inv) (omega arith)
 
@@ -27,4 +24,4 @@ returns c = counting-end (c .before .loop .inv) (omega arith)
 
 pub digits-spec : {M : Type 1} → statement M
 digits-spec =
-    tie.close (tie.spec Inv-loop μ-loop loop-holds add-count loop-less loop-again returns)
+    tie.close (tie.spec Inv-loop μ-loop loop-holds add-count (λ c. search needs) loop-again returns)

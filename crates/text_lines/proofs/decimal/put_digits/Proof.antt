@@ -4,7 +4,7 @@ use Prim.Native.Nat.{ℕ, suc, _+_, _-_, _/_, _^_, _≤_}
 use native.Mathlib.Nat.{div-one}
 use native.Mathlib.Omega.{arith}
 use Rattle.text_lines.specs.Decimal.{last-digits}
-use Rattle.text_lines.specs.Written.{Wrote}
+use Rattle.text_lines.specs.Written.{WrittenAt}
 use Rattle.text_lines.proofs.Writes.{wrote-none, wrote-length}
 use Rattle.text_lines.proofs.DecimalLaws.{digit-next, wrote-digit}
 use Rattle.text_lines.proofs.decimal.put_digits.Statement.{statement}
@@ -12,7 +12,7 @@ use Rattle.text_lines.proofs.decimal.put_digits.Tie as tie
 
 abbrev Inv-loop : tie.InvT-loop
 Inv-loop buffer₀ at width number left₀ rest₀ buffer left rest =
-    (left ≤ width) × (rest ≡ number / 10 ^ (width - left)) × Wrote buffer₀ buffer (at + left) (last-digits (width - left) number) (at + width)
+    (left ≤ width) × (rest ≡ number / 10 ^ (width - left)) × WrittenAt buffer₀ buffer (at + left) (last-digits (width - left) number) (at + width)
 
 abbrev μ-loop : tie.MeasureT-loop
 μ-loop buffer₀ at width number left₀ rest₀ buffer left rest = left

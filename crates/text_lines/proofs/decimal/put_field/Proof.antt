@@ -2,7 +2,7 @@ use borrow.Author.Needs.{needs}
 use Prim.Native.Nat.{_+_, _≤_}
 use native.Mathlib.Omega.{arith}
 use lib.ListN.{length}
-use Rattle.text_lines.specs.Decimal.{field, most-digits}
+use Rattle.text_lines.specs.Decimal.{decimal-field, most-digits}
 use Rattle.text_lines.proofs.Writes.{wrote-then, wrote-byte, wrote-length, wrote-is}
 use Rattle.text_lines.proofs.Outcomes.{has-place, put-none, wrote-put}
 use Rattle.text_lines.proofs.DecimalLaws.{count-most, decimal-is, field-size}
@@ -15,7 +15,7 @@ add-has-room c = omega (arith, c .digits .ensures, count-most most-digits (c .be
 returns : tie.Need-returns
 returns c =
     let s = c .before .before .before .before .args in
-    put-none (s .buffer .now) (s .at) (field (s .number) (s .end)) (field-size (s .number) (s .end) (c .before .before .digits .ensures))
+    put-none (s .buffer .now) (s .at) (decimal-field (s .number) (s .end)) (field-size (s .number) (s .end) (c .before .before .digits .ensures))
     (c .before .has-room .ensures) (c .if1 .taken)
 
 -- the whole text has room

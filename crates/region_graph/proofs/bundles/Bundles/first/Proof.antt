@@ -36,27 +36,12 @@ tested c e =
 loop-holds : tie.Need-loop-holds Inv-loop μ-loop
 loop-holds c = (omega arith, rw (bundles-filled (c .args .t1) (c .pre) .counted) (c .pre .good .few), omega arith)
 
-mul-b : tie.Need-mul-b Inv-loop μ-loop
-mul-b c = search needs
-
-element-copy-out-b : tie.Need-element-copy-out-b Inv-loop μ-loop
-element-copy-out-b c = search needs
-
-bundle-meets-requires : tie.Need-bundle-meets-requires Inv-loop μ-loop
-bundle-meets-requires c κs = search needs
-
 returns : tie.Need-returns Inv-loop μ-loop
 returns c =
     let a = c .before .before .before .before in
     let s = a .before in
     position-here (bundle-meets (s .args .test)) (bundles-of (s .args .t1)) (a .loop .i) no-bundle
     (filled-inside (bundles-filled (s .args .t1) (s .pre)) (a .loop .i) (omega arith)) (a .loop .inv .2) (tested (c .before) (c .if1 .taken))
-
-add-i : tie.Need-add-i Inv-loop μ-loop
-add-i c = search needs
-
-loop-less : tie.Need-loop-less Inv-loop μ-loop
-loop-less c = search needs
 
 loop-again : tie.Need-loop-again Inv-loop μ-loop
 loop-again c =
@@ -81,11 +66,11 @@ first-spec =
     Inv-loop
     μ-loop
     loop-holds
-    mul-b
-    element-copy-out-b
-    bundle-meets-requires
+    (λ c. search needs)
+    (λ c. search needs)
+    (λ c κs. search needs)
     returns
-    add-i
-    loop-less
+    (λ c. search needs)
+    (λ c. search needs)
     loop-again
     returns-2)

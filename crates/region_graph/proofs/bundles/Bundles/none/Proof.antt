@@ -4,11 +4,8 @@ use Rattle.region_graph.proofs.Storing.{filled-bundles}
 use Rattle.region_graph.proofs.bundles.Bundles.none.Statement.{statement}
 use Rattle.region_graph.proofs.bundles.Bundles.none.Tie as tie
 
-no-bundle-requires : tie.Need-no-bundle-requires
-no-bundle-requires c κs = search needs
-
 returns : tie.Need-returns
 returns c = rw (c .no-bundle .ensures) (filled-bundles filled-none)
 
 pub none-spec : {M : Type 1} → statement M
-none-spec = tie.close (tie.spec no-bundle-requires returns)
+none-spec = tie.close (tie.spec (λ c κs. search needs) returns)

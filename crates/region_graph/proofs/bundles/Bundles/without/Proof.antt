@@ -34,37 +34,10 @@ tested c e =
     ap (λ b. not (bundle-meets (s .args .test) b)) (sym (filled-means (bundles-filled (s .args .t1) (s .pre)) bundle-in (bundles-each (bundles-of (s .args .t1))) (a .loop .i) _ no-bundle (omega arith)))
     ∙ ap not (sym (c .bundle-meets .ensures)) ∙ e
 
-none-requires : tie.Need-none-requires Inv-loop μ-loop
-none-requires c κs = search needs
-
 loop-holds : tie.Need-loop-holds Inv-loop μ-loop
 loop-holds c =
     let s = c .before .before in
     (omega arith, omega arith, rw (bundles-filled (s .args .t1) (s .pre) .counted) (s .pre .good .few), no-bundles (c .before .none .ensures))
-
-mul-b : tie.Need-mul-b Inv-loop μ-loop
-mul-b c = search needs
-
-element-copy-out-b : tie.Need-element-copy-out-b Inv-loop μ-loop
-element-copy-out-b c = search needs
-
-add-i : tie.Need-add-i Inv-loop μ-loop
-add-i c = search needs
-
-bundle-meets-requires : tie.Need-bundle-meets-requires Inv-loop μ-loop
-bundle-meets-requires c κs = search needs
-
-mul-items : tie.Need-mul-items Inv-loop μ-loop
-mul-items c = search needs
-
-array-set-from-items : tie.Need-array-set-from-items Inv-loop μ-loop
-array-set-from-items c = search needs
-
-add-n : tie.Need-add-n Inv-loop μ-loop
-add-n c = search needs
-
-loop-less : tie.Need-loop-less Inv-loop μ-loop
-loop-less c = search needs
 
 loop-again : tie.Need-loop-again Inv-loop μ-loop
 loop-again c =
@@ -78,9 +51,6 @@ loop-again c =
           (filled-inside h (a .loop .i) (omega arith)) (a .loop .inv .3) (omega arith) (filled-at h (a .loop .i) _ no-bundle (omega arith))
           (tested (c .before) (c .if1 .taken)),
     )
-
-loop-less-2 : tie.Need-loop-less-2 Inv-loop μ-loop
-loop-less-2 c = search needs
 
 loop-again-2 : tie.Need-loop-again-2 Inv-loop μ-loop
 loop-again-2 c =
@@ -107,17 +77,17 @@ without-spec =
     (tie.spec
     Inv-loop
     μ-loop
-    none-requires
+    (λ c κs. search needs)
     loop-holds
-    mul-b
-    element-copy-out-b
-    add-i
-    bundle-meets-requires
-    mul-items
-    array-set-from-items
-    add-n
-    loop-less
+    (λ c. search needs)
+    (λ c. search needs)
+    (λ c. search needs)
+    (λ c κs. search needs)
+    (λ c. search needs)
+    (λ c. search needs)
+    (λ c. search needs)
+    (λ c. search needs)
     loop-again
-    loop-less-2
+    (λ c. search needs)
     loop-again-2
     returns)

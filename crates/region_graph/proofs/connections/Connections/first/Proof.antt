@@ -36,12 +36,6 @@ tested c e =
 loop-holds : tie.Need-loop-holds Inv-loop μ-loop
 loop-holds c = (omega arith, rw (connections-filled (c .args .t1) (c .pre) .counted) (c .pre .good .few), omega arith)
 
-mul-c : tie.Need-mul-c Inv-loop μ-loop
-mul-c c = search needs
-
-element-copy-out-c : tie.Need-element-copy-out-c Inv-loop μ-loop
-element-copy-out-c c = search needs
-
 connection-meets-requires : tie.Need-connection-meets-requires Inv-loop μ-loop
 connection-meets-requires c κs =
     let a = c .before .before in
@@ -54,12 +48,6 @@ returns c =
     let s = a .before in
     position-here (connection-meets (s .args .test)) (connections-of (s .args .t1)) (a .loop .i) no-connection
     (filled-inside (connections-filled (s .args .t1) (s .pre)) (a .loop .i) (omega arith)) (a .loop .inv .2) (tested (c .before) (c .if1 .taken))
-
-add-i : tie.Need-add-i Inv-loop μ-loop
-add-i c = search needs
-
-loop-less : tie.Need-loop-less Inv-loop μ-loop
-loop-less c = search needs
 
 loop-again : tie.Need-loop-again Inv-loop μ-loop
 loop-again c =
@@ -84,11 +72,11 @@ first-spec =
     Inv-loop
     μ-loop
     loop-holds
-    mul-c
-    element-copy-out-c
+    (λ c. search needs)
+    (λ c. search needs)
     connection-meets-requires
     returns
-    add-i
-    loop-less
+    (λ c. search needs)
+    (λ c. search needs)
     loop-again
     returns-2)

@@ -4,11 +4,8 @@ use Rattle.region_graph.proofs.Storing.{filled-connections}
 use Rattle.region_graph.proofs.connections.Connections.none.Statement.{statement}
 use Rattle.region_graph.proofs.connections.Connections.none.Tie as tie
 
-no-connection-requires : tie.Need-no-connection-requires
-no-connection-requires c κs = search needs
-
 returns : tie.Need-returns
 returns c = rw (c .no-connection .ensures) (filled-connections filled-none)
 
 pub none-spec : {M : Type 1} → statement M
-none-spec = tie.close (tie.spec no-connection-requires returns)
+none-spec = tie.close (tie.spec (λ c κs. search needs) returns)

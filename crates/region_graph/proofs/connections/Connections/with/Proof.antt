@@ -26,42 +26,12 @@ loop-holds c =
     let r : s .args .self .count < most-connections = omega (arith, h .counted, s .pre .1 .1 .1) in
     (omega (arith, h .counted, s .pre .1 .1 .0), omega arith, r, opened-start h r)
 
-sub-moved : tie.Need-sub-moved Inv-loop μ-loop
-sub-moved c = search needs
-
-mul-moved : tie.Need-mul-moved Inv-loop μ-loop
-mul-moved c = search needs
-
-array-copy-out-moved : tie.Need-array-copy-out-moved Inv-loop μ-loop
-array-copy-out-moved c = search needs
-
-mul-items : tie.Need-mul-items Inv-loop μ-loop
-mul-items c = search needs
-
-array-set-from-items : tie.Need-array-set-from-items Inv-loop μ-loop
-array-set-from-items c = search needs
-
-sub-i : tie.Need-sub-i Inv-loop μ-loop
-sub-i c = search needs
-
-loop-less : tie.Need-loop-less Inv-loop μ-loop
-loop-less c = search needs
-
 loop-again : tie.Need-loop-again Inv-loop μ-loop
 loop-again c =
     let a = c .before .before in
     let s = a .before .before in
     let h = connections-filled (s .args .self) (s .pre .0) in
     (omega arith, omega arith, a .loop .inv .2, opened-step (a .loop .i) (a .loop .i - 1) _ no-connection (omega arith) (omega (arith, h .counted)) (s .pre .1 .1 .1) (a .loop .inv .3))
-
-mul-items-2 : tie.Need-mul-items-2 Inv-loop μ-loop
-mul-items-2 c = search needs
-
-array-set-from-items-2 : tie.Need-array-set-from-items-2 Inv-loop μ-loop
-array-set-from-items-2 c = search needs
-
-add-t16 : tie.Need-add-t16 Inv-loop μ-loop
-add-t16 c = search needs
 
 returns : tie.Need-returns Inv-loop μ-loop
 returns c =
@@ -79,15 +49,15 @@ with-spec =
     Inv-loop
     μ-loop
     loop-holds
-    sub-moved
-    mul-moved
-    array-copy-out-moved
-    mul-items
-    array-set-from-items
-    sub-i
-    loop-less
+    (λ c. search needs)
+    (λ c. search needs)
+    (λ c. search needs)
+    (λ c. search needs)
+    (λ c. search needs)
+    (λ c. search needs)
+    (λ c. search needs)
     loop-again
-    mul-items-2
-    array-set-from-items-2
-    add-t16
+    (λ c. search needs)
+    (λ c. search needs)
+    (λ c. search needs)
     returns)

@@ -34,40 +34,16 @@ tested c e =
     ap (λ b. not (connection-meets (s .args .test) b)) (sym (filled-means (connections-filled (s .args .t1) (s .pre)) connection-in (connections-each (connections-of (s .args .t1)) (s .pre .good .each)) (a .loop .i) _ no-connection (omega arith)))
     ∙ ap not (sym (c .connection-meets .ensures)) ∙ e
 
-none-requires : tie.Need-none-requires Inv-loop μ-loop
-none-requires c κs = search needs
-
 loop-holds : tie.Need-loop-holds Inv-loop μ-loop
 loop-holds c =
     let s = c .before .before in
     (omega arith, omega arith, rw (connections-filled (s .args .t1) (s .pre) .counted) (s .pre .good .few), no-connections (c .before .none .ensures))
-
-mul-c : tie.Need-mul-c Inv-loop μ-loop
-mul-c c = search needs
-
-element-copy-out-c : tie.Need-element-copy-out-c Inv-loop μ-loop
-element-copy-out-c c = search needs
-
-add-i : tie.Need-add-i Inv-loop μ-loop
-add-i c = search needs
 
 connection-meets-requires : tie.Need-connection-meets-requires Inv-loop μ-loop
 connection-meets-requires c κs =
     let a = c .before .before in
     let s = a .before .before .before in
     connection-stored (s .args .t1) (s .pre) (a .loop .i) _ (omega arith)
-
-mul-items : tie.Need-mul-items Inv-loop μ-loop
-mul-items c = search needs
-
-array-set-from-items : tie.Need-array-set-from-items Inv-loop μ-loop
-array-set-from-items c = search needs
-
-add-n : tie.Need-add-n Inv-loop μ-loop
-add-n c = search needs
-
-loop-less : tie.Need-loop-less Inv-loop μ-loop
-loop-less c = search needs
 
 loop-again : tie.Need-loop-again Inv-loop μ-loop
 loop-again c =
@@ -81,9 +57,6 @@ loop-again c =
           (filled-inside h (a .loop .i) (omega arith)) (a .loop .inv .3) (omega arith) (filled-at h (a .loop .i) _ no-connection (omega arith))
           (tested (c .before) (c .if1 .taken)),
     )
-
-loop-less-2 : tie.Need-loop-less-2 Inv-loop μ-loop
-loop-less-2 c = search needs
 
 loop-again-2 : tie.Need-loop-again-2 Inv-loop μ-loop
 loop-again-2 c =
@@ -110,17 +83,17 @@ without-spec =
     (tie.spec
     Inv-loop
     μ-loop
-    none-requires
+    (λ c κs. search needs)
     loop-holds
-    mul-c
-    element-copy-out-c
-    add-i
+    (λ c. search needs)
+    (λ c. search needs)
+    (λ c. search needs)
     connection-meets-requires
-    mul-items
-    array-set-from-items
-    add-n
-    loop-less
+    (λ c. search needs)
+    (λ c. search needs)
+    (λ c. search needs)
+    (λ c. search needs)
     loop-again
-    loop-less-2
+    (λ c. search needs)
     loop-again-2
     returns)

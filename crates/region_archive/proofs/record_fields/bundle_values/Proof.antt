@@ -1,17 +1,8 @@
 use borrow.Author.Needs.{needs}
 use mathlib.Core.Path.{refl}
 use Rattle.region_archive.proofs.Fits.{list-part, widened-fits, widened-in}
-use Rattle.region_archive.proofs.entries.bundle_entry.Statement.{statement}
-use Rattle.region_archive.proofs.entries.bundle_entry.Tie as tie
-
-widened-requires : tie.Need-widened-requires
-widened-requires c κs = search needs
-
-widened-requires-2 : tie.Need-widened-requires-2
-widened-requires-2 c κs = search needs
-
-array-set-from-parts : tie.Need-array-set-from-parts
-array-set-from-parts c = search needs
+use Rattle.region_archive.proofs.record_fields.bundle_values.Statement.{statement}
+use Rattle.region_archive.proofs.record_fields.bundle_values.Tie as tie
 
 returns : tie.Need-returns
 returns c =
@@ -27,6 +18,6 @@ returns c =
       );
     }
 
-pub bundle-entry-spec : {M : Type 1} → statement M
-bundle-entry-spec =
-    tie.close (tie.spec widened-requires widened-requires-2 array-set-from-parts returns)
+pub bundle-values-spec : {M : Type 1} → statement M
+bundle-values-spec =
+    tie.close (tie.spec (λ c κs. search needs) (λ c κs. search needs) (λ c. search needs) returns)

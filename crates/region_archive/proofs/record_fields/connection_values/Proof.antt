@@ -2,14 +2,8 @@ use borrow.Author.Needs.{needs}
 use mathlib.Core.Path.{refl}
 use Rattle.region_archive.proofs.Fits.{list-part}
 use Rattle.region_archive.proofs.Sizes.{list-in}
-use Rattle.region_archive.proofs.entries.connection_entry.Statement.{statement}
-use Rattle.region_archive.proofs.entries.connection_entry.Tie as tie
-
-array-set-from-parts : tie.Need-array-set-from-parts
-array-set-from-parts c = search needs
-
-array-set-from-parts-2 : tie.Need-array-set-from-parts-2
-array-set-from-parts-2 c = search needs
+use Rattle.region_archive.proofs.record_fields.connection_values.Statement.{statement}
+use Rattle.region_archive.proofs.record_fields.connection_values.Tie as tie
 
 returns : tie.Need-returns
 returns c =
@@ -20,5 +14,5 @@ returns c =
       same = (((((tt, refl), refl), list-in (x .bundles) (s .pre .bundles)), refl), refl);
     }
 
-pub connection-entry-spec : {M : Type 1} → statement M
-connection-entry-spec = tie.close (tie.spec array-set-from-parts array-set-from-parts-2 returns)
+pub connection-values-spec : {M : Type 1} → statement M
+connection-values-spec = tie.close (tie.spec (λ c. search needs) (λ c. search needs) returns)

@@ -5,7 +5,7 @@ use mathlib.Core.List.{List, [], _++_, map}
 use Prim.Native.Nat.{ℕ, zero, suc, _+_, _*_, _≤_, _<_, _^_}
 use lib.Dec.{leb, ltb, eqb}
 use lib.ListN.{length, getD}
-use Rattle.region_graph.specs.Size.{most-listed, most-provided, most-bundles, most-connections, all-sign}
+use Rattle.region_graph.specs.Size.{most-listed, most-provided, most-bundles, most-connections, everything-sign}
 use Rattle.region_graph.specs.Lists.{All, member}
 use Rattle.region_graph.specs.Model.{Model, Bundle, Part, Connection, Numbered, LegalBundle, LegalConnection}
 use Rattle.region_graph.specs.Flat.{Fields, fields-of-bundle, fields-of-connection, FlatPart, FlatFields, bundle-width, connection-width}
@@ -16,9 +16,9 @@ use Rattle.region_graph.specs.declared.bundles.StoredBundle.{StoredBundle}
 use Rattle.region_graph.specs.declared.connections.StoredConnection.{StoredConnection}
 use Rattle.region_archive.specs.Bytes.{big, counted, sized}
 use Rattle.region_archive.specs.Image.{part-bytes}
-use Rattle.region_archive.specs.declared.entries.Entry.{Entry}
-use Rattle.region_archive.specs.declared.entries.Section.{Section}
-use Rattle.region_archive.specs.declared.entries.Section.the-variants as Section
+use Rattle.region_archive.specs.declared.record_fields.FieldValues.{FieldValues}
+use Rattle.region_archive.specs.declared.record_fields.Section.{Section}
+use Rattle.region_archive.specs.declared.record_fields.Section.the-variants as Section
 
 -- values whose bytes are those of fields, one after the other: their first k fields
 module _ {A : Type 0} where
@@ -120,7 +120,7 @@ abbrev pub ProvidedFits : Provided → Type 0
 ProvidedFits n = ListFits most-provided (n .count) (n .items)
 
 pub record PartFits (n : Numbers) : Type 0 where
-  pub count : (n .count ≡ all-sign → ⊥) → n .count ≤ most-listed
+  pub count : (n .count ≡ everything-sign → ⊥) → n .count ≤ most-listed
   pub size : length (n .items) ≡ most-listed
 
 pub record BundleFits (b : StoredBundle) : Type 0 where
@@ -132,16 +132,16 @@ pub record ConnectionFits (c : StoredConnection) : Type 0 where
   pub packages : PartFits (c .packages)
   pub services : PartFits (c .services)
 
-pub record EntryFits (e : Entry) : Type 0 where
+pub record ValuesFit (e : FieldValues) : Type 0 where
   pub size : length (e .parts) ≡ 3
   pub each : All PartFits (e .parts)
 
-abbrev pub fields-in : Entry → Fields
+abbrev pub fields-in : FieldValues → Fields
 fields-in e = record { first = e .first; second = e .second; parts = map part-in (e .parts) }
 
 -- the value has the fields of an element
-pub record EntryIs (s : Section) (e : Entry) (x : Elem s) : Type 0 where
-  pub fits : EntryFits e
+pub record ValuesAre (s : Section) (e : FieldValues) (x : Elem s) : Type 0 where
+  pub fits : ValuesFit e
   pub same : SameFields s (fields-in e) (fields-of s x)
 
 -- what the reader asks of a record field by field, in a graph with regions rs, where orders are at least `floor`

@@ -10,17 +10,17 @@ use Rattle.region_routes.specs.declared.Routed.{Routed}
 use Rattle.region_routes.specs.declared.Routed.the-variants as Routed
 use Rattle.region_routes.specs.declared.Kept.{Kept}
 use Rattle.region_routes.specs.declared.Kept.the-variants as Kept
-use Rattle.region_archive.specs.Promise.{hidden}
+use Rattle.region_archive.specs.Promise.{hidden-number}
 use Rattle.region_archive.specs.declared.Written.{Written}
 use Rattle.region_archive.specs.declared.Written.the-variants as Written
-use Rattle.region_host.specs.Answers.{minus, routed-value, kept-value, written-value}
+use Rattle.region_host.specs.CNumbers.{negative, routed-value, kept-value, written-value}
 
 -- what C reads in such a number: a count where it is not below zero, else a number of the papers
 abbrev read-back : {A : Type 0} → (ℕ → A) → (ℕ → A) → ℕ → A
 read-back count numbered v = pick (ltb v 9223372036854775808) (count v) (numbered (18446744073709551616 - v))
 
 abbrev unseen : ℕ → Routed
-unseen n = pick (eqb n hidden) Routed.Hidden (Routed.Refused n)
+unseen n = pick (eqb n hidden-number) Routed.Hidden (Routed.Refused n)
 
 abbrev routed-of : ℕ → Routed
 routed-of = read-back Routed.Count unseen
@@ -32,43 +32,43 @@ abbrev written-of : ℕ → Written
 written-of = read-back Written.Bytes Written.Refused
 
 -- a list in memory has fewer than 2^63 places; the questions have numbers below that of "hidden"
-abbrev pub Counted : ℕ → Type 0
-Counted n = n < 9223372036854775808
+abbrev pub CountFits : ℕ → Type 0
+CountFits n = n < 9223372036854775808
 
-abbrev pub Numbered : ℕ → Type 0
-Numbered n = (0 < n) × (n ≤ 100)
+abbrev pub PaperNumber : ℕ → Type 0
+PaperNumber n = (0 < n) × (n ≤ 100)
 
 abbrev pub RoutedGiven : Routed → Type 0
 RoutedGiven Routed.Hidden = Unit {0}
-RoutedGiven (Routed.Count n) = Counted n
-RoutedGiven (Routed.Refused n) = Numbered n
+RoutedGiven (Routed.Count n) = CountFits n
+RoutedGiven (Routed.Refused n) = PaperNumber n
 
 abbrev pub KeptGiven : Kept → Type 0
-KeptGiven (Kept.Wrote n) = Counted n
-KeptGiven (Kept.Refused n) = Numbered n
+KeptGiven (Kept.Wrote n) = CountFits n
+KeptGiven (Kept.Refused n) = PaperNumber n
 
 abbrev pub WrittenGiven : Written → Type 0
-WrittenGiven (Written.Bytes n) = Counted n
-WrittenGiven (Written.Refused n) = Numbered n
+WrittenGiven (Written.Bytes n) = CountFits n
+WrittenGiven (Written.Refused n) = PaperNumber n
 
 -- a number of the papers stands above every count, and is had back
-minus-is : (n : ℕ) → 0 < n → minus n ≡ 18446744073709551616 - n
-minus-is zero h = omega (arith, h)
-minus-is (suc n) h = refl
+negative-is : (n : ℕ) → 0 < n → negative n ≡ 18446744073709551616 - n
+negative-is zero h = omega (arith, h)
+negative-is (suc n) h = refl
 
 module _ {A : Type 0} (count numbered : ℕ → A) where
-  count-back : (n : ℕ) → Counted n → read-back count numbered n ≡ count n
+  count-back : (n : ℕ) → CountFits n → read-back count numbered n ≡ count n
   count-back n h = rw (lt-ltb n 9223372036854775808 h) refl
 
-  number-back : (n : ℕ) → 0 < n → n ≤ 101 → read-back count numbered (minus n) ≡ numbered n
+  number-back : (n : ℕ) → 0 < n → n ≤ 101 → read-back count numbered (negative n) ≡ numbered n
   number-back n h k =
-      rw (le-ltb (minus n) 9223372036854775808 (omega (arith, minus-is n h, k))) (ap numbered (omega (arith, minus-is n h, k)))
+      rw (le-ltb (negative n) 9223372036854775808 (omega (arith, negative-is n h, k))) (ap numbered (omega (arith, negative-is n h, k)))
 
 pub routed-back : (a : Routed) → RoutedGiven a → routed-of (routed-value a) ≡ a
 routed-back Routed.Hidden g = refl
 routed-back (Routed.Count n) g = count-back Routed.Count unseen n g
 routed-back (Routed.Refused n) g =
-    number-back Routed.Count unseen n (g .0) (omega (arith, g .1)) ∙ pick-no Routed.Hidden (Routed.Refused n) (ne-eqb n hidden (λ e. omega (arith, e, g .1)))
+    number-back Routed.Count unseen n (g .0) (omega (arith, g .1)) ∙ pick-no Routed.Hidden (Routed.Refused n) (ne-eqb n hidden-number (λ e. omega (arith, e, g .1)))
 
 pub kept-back : (a : Kept) → KeptGiven a → kept-of (kept-value a) ≡ a
 kept-back (Kept.Wrote n) g = count-back Kept.Wrote Kept.Refused n g

@@ -6,27 +6,27 @@ use Rattle.region_routes.specs.declared.Routed.{Routed}
 use Rattle.region_routes.specs.declared.Routed.the-variants as Routed
 use Rattle.region_routes.specs.declared.Kept.{Kept}
 use Rattle.region_routes.specs.declared.Kept.the-variants as Kept
-use Rattle.region_archive.specs.Promise.{hidden}
+use Rattle.region_archive.specs.Promise.{hidden-number}
 use Rattle.region_archive.specs.declared.Written.{Written}
 use Rattle.region_archive.specs.declared.Written.the-variants as Written
 
 -- a number below zero, in two's complement
-abbrev pub minus : ℕ → ℕ
-minus zero = 0
-minus (suc n) = 18446744073709551616 - suc n
+abbrev pub negative : ℕ → ℕ
+negative zero = 0
+negative (suc n) = 18446744073709551616 - suc n
 
 abbrev pub routed-value : Routed → ℕ
-routed-value Routed.Hidden = minus hidden
+routed-value Routed.Hidden = negative hidden-number
 routed-value (Routed.Count n) = n
-routed-value (Routed.Refused n) = minus n
+routed-value (Routed.Refused n) = negative n
 
 abbrev pub kept-value : Kept → ℕ
 kept-value (Kept.Wrote n) = n
-kept-value (Kept.Refused n) = minus n
+kept-value (Kept.Refused n) = negative n
 
 abbrev pub written-value : Written → ℕ
 written-value (Written.Bytes n) = n
-written-value (Written.Refused n) = minus n
+written-value (Written.Refused n) = negative n
 
 -- the number that C gets, and the lent buffer as the call leaves it
 pub record Answered : Type 0 where

@@ -2,7 +2,7 @@
 ghost use mathlib.Core.Path.{_≡_};
 ghost use lib.ListN.{length};
 ghost use Rattle.region_graph.specs.Record.{Valid, meaning, «store-numbers», «provided-of», «bundle-in», «connection-in»};
-ghost use Rattle.region_archive.specs.Entries.{«field-key», «field-count», «first-width», most, «most-in», «row-width», elements, ProvidedFits, BundleFits, ConnectionFits, EntryIs};
+ghost use Rattle.region_archive.specs.RecordFields.{«field-key», «field-count», «first-width», most, «most-in», «row-width», elements, ProvidedFits, BundleFits, ConnectionFits, ValuesAre};
 use region_graph::Graph;
 use region_graph::Numbers;
 use region_graph::Provided;
@@ -22,7 +22,7 @@ pub enum Section {
 }
 
 // Location, region, packages and services of a bundle; source, target and the three parts of a connection's filter.
-pub struct Entry {
+pub struct FieldValues {
     pub first: u32,
     pub second: u32,
     pub parts: [Numbers; 3],
@@ -94,7 +94,7 @@ pub fn width(section: Section) -> usize
 }
 
 // The number by which the records of a section ascend: the location, or source and target.
-pub fn order(section: Section, first: u32, second: u32) -> u64
+pub fn field_key(section: Section, first: u32, second: u32) -> u64
     ensures { λ r. ⌜ r ≡ field-key section first second ⌝ }
 {
     match section {
@@ -103,9 +103,9 @@ pub fn order(section: Section, first: u32, second: u32) -> u64
     }
 }
 
-pub fn bundle_entry(b: StoredBundle) -> Entry
+pub fn bundle_values(b: StoredBundle) -> FieldValues
     requires { ⌜ BundleFits b ⌝ }
-    ensures { λ r. ⌜ EntryIs Section.Bundles r (bundle-in b) ⌝ }
+    ensures { λ r. ⌜ ValuesAre Section.Bundles r (bundle-in b) ⌝ }
 {
     let packages = b.packages;
     let services = b.services;
@@ -113,16 +113,16 @@ pub fn bundle_entry(b: StoredBundle) -> Entry
     let published = widened(services);
     let mut parts = [provided; 3];
     parts[1] = published;
-    Entry {
+    FieldValues {
         first: b.location,
         second: b.region,
         parts,
     }
 }
 
-pub fn connection_entry(c: StoredConnection) -> Entry
+pub fn connection_values(c: StoredConnection) -> FieldValues
     requires { ⌜ ConnectionFits c ⌝ }
-    ensures { λ r. ⌜ EntryIs Section.Connections r (connection-in c) ⌝ }
+    ensures { λ r. ⌜ ValuesAre Section.Connections r (connection-in c) ⌝ }
 {
     let bundles = c.bundles;
     let packages = c.packages;
@@ -130,7 +130,7 @@ pub fn connection_entry(c: StoredConnection) -> Entry
     let mut parts = [packages; 3];
     parts[0] = bundles;
     parts[2] = services;
-    Entry {
+    FieldValues {
         first: c.source,
         second: c.target,
         parts,

@@ -11,8 +11,8 @@ use lib.Seq.{take-suc, take-suc-set, length-take-le, drop-cons, take-at, take-al
 use lib.Bits.{bitOr}
 use borrow.Author.Tests.{eq-eqb, ne-eqb}
 use Rattle.region_graph.specs.Size.{regions, most-bundles, most-connections, most-provided, most-listed}
-use Rattle.region_graph.specs.Lists.{pick, any, All, member}
-use Rattle.region_graph.specs.Sets.{one, set-of}
+use Rattle.region_graph.specs.Lists.{pick, exists, All, member, concat-map}
+use Rattle.region_graph.specs.Sets.{singleton, set-of}
 use Rattle.region_graph.specs.Model.{Model, Bundle, Filter, Part, Connection, Word, NumberedPart, Legal, LegalBundle, LegalFilter, LegalConnection}
 use Rattle.region_graph.specs.Items.{provided, part-of, part-passes, provides, passes, crosses}
 use Rattle.region_graph.specs.Record.{store-bundle, store-connection, bundle-in, connection-in, no-bundle, no-connection}
@@ -22,14 +22,14 @@ use Rattle.region_graph.specs.declared.Place.{Place}
 use Rattle.region_graph.specs.declared.Place.the-variants.{Within, Nowhere}
 use Rattle.region_graph.specs.declared.bundles.StoredBundle.{StoredBundle}
 use Rattle.region_graph.specs.declared.connections.StoredConnection.{StoredConnection}
-use Rattle.region_graph.proofs.Lists.{any-append, all-at, all-map, member-all, map-append, eqb-sym}
+use Rattle.region_graph.proofs.Lists.{exists-append, all-at, all-map, member-all, map-append, eqb-sym}
 use Rattle.region_graph.proofs.Bits.{set-below-lt, set-none}
-use Rattle.region_graph.proofs.Views.{any-more, sets-more}
+use Rattle.region_graph.proofs.Views.{exists-more, sets-more}
 use Rattle.region_graph.proofs.Arrays.{Filled, filled-at, filled-inside, filled-means}
 use Rattle.region_graph.proofs.Storing.{map-back, stored-as, bundle-back, connection-back, short-bundle, short-connection}
-use Rattle.region_routes.specs.Hooks.{item, installed, all-installed}
+use Rattle.region_routes.specs.Hooks.{item, is-installed, all-installed}
 use Rattle.region_routes.specs.Search.{RegionSets}
-use Rattle.region_routes.specs.Tables.{width, every, entry, number-in, place-in, ends, source-in, target-in, most-entries, gather, passed, offer, passage, offers, passages, Appended, Holding, held-in, leads-in, leads-also, led-by, place-at, all-placed, Tables}
+use Rattle.region_routes.specs.Tables.{width, everything-number, packed, number-in, place-in, ends, source-in, target-in, most-entries, passed, offer, passage, offers, passages, Appended, Holding, held-in, leads-in, leads-also, led-by, place-at, all-placed, Tables}
 use Rattle.region_routes.proofs.SetLaws.{counted-sets}
 
 -- what is put at the end of what stands in a buffer
@@ -59,35 +59,35 @@ module _ (f : ℕ → ℕ) (xs : List ℕ) (i : ℕ) (h : i < length xs) {before
 -- the entries of each element
 
 module _ {A : Type 0} (f : A → List ℕ) where
-  gather-append : (xs ys : List A) → gather f (xs ++ ys) ≡ gather f xs ++ gather f ys
-  gather-append [] ys = refl
-  gather-append (x ∷ xs) ys = ap (λ (l : List ℕ). f x ++ l) (gather-append xs ys) ∙ sym (append-assoc (f x) (gather f xs) (gather f ys))
+  concat-append : (xs ys : List A) → concat-map f (xs ++ ys) ≡ concat-map f xs ++ concat-map f ys
+  concat-append [] ys = refl
+  concat-append (x ∷ xs) ys = ap (λ (l : List ℕ). f x ++ l) (concat-append xs ys) ∙ sym (append-assoc (f x) (concat-map f xs) (concat-map f ys))
 
-  gather-more : (xs : List A) (i : ℕ) (d : A) → i < length xs → gather f (take (i + 1) xs) ≡ gather f (take i xs) ++ f (getD xs i d)
-  gather-more xs i d h =
+  concat-more : (xs : List A) (i : ℕ) (d : A) → i < length xs → concat-map f (take (i + 1) xs) ≡ concat-map f (take i xs) ++ f (getD xs i d)
+  concat-more xs i d h =
       rw (add-one, take-suc xs i d h)
-      (gather-append (take i xs) (getD xs i d ∷ []) ∙ ap (λ (l : List ℕ). gather f (take i xs) ++ l) (append-nil (f (getD xs i d))))
+      (concat-append (take i xs) (getD xs i d ∷ []) ∙ ap (λ (l : List ℕ). concat-map f (take i xs) ++ l) (append-nil (f (getD xs i d))))
 
   -- the entries of one element more are put
   pub gathered-next : (xs : List A) (i : ℕ) (d : A) {before mid after : List ℕ} {j k : ℕ} {ys : List ℕ} → i < length xs
-      → Appended before 0 (gather f (take i xs)) mid j → ys ≡ f (getD xs i d) → Appended mid j ys after k
-      → Appended before 0 (gather f (take (i + 1) xs)) after k
-  gathered-next xs i d h a e b = rw (gather-more xs i d h, ← e) (appended-then a b)
+      → Appended before 0 (concat-map f (take i xs)) mid j → ys ≡ f (getD xs i d) → Appended mid j ys after k
+      → Appended before 0 (concat-map f (take (i + 1) xs)) after k
+  gathered-next xs i d h a e b = rw (concat-more xs i d h, ← e) (appended-then a b)
 
   -- with at most w entries of each element
-  pub gather-few : (w : ℕ) (xs : List A) → All (λ x. length (f x) ≤ w) xs → (i : ℕ) → length (gather f (take i xs)) ≤ i * w
-  gather-few w xs h zero = omega arith
-  gather-few w [] h (suc i) = omega arith
-  gather-few w (x ∷ xs) h (suc i) = rw length-append (omega (arith, h .0, gather-few w xs (h .1) i))
+  pub concat-few : (w : ℕ) (xs : List A) → All (λ x. length (f x) ≤ w) xs → (i : ℕ) → length (concat-map f (take i xs)) ≤ i * w
+  concat-few w xs h zero = omega arith
+  concat-few w [] h (suc i) = omega arith
+  concat-few w (x ∷ xs) h (suc i) = rw length-append (omega (arith, h .0, concat-few w xs (h .1) i))
 
-  any-gather : (p : ℕ → Bool) (xs : List A) → any p (gather f xs) ≡ any (λ x. any p (f x)) xs
-  any-gather p [] = refl
-  any-gather p (x ∷ xs) = any-append p (f x) (gather f xs) ∙ ap (λ (b : Bool). any p (f x) || b) (any-gather p xs)
+  exists-gather : (p : ℕ → Bool) (xs : List A) → exists p (concat-map f xs) ≡ exists (λ x. exists p (f x)) xs
+  exists-gather p [] = refl
+  exists-gather p (x ∷ xs) = exists-append p (f x) (concat-map f xs) ∙ ap (λ (b : Bool). exists p (f x) || b) (exists-gather p xs)
 
   -- tests that agree on each element
-  any-each : (P : A → Type 0) (p q : A → Bool) → ((x : A) → P x → p x ≡ q x) → (xs : List A) → All P xs → any p xs ≡ any q xs
-  any-each P p q e [] h = refl
-  any-each P p q e (x ∷ xs) h = ap₂ _||_ (e x (h .0)) (any-each P p q e xs (h .1))
+  exists-each : (P : A → Type 0) (p q : A → Bool) → ((x : A) → P x → p x ≡ q x) → (xs : List A) → All P xs → exists p xs ≡ exists q xs
+  exists-each P p q e [] h = refl
+  exists-each P p q e (x ∷ xs) h = ap₂ _||_ (e x (h .0)) (exists-each P p q e xs (h .1))
 
 -- a loop over an array whose first places hold a list puts the entries of each element
 module _ {A B : Type 0} {store : A → B} {none : B} {size : ℕ} (out : B → A) (f : A → List ℕ)
@@ -97,9 +97,9 @@ module _ {A B : Type 0} {store : A → B} {none : B} {size : ℕ} (out : B → A
       rw (h .shape, h .counted)
       (ap (map out) (take-at (map store xs) (replicate (size - length xs) none) (length xs) (length-map xs store)) ∙ map-back store out xs back)
 
-  module _ {before mid : List ℕ} {j : ℕ} (i : ℕ) (l : i < count) (e : B) (d : A) (a : Appended before 0 (gather f (take i (map out (take count items)))) mid j) where
+  module _ {before mid : List ℕ} {j : ℕ} (i : ℕ) (l : i < count) (e : B) (d : A) (a : Appended before 0 (concat-map f (take i (map out (take count items)))) mid j) where
     pub gathered-step : {after : List ℕ} {k : ℕ} → Appended mid j (f (out (getD items i e))) after k
-        → Appended before 0 (gather f (take (i + 1) (map out (take count items)))) after k
+        → Appended before 0 (concat-map f (take (i + 1) (map out (take count items)))) after k
     gathered-step b =
         rw filled-read (gathered-next f xs i d (filled-inside h i l) (rw filled-read at a) (ap f (filled-means h out back i e d l)) b)
 
@@ -107,15 +107,15 @@ module _ {A B : Type 0} {store : A → B} {none : B} {size : ℕ} (out : B → A
     pub gathered-room : (w : ℕ) → suc i * w ≤ length mid → All (λ x. length (f x) ≤ w) xs → j + length (f (out (getD items i e))) ≤ length mid
     gathered-room w r g =
         rw (filled-means h out back i e d l)
-        (omega (arith, (rw filled-read at a) .counted, gather-few f w xs g i, all-at (λ x. length (f x) ≤ w) xs i d (filled-inside h i l) g))
+        (omega (arith, (rw filled-read at a) .counted, concat-few f w xs g i, all-at (λ x. length (f x) ≤ w) xs i d (filled-inside h i l) g))
 
   -- at the end
   pub gathered-end : {before after : List ℕ} {i n : ℕ} (w : ℕ) → count ≤ i → i * w ≤ most-entries → length after ≡ most-entries
-      → All (λ x. length (f x) ≤ w) xs → Appended before 0 (gather f (take i (map out (take count items)))) after n → Holding (gather f xs) after n
+      → All (λ x. length (f x) ≤ w) xs → Appended before 0 (concat-map f (take i (map out (take count items)))) after n → Holding (concat-map f xs) after n
   gathered-end {i = i} w l r e g a = record {
-    few = omega (arith, (rw filled-read at a) .counted, gather-few f w xs g i);
-    room = omega (arith, e, (rw filled-read at a) .counted, gather-few f w xs g i);
-    table = (rw filled-read at a) .kept ∙ ap (gather f) (take-all i xs (omega (arith, h .counted)));
+    few = omega (arith, (rw filled-read at a) .counted, concat-few f w xs g i);
+    room = omega (arith, e, (rw filled-read at a) .counted, concat-few f w xs g i);
+    table = (rw filled-read at a) .kept ∙ ap (concat-map f) (take-all i xs (omega (arith, h .counted)));
   }
 
 -- the part of an array that holds a table
@@ -128,30 +128,30 @@ module _ {xs items : List ℕ} {count : ℕ} (h : Holding xs items count) where
 
 -- what an entry says
 
-entry-number : (n p : ℕ) → p < width → number-in (entry n p) ≡ n
-entry-number n p h = omega arith
+packed-number : (n p : ℕ) → p < width → number-in (packed n p) ≡ n
+packed-number n p h = omega arith
 
-entry-place : (n p : ℕ) → p < width → place-in (entry n p) ≡ p
-entry-place n p h = omega arith
+packed-place : (n p : ℕ) → p < width → place-in (packed n p) ≡ p
+packed-place n p h = omega arith
 
 module _ {a b : ℕ} (h : a < regions) (k : b < regions) where
-  entry-of : (n : ℕ) → number-in (entry n (ends a b)) ≡ n
-  entry-of n = omega arith
+  packed-of : (n : ℕ) → number-in (packed n (ends a b)) ≡ n
+  packed-of n = omega arith
 
-  entry-source : (n : ℕ) → source-in (entry n (ends a b)) ≡ a
-  entry-source n = rw (entry-place n (ends a b) (omega arith)) (omega arith)
+  packed-source : (n : ℕ) → source-in (packed n (ends a b)) ≡ a
+  packed-source n = rw (packed-place n (ends a b) (omega arith)) (omega arith)
 
-  entry-target : (n : ℕ) → target-in (entry n (ends a b)) ≡ b
-  entry-target n = rw (entry-place n (ends a b) (omega arith)) (omega arith)
+  packed-target : (n : ℕ) → target-in (packed n (ends a b)) ≡ b
+  packed-target n = rw (packed-place n (ends a b) (omega arith)) (omega arith)
 
 -- a test that a fixed one and one of each element make up
 both : (a b c : Bool) → ((a && b) || (a && c)) ≡ (a && (b || c))
 both true b c = refl
 both false b c = refl
 
-any-either : (a p q : ℕ → Bool) (xs : List ℕ) → (any (λ x. a x && p x) xs || any (λ x. a x && q x) xs) ≡ any (λ x. a x && (p x || q x)) xs
-any-either a p q [] = refl
-any-either a p q (x ∷ xs) = step (a x) (p x) (q x) (any (λ x. a x && p x) xs) (any (λ x. a x && q x) xs) (any-either a p q xs)
+exists-either : (a p q : ℕ → Bool) (xs : List ℕ) → (exists (λ x. a x && p x) xs || exists (λ x. a x && q x) xs) ≡ exists (λ x. a x && (p x || q x)) xs
+exists-either a p q [] = refl
+exists-either a p q (x ∷ xs) = step (a x) (p x) (q x) (exists (λ x. a x && p x) xs) (exists (λ x. a x && q x) xs) (exists-either a p q xs)
   where
     step : (a p q t u : Bool) {v : Bool} → (t || u) ≡ v → (((a && p) || t) || ((a && q) || u)) ≡ ((a && (p || q)) || v)
     step true true q t u e = refl
@@ -159,34 +159,34 @@ any-either a p q (x ∷ xs) = step (a x) (p x) (q x) (any (λ x. a x && p x) xs)
     step true false false t u e = e
     step false p q t u e = e
 
-any-fixed : (a : Bool) (p : ℕ → Bool) (xs : List ℕ) → any (λ x. a && p x) xs ≡ (a && any p xs)
-any-fixed a p [] = sym (and-false a)
-any-fixed a p (x ∷ xs) = ap (λ (t : Bool). (a && p x) || t) (any-fixed a p xs) ∙ both a (p x) (any p xs)
+exists-fixed : (a : Bool) (p : ℕ → Bool) (xs : List ℕ) → exists (λ x. a && p x) xs ≡ (a && exists p xs)
+exists-fixed a p [] = sym (and-false a)
+exists-fixed a p (x ∷ xs) = ap (λ (t : Bool). (a && p x) || t) (exists-fixed a p xs) ∙ both a (p x) (exists p xs)
 
-any-map : (f : ℕ → ℕ) (p : ℕ → Bool) (xs : List ℕ) → any p (map f xs) ≡ any (λ x. p (f x)) xs
-any-map f p [] = refl
-any-map f p (x ∷ xs) = ap (λ (t : Bool). p (f x) || t) (any-map f p xs)
+exists-map : (f : ℕ → ℕ) (p : ℕ → Bool) (xs : List ℕ) → exists p (map f xs) ≡ exists (λ x. p (f x)) xs
+exists-map f p [] = refl
+exists-map f p (x ∷ xs) = ap (λ (t : Bool). p (f x) || t) (exists-map f p xs)
 
 -- offers
 
 module _ (m : Model) (h : Legal m) where
   -- the number and the region of a bundle's entries
   offer-says : (k n r : ℕ) (b : Bundle) → LegalBundle (m .regions) b
-      → any (λ e. eqb (place-in e) r && eqb (number-in e) n) (offer k b) ≡ (eqb (b .region) r && provides (item k n) b)
+      → exists (λ e. eqb (place-in e) r && eqb (number-in e) n) (offer k b) ≡ (eqb (b .region) r && provides (item k n) b)
   offer-says k n r b l =
       let i : b .region < regions = member-all (λ x. x < regions) (b .region) (m .regions) (h .regions-legal .each) (l .region) in
-      any-map (λ x. entry x (b .region)) (λ e. eqb (place-in e) r && eqb (number-in e) n) (provided k b)
-      ∙ ap (λ (p : ℕ → Bool). any p (provided k b))
-      (λ j x. eqb (entry-place x (b .region) (omega arith) j) r && (ap (λ (y : ℕ). eqb y n) (entry-number x (b .region) (omega arith)) ∙ eqb-sym x n) j)
-      ∙ any-fixed (eqb (b .region) r) (eqb n) (provided k b)
+      exists-map (λ x. packed x (b .region)) (λ e. eqb (place-in e) r && eqb (number-in e) n) (provided k b)
+      ∙ ap (λ (p : ℕ → Bool). exists p (provided k b))
+      (λ j x. eqb (packed-place x (b .region) (omega arith) j) r && (ap (λ (y : ℕ). eqb y n) (packed-number x (b .region) (omega arith)) ∙ eqb-sym x n) j)
+      ∙ exists-fixed (eqb (b .region) r) (eqb n) (provided k b)
 
   -- the regions that the table names for a number are those that hold the item
   pub held-offers : (k n : ℕ) → held-in (offers k (m .bundles)) n ≡ holder-set m (item k n)
   held-offers k n =
       ap set-of
       (λ j r.
-      (any-gather (offer k) (λ e. eqb (place-in e) r && eqb (number-in e) n) (m .bundles)
-      ∙ any-each (offer k) (LegalBundle (m .regions)) (λ b. any (λ e. eqb (place-in e) r && eqb (number-in e) n) (offer k b))
+      (exists-gather (offer k) (λ e. eqb (place-in e) r && eqb (number-in e) n) (m .bundles)
+      ∙ exists-each (offer k) (LegalBundle (m .regions)) (λ b. exists (λ e. eqb (place-in e) r && eqb (number-in e) n) (offer k b))
       (λ b. eqb (b .region) r && provides (item k n) b) (offer-says k n r) (m .bundles) (h .bundles-legal .each)) j)
 
   few-provided : (k : ℕ) (b : Bundle) → LegalBundle (m .regions) b → length (provided k b) ≤ most-provided
@@ -207,7 +207,7 @@ module _ (m : Model) (h : Legal m) where
       go [] a = refl
       go (b ∷ bs) a =
           let i : b .region < regions = member-all (λ x. x < regions) (b .region) (m .regions) (h .regions-legal .each) (a .0 .region) in
-          rw (entry-number (b .location) (b .region) (omega arith), entry-place (b .location) (b .region) (omega arith), go bs (a .1))
+          rw (packed-number (b .location) (b .region) (omega arith), packed-place (b .location) (b .region) (omega arith), go bs (a .1))
 
   -- passages
 
@@ -224,40 +224,40 @@ module _ (m : Model) (h : Legal m) where
   part-legal (suc (suc (suc k))) f l = record { few = omega arith; each = tt; ascend = refl }
 
   -- what a part passes
-  part-says : (n : ℕ) (p : Part) → NumberedPart p → any (λ x. eqb x every || eqb x n) (passed p) ≡ part-passes n p
+  part-says : (n : ℕ) (p : Part) → NumberedPart p → exists (λ x. eqb x everything-number || eqb x n) (passed p) ≡ part-passes n p
   part-says n (Part.listed xs) l = go xs (l .each)
     where
-      go : (ys : List ℕ) → All Word ys → any (λ x. eqb x every || eqb x n) ys ≡ member n ys
+      go : (ys : List ℕ) → All Word ys → exists (λ x. eqb x everything-number || eqb x n) ys ≡ member n ys
       go [] a = refl
-      go (y ∷ ys) a = rw (ne-eqb y every (λ e. omega (arith, a .0)), eqb-sym y n, go ys (a .1))
+      go (y ∷ ys) a = rw (ne-eqb y everything-number (λ e. omega (arith, a .0)), eqb-sym y n, go ys (a .1))
   part-says n Part.everything l = refl
 
   -- the numbers and the two ends of a connection's entries
   passage-says : (k n r s : ℕ) (c : Connection) → LegalConnection (m .regions) c
-      → any (λ e. (eqb (source-in e) r && eqb (target-in e) s) && (eqb (number-in e) every || eqb (number-in e) n)) (passage k c)
+      → exists (λ e. (eqb (source-in e) r && eqb (target-in e) s) && (eqb (number-in e) everything-number || eqb (number-in e) n)) (passage k c)
       ≡ ((eqb (c .source) r && eqb (c .target) s) && passes (item k n) (c .filter))
   passage-says k n r s c l =
       let a = source-inside l in
       let b = target-inside l in
       let xs = passed (part-of k (c .filter)) in
-      any-map (λ x. entry x (ends (c .source) (c .target)))
-      (λ e. (eqb (source-in e) r && eqb (target-in e) s) && (eqb (number-in e) every || eqb (number-in e) n)) xs
-      ∙ ap (λ (p : ℕ → Bool). any p xs)
-      (λ j x. (eqb (entry-source a b x j) r && eqb (entry-target a b x j) s) && (eqb (entry-of a b x j) every || eqb (entry-of a b x j) n))
-      ∙ any-fixed (eqb (c .source) r && eqb (c .target) s) (λ x. eqb x every || eqb x n) xs
+      exists-map (λ x. packed x (ends (c .source) (c .target)))
+      (λ e. (eqb (source-in e) r && eqb (target-in e) s) && (eqb (number-in e) everything-number || eqb (number-in e) n)) xs
+      ∙ ap (λ (p : ℕ → Bool). exists p xs)
+      (λ j x. (eqb (packed-source a b x j) r && eqb (packed-target a b x j) s) && (eqb (packed-of a b x j) everything-number || eqb (packed-of a b x j) n))
+      ∙ exists-fixed (eqb (c .source) r && eqb (c .target) s) (λ x. eqb x everything-number || eqb x n) xs
       ∙ ap (λ (t : Bool). (eqb (c .source) r && eqb (c .target) s) && t) (part-says n (part-of k (c .filter)) (part-legal k (c .filter) (l .filter)))
 
   -- an entry for all or for the number leads where a connection that passes the item leads
-  crosses-passages : (k n r s : ℕ) → leads-also (leads-in (passages k (m .connections)) every) (passages k (m .connections)) n r s ≡ crosses m (item k n) r s
+  crosses-passages : (k n r s : ℕ) → leads-also (leads-in (passages k (m .connections)) everything-number) (passages k (m .connections)) n r s ≡ crosses m (item k n) r s
   crosses-passages k n r s =
-      let test : ℕ → Bool = λ e. (eqb (source-in e) r && eqb (target-in e) s) && (eqb (number-in e) every || eqb (number-in e) n) in
-      any-either (λ e. eqb (source-in e) r && eqb (target-in e) s) (λ e. eqb (number-in e) every) (λ e. eqb (number-in e) n) (passages k (m .connections))
-      ∙ any-gather (passage k) test (m .connections)
-      ∙ any-each (passage k) (LegalConnection (m .regions)) (λ c. any test (passage k c))
+      let test : ℕ → Bool = λ e. (eqb (source-in e) r && eqb (target-in e) s) && (eqb (number-in e) everything-number || eqb (number-in e) n) in
+      exists-either (λ e. eqb (source-in e) r && eqb (target-in e) s) (λ e. eqb (number-in e) everything-number) (λ e. eqb (number-in e) n) (passages k (m .connections))
+      ∙ exists-gather (passage k) test (m .connections)
+      ∙ exists-each (passage k) (LegalConnection (m .regions)) (λ c. exists test (passage k c))
       (λ c. (eqb (c .source) r && eqb (c .target) s) && passes (item k n) (c .filter)) (passage-says k n r s) (m .connections) (h .connections-legal .each)
 
   led-passages : (k n : ℕ)
-      → led-by (leads-also (leads-in (passages k (m .connections)) every) (passages k (m .connections)) n) ≡ predecessor-sets m (item k n)
+      → led-by (leads-also (leads-in (passages k (m .connections)) everything-number) (passages k (m .connections)) n) ≡ predecessor-sets m (item k n)
   unfolding led-by predecessor-sets
   led-passages k n = ap led-by (λ j r s. crosses-passages k n r s j)
 
@@ -298,7 +298,7 @@ place-table {m} h e l = ap (λ (es : List ℕ). place-at es l) e ∙ place-offer
 pub placed-installed : (m : Model) {place : ℕ → Place} → ((l : ℕ) → place l ≡ place-of (m .bundles) l) → (ls : List ℕ)
     → all-placed place ls ≡ all-installed m ls
 placed-installed m e [] = refl
-placed-installed m e (l ∷ ls) = ap₂ _&&_ (ap installed (e l)) (placed-installed m e ls)
+placed-installed m e (l ∷ ls) = ap₂ _&&_ (ap is-installed (e l)) (placed-installed m e ls)
 
 -- the entries from the i-th on
 module _ (es : List ℕ) (l i : ℕ) (h : i < length es) (e : place-at es l ≡ place-at (drop i es) l) where
@@ -319,11 +319,11 @@ module _ {m : Model} {kind : ℕ} {offered passing : List ℕ} (t : Tables m kin
   pub held-table : held-in offered n ≡ holder-set m (item kind n)
   held-table = ap (λ (es : List ℕ). held-in es n) (t .offered-is) ∙ held-offers m (t .legal) kind n
 
-  pub led-table : led-by (leads-also (leads-in passing every) passing n) ≡ predecessor-sets m (item kind n)
-  led-table = ap (λ (es : List ℕ). led-by (leads-also (leads-in es every) es n)) (t .passing-is) ∙ led-passages m (t .legal) kind n
+  pub led-table : led-by (leads-also (leads-in passing everything-number) passing n) ≡ predecessor-sets m (item kind n)
+  led-table = ap (λ (es : List ℕ). led-by (leads-also (leads-in es everything-number) es n)) (t .passing-is) ∙ led-passages m (t .legal) kind n
 
 pub held-small : (es : List ℕ) (n : ℕ) → held-in es n < 2 ^ regions
-held-small es n = set-below-lt regions (λ r. any (λ e. eqb (place-in e) r && eqb (number-in e) n) es)
+held-small es n = set-below-lt regions (λ r. exists (λ e. eqb (place-in e) r && eqb (number-in e) n) es)
 
 pub led-sets : (leads : ℕ → ℕ → Bool) → RegionSets (led-by leads)
 unfolding led-by
@@ -343,12 +343,12 @@ module _ (leads : ℕ → ℕ → Bool) (es : List ℕ) (n i : ℕ) (h : i < len
       → leads-also leads (take (i + 1) es) n r s
       ≡ (leads-also leads (take i es) n r s || ((eqb (source-in (getD es i 0)) r && eqb (target-in (getD es i 0)) s) && b))
   leads-more b q r s =
-      ap (λ (t : Bool). leads r s || t) (any-more (λ e. (eqb (source-in e) r && eqb (target-in e) s) && eqb (number-in e) n) es i 0 h)
+      ap (λ (t : Bool). leads r s || t) (exists-more (λ e. (eqb (source-in e) r && eqb (target-in e) s) && eqb (number-in e) n) es i 0 h)
       ∙ rw q (sym (or-assoc (leads r s) (leads-in (take i es) n r s) ((eqb (source-in (getD es i 0)) r && eqb (target-in (getD es i 0)) s) && b)))
 
   -- an entry of the number adds its source to those that lead to its target
   pub led-entry : {sets : List ℕ} {x : ℕ} → eqb (number-in (getD es i 0)) n ≡ true → sets ≡ led-by (leads-also leads (take i es) n)
-      → x ≡ one (source-in (getD es i 0)) → (let s = target-in (getD es i 0) in
+      → x ≡ singleton (source-in (getD es i 0)) → (let s = target-in (getD es i 0) in
       s < regions → set sets s (bitOr (getD sets s 0) x) ≡ led-by (leads-also leads (take (i + 1) es) n))
   unfolding led-by
   led-entry q p t l =

@@ -9,9 +9,9 @@ use Rattle.region_graph.specs.Record.{provided-of}
 use Rattle.region_graph.specs.declared.numbers.Provided.{Provided}
 use Rattle.region_graph.proofs.Arrays.{Filled, filled-none, filled-next}
 use Rattle.region_graph.proofs.Storing.{filled-numbers}
-use Rattle.region_archive.specs.Entries.{ProvidedFits}
-use Rattle.region_archive.proofs.entries.widened.Statement.{statement}
-use Rattle.region_archive.proofs.entries.widened.Tie as tie
+use Rattle.region_archive.specs.RecordFields.{ProvidedFits}
+use Rattle.region_archive.proofs.record_fields.widened.Statement.{statement}
+use Rattle.region_archive.proofs.record_fields.widened.Tie as tie
 
 abbrev Inv-loop : tie.InvT-loop
 Inv-loop list items₀ count i₀ items i =
@@ -31,24 +31,6 @@ provided-at n i h = sym (getD-take (n .count) (n .items) i 0 h)
 
 loop-holds : tie.Need-loop-holds Inv-loop μ-loop
 loop-holds c = (omega arith, c .pre .count, filled-none)
-
-mul-items : tie.Need-mul-items Inv-loop μ-loop
-mul-items c = search needs
-
-element-copy-out-items : tie.Need-element-copy-out-items Inv-loop μ-loop
-element-copy-out-items c = search needs
-
-mul-items-2 : tie.Need-mul-items-2 Inv-loop μ-loop
-mul-items-2 c = search needs
-
-array-write-items : tie.Need-array-write-items Inv-loop μ-loop
-array-write-items c = search needs
-
-add-i : tie.Need-add-i Inv-loop μ-loop
-add-i c = search needs
-
-loop-less : tie.Need-loop-less Inv-loop μ-loop
-loop-less c = search needs
 
 loop-again : tie.Need-loop-again Inv-loop μ-loop
 loop-again c =
@@ -73,11 +55,11 @@ widened-spec =
     Inv-loop
     μ-loop
     loop-holds
-    mul-items
-    element-copy-out-items
-    mul-items-2
-    array-write-items
-    add-i
-    loop-less
+    (λ c. search needs)
+    (λ c. search needs)
+    (λ c. search needs)
+    (λ c. search needs)
+    (λ c. search needs)
+    (λ c. search needs)
     loop-again
     returns)

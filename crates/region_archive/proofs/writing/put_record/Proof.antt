@@ -4,29 +4,23 @@ use Prim.Native.Nat.{ℕ, _+_, _-_, _≤_}
 use native.Mathlib.Omega.{arith}
 use borrow.Author.Needs.{needs}
 use lib.ListN.{length}
-use Rattle.text_lines.specs.Written.{Wrote}
+use Rattle.text_lines.specs.Written.{WrittenAt}
 use Rattle.text_lines.proofs.Writes.{wrote-start, wrote-then, wrote-is, wrote-length, wrote-room}
 use Rattle.region_archive.specs.Bytes.{big, sized}
-use Rattle.region_archive.specs.Entries.{bytes-to, field-bytes, fields-bytes, field-count, fields-in}
+use Rattle.region_archive.specs.RecordFields.{bytes-to, field-bytes, fields-bytes, field-count, fields-in}
 use Rattle.region_archive.proofs.Pieces.{bytes-next, bytes-within}
-use Rattle.region_archive.proofs.writing.put_entry.Statement.{statement}
-use Rattle.region_archive.proofs.writing.put_entry.Tie as tie
+use Rattle.region_archive.proofs.writing.put_record.Statement.{statement}
+use Rattle.region_archive.proofs.writing.put_record.Tie as tie
 
 abbrev Inv-loop : tie.InvT-loop
-Inv-loop buffer₀ at section entry size total to₀ field₀ buffer to field =
-    (field ≤ total) × Wrote buffer₀ buffer to₀ (bytes-to (field-bytes section) field (fields-in entry)) to
+Inv-loop buffer₀ at section values size total to₀ field₀ buffer to field =
+    (field ≤ total) × WrittenAt buffer₀ buffer to₀ (bytes-to (field-bytes section) field (fields-in values)) to
 
 abbrev μ-loop : tie.MeasureT-loop
-μ-loop buffer₀ at section entry size total to₀ field₀ buffer to field = total - field
+μ-loop buffer₀ at section values size total to₀ field₀ buffer to field = total - field
 
 fields-size-requires : tie.Need-fields-size-requires Inv-loop μ-loop
 fields-size-requires c κs = c .before .pre .0
-
-fields-requires : tie.Need-fields-requires Inv-loop μ-loop
-fields-requires c κs = search needs
-
-put-number-requires : tie.Need-put-number-requires Inv-loop μ-loop
-put-number-requires c κs = search needs
 
 loop-holds : tie.Need-loop-holds Inv-loop μ-loop
 loop-holds c = (omega arith, wrote-start (c .before .before .put-number .ensures))
@@ -36,7 +30,7 @@ put-field-requires c κs =
     let s = c .before .before .before .before .before .before .before .before .before .before in
     let l = c .before .before .loop in
     let f = field-bytes (s .args .section) in
-    let x = fields-in (s .args .entry) in
+    let x = fields-in (s .args .values) in
     let e : l .field + 1 ≤ field-count (s .args .section) = omega (arith, c .before .before .before .before .before .before .before .fields .ensures) in (
       s .pre .0,
       (
@@ -46,17 +40,11 @@ put-field-requires c κs =
       ),
     )
 
-add-field : tie.Need-add-field Inv-loop μ-loop
-add-field c = search needs
-
-loop-less : tie.Need-loop-less Inv-loop μ-loop
-loop-less c = search needs
-
 loop-again : tie.Need-loop-again Inv-loop μ-loop
 loop-again c =
     let s = c .before .before .before .before .before .before .before .before .before .before .before .before .before .args in
     let l = c .before .before .before .before .before .loop in
-    (omega arith, wrote-is (sym (bytes-next (field-bytes (s .section)) (l .field) (fields-in (s .entry)))) (wrote-then (l .inv .1) (c .before .before .put-field .ensures)))
+    (omega arith, wrote-is (sym (bytes-next (field-bytes (s .section)) (l .field) (fields-in (s .values)))) (wrote-then (l .inv .1) (c .before .before .put-field .ensures)))
 
 same-length : tie.Need-same-length Inv-loop μ-loop
 same-length c = wrote-length (c .before .loop .inv .1) ∙ wrote-length (c .before .before .before .before .put-number .ensures)
@@ -66,26 +54,26 @@ returns c =
     let s = c .before .before .before .before .before .before .before .before .before .args in
     let l = c .before .loop in
     let f = field-bytes (s .section) in
-    let x = fields-in (s .entry) in
+    let x = fields-in (s .values) in
     let e : l .field ≡ c .before .before .before .before .before .before .fields .result = omega arith in
     wrote-is
     (ap (λ (n : ℕ). big 2 n ++ bytes-to f (l .field) x) (c .before .before .before .before .before .before .before .fields-size .ensures .0)
     ∙ ap (λ (k : ℕ). big 2 (length (fields-bytes (s .section) x)) ++ bytes-to f k x) (e ∙ c .before .before .before .before .before .before .fields .ensures))
     (wrote-then (c .before .before .before .before .put-number .ensures) (l .inv .1))
 
-pub put-entry-spec : {M : Type 1} → statement M
-put-entry-spec =
+pub put-record-spec : {M : Type 1} → statement M
+put-record-spec =
     tie.close
     (tie.spec
     Inv-loop
     μ-loop
     fields-size-requires
-    fields-requires
-    put-number-requires
+    (λ c κs. search needs)
+    (λ c κs. search needs)
     loop-holds
     put-field-requires
-    add-field
-    loop-less
+    (λ c. search needs)
+    (λ c. search needs)
     loop-again
     same-length
     returns)

@@ -6,8 +6,9 @@ use Prim.Native.Nat.{ℕ, zero, suc, _+_, _-_, _/_, _%_, _^_, _≤_, _<_}
 use native.Mathlib.Omega.{arith}
 use borrow.Author.Tests.{not-true, not-false}
 use lib.ListN.{length, take, drop, set}
-use Rattle.region_archive.specs.Bytes.{big, each, counted}
-use Rattle.region_archive.specs.Rows.{Parsed, Unparsed, Answer}
+use Rattle.region_graph.specs.Lists.{concat-map}
+use Rattle.region_archive.specs.Bytes.{big, counted}
+use Rattle.region_archive.specs.Parsing.{Parsed, Unparsed, Answer}
 use Rattle.region_archive.specs.declared.numbers.NumberAt.{NumberAt}
 use Rattle.region_archive.proofs.Delimits.{big-same}
 
@@ -61,7 +62,7 @@ module _ (most : ℕ) (small : most < 256) (s : List ℕ) (at : ℕ) where
   pub no-count : {A : Type 0} (P : List A → Type 0) (bytes : A → List ℕ) → ((xs : List A) → P xs → length xs ≤ most) → (r : NumberAt) → not (r .ok) ≡ true
       → Answer (λ m. m ≤ most) (big 1) s at (r .ok) (r .number) (r .next) → Unparsed P (counted bytes) s at
   no-count P bytes few r e a xs t h f =
-      answer-fails (λ m. m ≤ most) (big 1) s at (r .ok) (r .number) (r .next) e a (length xs) (each bytes xs ++ t) (few xs h) (f ∙ ap (λ (m : ℕ). m ∷ (each bytes xs ++ t)) g)
+      answer-fails (λ m. m ≤ most) (big 1) s at (r .ok) (r .number) (r .next) e a (length xs) (concat-map bytes xs ++ t) (few xs h) (f ∙ ap (λ (m : ℕ). m ∷ (concat-map bytes xs ++ t)) g)
     where
       g : length xs ≡ length xs / 1 % 256
       g = omega (arith, few xs h)

@@ -29,5 +29,3 @@ pub mod RegionReads
 pub mod BodyReads
 pub mod FileReads
 pub mod QueryLaws
-pub mod Inverse
-pub mod WholeList

@@ -1,7 +1,7 @@
 -- The one image of a legal model: it tells the model, it passes the questions about its front, and it is no longer than 14248 bytes.
-use mathlib.Core.Path.{_≡_, refl, sym, ap, _∙_}
+use mathlib.Core.Path.{_≡_, sym, ap, _∙_}
 use mathlib.Core.Bool.{true}
-use mathlib.Core.List.{List, [], _∷_, _++_, append-nil}
+use mathlib.Core.List.{List, [], _++_, append-nil}
 use Prim.Native.Nat.{ℕ, _+_, _-_, _*_, _^_, _≤_, _<_}
 use native.Mathlib.Nat.{mul-le-mul-right}
 use native.Mathlib.Omega.{arith}
@@ -10,10 +10,9 @@ use borrow.Author.Tests.{le-leb, eq-eqb}
 use Rattle.region_graph.specs.Size.{regions, most-listed}
 use Rattle.region_graph.specs.Refusals.{not-refused}
 use Rattle.region_graph.specs.Lists.{All}
-use Rattle.region_graph.specs.Model.{Model, Part, Sorted, NumberedPart, Legal, nothing}
-use Rattle.region_graph.specs.Calls.{first-no, run}
+use Rattle.region_graph.specs.Model.{Model, Part, Sorted, NumberedPart, Legal}
+use Rattle.region_graph.specs.Calls.{first-no}
 use Rattle.region_graph.proofs.Lists.{all-map}
-use Rattle.region_routes.specs.Table.{graph-g}
 use Rattle.region_archive.specs.Bounds.{part-bound, bundle-bound, connection-bound}
 use Rattle.region_archive.specs.Bytes.{big, counted}
 use Rattle.region_archive.specs.Image.{part-bytes, body, image}
@@ -106,18 +105,3 @@ image-bound m h = omega (arith, image-size m, body-size m, legal-rows m h .0 .fe
 pub image-front : (m : Model) → Legal m → first-no (front-questions (image m)) ≡ not-refused
 unfolding image
 image-front m h = rw (le-leb 5 (length (image m)) (omega arith), eq-eqb (length-field (image m)) (length (image m) - 5) (word-bytes (length (body m)) (omega (arith, image-bound m h)) ∙ omega arith))
-
--- graph G's image, all 84 bytes
-abbrev pub g-image : List ℕ
-g-image =
-    0x01 ∷ 0x00 ∷ 0x00 ∷ 0x00 ∷ 0x4F ∷ 0x03 ∷ 0x00 ∷ 0x01 ∷ 0x02 ∷ 0x03 ∷ 0x00 ∷ 0x07 ∷ 0x00 ∷ 0x00 ∷ 0x00 ∷ 0x0A
-    ∷ 0x00 ∷ 0x00 ∷ 0x00 ∷ 0x00 ∷ 0x0B ∷ 0x00 ∷ 0x00 ∷ 0x00 ∷ 0x14 ∷ 0x01 ∷ 0x01 ∷ 0x00 ∷ 0x00 ∷ 0x00 ∷ 0x01 ∷ 0x00
-    ∷ 0x00 ∷ 0x13 ∷ 0x00 ∷ 0x00 ∷ 0x00 ∷ 0x1E ∷ 0x02 ∷ 0x03 ∷ 0x00 ∷ 0x00 ∷ 0x00 ∷ 0x01 ∷ 0x00 ∷ 0x00 ∷ 0x00 ∷ 0x02
-    ∷ 0x00 ∷ 0x00 ∷ 0x00 ∷ 0x03 ∷ 0x00 ∷ 0x02 ∷ 0x00 ∷ 0x0D ∷ 0x00 ∷ 0x01 ∷ 0x00 ∷ 0x02 ∷ 0x00 ∷ 0x00 ∷ 0x00 ∷ 0x01
-    ∷ 0x00 ∷ 0x00 ∷ 0x00 ∷ 0x02 ∷ 0x00 ∷ 0x00 ∷ 0x0D ∷ 0x01 ∷ 0x02 ∷ 0x00 ∷ 0x02 ∷ 0x00 ∷ 0x00 ∷ 0x00 ∷ 0x01 ∷ 0x00
-    ∷ 0x00 ∷ 0x00 ∷ 0x03 ∷ 0x00 ∷ []
-
--- the image of the calls of graph G
-pub image-of-g : image (run nothing graph-g) ≡ g-image
-unfolding image
-image-of-g = refl

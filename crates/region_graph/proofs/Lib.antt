@@ -9,4 +9,3 @@ pub mod FlatLaws
 pub mod Views
 pub mod FlatLoops
 pub mod FlatModels
-pub mod WholeList

@@ -28,14 +28,15 @@ use Rattle.region_archive.specs.Image.{image}
 use Rattle.region_archive.specs.Promise.{archived, write-questions, write-outcome}
 use Rattle.region_archive.specs.declared.Written.the-variants as Written
 use Rattle.region_archive.proofs.OneImage.{image-bound}
-use Rattle.region_host.proofs.ReadBack.{CountFits, PaperNumber, RoutedGiven, KeptGiven, WrittenGiven}
+use Rattle.region_host.specs.CNumbers.{CountFits}
+use Rattle.region_host.proofs.ReadBack.{PaperNumber, RoutedGiven, KeptGiven, WrittenGiven}
 
 -- the first question answered no has a number of theirs
-first-of-them : (qs : List Question) → All (λ q. q .number ≤ 100) qs → first-no qs ≤ 100
-first-of-them [] a = omega arith
-first-of-them (q ∷ qs) a = go (q .yes) (first-of-them qs (a .1))
+pub first-no-within : (most : ℕ) (qs : List Question) → All (λ q. q .number ≤ most) qs → first-no qs ≤ most
+first-no-within most [] a = omega arith
+first-no-within most (q ∷ qs) a = go (q .yes) (first-no-within most qs (a .1))
   where
-    go : (b : Bool) → first-no qs ≤ 100 → pick b (first-no qs) (q .number) ≤ 100
+    go : (b : Bool) → first-no qs ≤ most → pick b (first-no qs) (q .number) ≤ most
     go true h = h
     go false h = a .0
 
@@ -108,7 +109,7 @@ shown-from-given m i Nowhere entry = tt
 pub route-given : (m : Model) (l kind number : ℕ) (entry : List ℕ) → RoutedGiven (route-outcome m l kind number entry .answer)
 route-given m l kind number entry =
     judged-given RoutedGiven Routed.Refused (λ n g. g) (first-no (route-questions m l kind entry))
-    (first-of-them (route-questions m l kind entry) (omega arith, (omega arith, (omega arith, tt))))
+    (first-no-within 100 (route-questions m l kind entry) (omega arith, (omega arith, (omega arith, tt))))
     (shown-from m (item kind number) (place-of (m .bundles) l) entry) (shown-from-given m (item kind number) (place-of (m .bundles) l) entry) entry
 
 kept-given : (n : ℕ) → n ≤ 100 → (p : ℕ → Bool) (xs entry : List ℕ) → CountFits (length xs)
@@ -118,17 +119,17 @@ kept-given n h p xs entry c =
 
 pub find-given : (m : Model) (k : Kind) (l : ℕ) (xs entry : List ℕ) → CountFits (length xs) → KeptGiven (find-outcome m k l xs entry .answer)
 find-given m k l xs entry c =
-    kept-given (first-no (find-questions m l xs entry)) (first-of-them (find-questions m l xs entry) (omega arith, (omega arith, tt)))
+    kept-given (first-no (find-questions m l xs entry)) (first-no-within 100 (find-questions m l xs entry) (omega arith, (omega arith, tt)))
     (λ n. sees-from m (item (kind-number k) n) (place-of (m .bundles) l)) xs entry c
 
 pub event-given : (m : Model) (k : Kind) (xs : List ℕ) (number : ℕ) (entry : List ℕ) → CountFits (length xs)
     → KeptGiven (event-outcome m k xs number entry .answer)
 event-given m k xs number entry c =
-    kept-given (first-no (event-questions m xs entry)) (first-of-them (event-questions m xs entry) (omega arith, (omega arith, tt)))
+    kept-given (first-no (event-questions m xs entry)) (first-no-within 100 (event-questions m xs entry) (omega arith, (omega arith, tt)))
     (λ l. sees-from m (item (kind-number k) number) (place-of (m .bundles) l)) xs entry c
 
 pub write-given : (m : Model) → Legal m → (entry : List ℕ) → WrittenGiven (write-outcome m entry .answer)
 write-given m h entry =
     judged-given WrittenGiven Written.Refused (λ n g. g) (first-no (write-questions m entry))
-    (first-of-them (write-questions m entry) (omega arith, tt)) (archived (Written.Bytes (length (image m))) (written (image m) entry))
+    (first-no-within 100 (write-questions m entry) (omega arith, tt)) (archived (Written.Bytes (length (image m))) (written (image m) entry))
     (omega (arith, image-bound m h)) entry

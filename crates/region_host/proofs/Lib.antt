@@ -3,11 +3,9 @@ pub mod Changing
 pub mod ReadBack
 pub mod Filling
 pub mod Given
-pub mod Learnt
 pub mod Lendable
 pub mod Names
 pub mod Outcomes
 pub mod Parameters
 pub mod Records
 pub mod Storing
-pub mod WholeList

@@ -5,6 +5,7 @@ use mathlib.Core.List.{List, []}
 use mathlib.Core.Option.{Option, some, none}
 use Prim.Native.Nat.{ℕ}
 use lib.Dec.{eqb}
+use lib.ListN.{length}
 use Rattle.region_graph.specs.Refusals.{not-refused}
 use Rattle.region_graph.specs.Lists.{pick, keep}
 use Rattle.region_graph.specs.Model.{Model}
@@ -14,26 +15,19 @@ use Rattle.region_graph.specs.declared.Item.{Item}
 use Rattle.region_graph.specs.declared.Place.{Place}
 use Rattle.region_graph.specs.declared.Place.the-variants.{Within, Nowhere}
 use Rattle.region_routes.specs.Chosen.{chosen}
-use Rattle.region_routes.specs.Hooks.{Returned, Outcome, kind-number, item, routed-as, kept-as, route-questions, find-questions, event-questions, judged, shown, shown-from, route-outcome, kept-outcome, sees-from, find-outcome, event-outcome}
+use Rattle.region_routes.specs.Hooks.{Returned, Outcome, kind-number, item, written, routed-as, kept-as, route-questions, find-questions, event-questions, judged, shown, shown-from, route-outcome, kept-outcome, sees-from, find-outcome, event-outcome}
 use Rattle.region_routes.specs.declared.Kind.{Kind}
 use Rattle.region_routes.specs.declared.Routed.the-variants as Routed
 use Rattle.region_routes.specs.declared.Kept.the-variants as Kept
+use Rattle.region_archive.specs.Image.{image}
+use Rattle.region_archive.specs.Promise.{written-as, archived, write-questions, write-outcome}
+use Rattle.region_archive.specs.declared.Written.the-variants as Written
 use Rattle.region_host.specs.CNumbers.{Answered, answered, for-c}
 
 module _ {A : Type 0} where
   -- what an answer is for C, with the buffer beside it
   pub handed-on : (value : A → ℕ) {o p : Outcome A} {n : ℕ} → n ≡ value (o .answer) → o ≡ p → _≡_ {A = Answered} (answered n (o .exit)) (for-c value p)
   handed-on value {o} e q = ap (λ (n : ℕ). answered n (o .exit)) e ∙ ap (for-c value) q
-
-  -- the number v is that of an answer of which P holds
-  pub record Of (value : A → ℕ) (v : ℕ) (P : A → Type 0) : Type 0 where
-    pub answer : A
-    pub number : v ≡ value answer
-    pub says : P answer
-
-  -- what follows of an answer follows of that one
-  pub told : {value : A → ℕ} {v : ℕ} {P Q : A → Type 0} → Of value v P → ((a : A) → P a → Q a) → Of value v Q
-  told o f = record { answer = o .answer; number = o .number; says = f (o .answer) (o .says) }
 
   -- an outcome is an answer, what is returned for it, and a buffer
   abbrev outcome : (A → Returned) → A → List ℕ → Outcome A
@@ -42,14 +36,12 @@ module _ {A : Type 0} where
   abbrev Whole : (A → Returned) → Outcome A → Type 0
   Whole gives o = _≡_ {A = Outcome A} (outcome gives (o .answer) (o .exit)) o
 
-  -- what C gets tells the answer, with all that the outcome says
-  pub back : (gives : A → Returned) (value : A → ℕ) {o : Outcome A} {v : ℕ} {exit : List ℕ} → Whole gives o → _≡_ {A = Answered} (answered v exit) (for-c value o)
-      → Of value v (λ a. _≡_ {A = Outcome A} (outcome gives a exit) o)
-  back gives value {o} w e = record {
-    answer = o .answer;
-    number = ap (λ (x : Answered). x .value) e;
-    says = ap (λ (x : Answered). outcome gives (o .answer) (x .exit)) e ∙ w;
-  }
+  -- what C reads in the number that it gets is the answer, where that is had back from its number
+  pub read-off : (gives : A → Returned) (value : A → ℕ) (of : ℕ → A) {o : Outcome A} {v : ℕ} {exit : List ℕ} → Whole gives o
+      → of (value (o .answer)) ≡ o .answer → _≡_ {A = Answered} (answered v exit) (for-c value o)
+      → _≡_ {A = Outcome A} (outcome gives (of v) exit) o
+  read-off gives value of {o} w b e =
+      (λ i. outcome gives (of (e i .value)) (e i .exit)) ∙ ap (λ (a : A). outcome gives a (o .exit)) b ∙ w
 
   judged-whole : (gives : A → Returned) (refused : ℕ → A) → ((n : ℕ) → gives (refused n) ≡ record { number = n; values = [] }) → (n : ℕ) {o : Outcome A} (entry : List ℕ)
       → Whole gives o → Whole gives (judged refused n o entry)
@@ -82,3 +74,8 @@ find-whole m k l xs entry =
 pub event-whole : (m : Model) (k : Kind) (xs : List ℕ) (number : ℕ) (entry : List ℕ) → Whole kept-as (event-outcome m k xs number entry)
 event-whole m k xs number entry =
     kept-whole (first-no (event-questions m xs entry)) (keep (λ l. sees-from m (item (kind-number k) number) (place-of (m .bundles) l)) xs) entry
+
+pub write-whole : (m : Model) (entry : List ℕ) → Whole written-as (write-outcome m entry)
+write-whole m entry =
+    judged-whole written-as Written.Refused (λ n. refl) (first-no (write-questions m entry))
+    {o = archived (Written.Bytes (length (image m))) (written (image m) entry)} entry refl

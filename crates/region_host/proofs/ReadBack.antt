@@ -2,9 +2,7 @@
 use mathlib.Core.Path.{_≡_, refl, sym, ap, _∙_}
 use native.Mathlib.Omega.{arith}
 use Prim.Native.Nat.{ℕ, zero, suc, _-_, _<_, _≤_}
-use lib.Dec.{eqb, ltb}
 use borrow.Author.Tests.{lt-ltb, le-ltb, ne-eqb}
-use Rattle.region_graph.specs.Lists.{pick}
 use Rattle.region_graph.proofs.Lists.{pick-no}
 use Rattle.region_routes.specs.declared.Routed.{Routed}
 use Rattle.region_routes.specs.declared.Routed.the-variants as Routed
@@ -13,28 +11,9 @@ use Rattle.region_routes.specs.declared.Kept.the-variants as Kept
 use Rattle.region_archive.specs.Promise.{hidden-number}
 use Rattle.region_archive.specs.declared.Written.{Written}
 use Rattle.region_archive.specs.declared.Written.the-variants as Written
-use Rattle.region_host.specs.CNumbers.{negative, routed-value, kept-value, written-value}
+use Rattle.region_host.specs.CNumbers.{negative, routed-value, kept-value, written-value, read-back, unseen, routed-of, kept-of, written-of, CountFits}
 
--- what C reads in such a number: a count where it is not below zero, else a number of the papers
-abbrev read-back : {A : Type 0} → (ℕ → A) → (ℕ → A) → ℕ → A
-read-back count numbered v = pick (ltb v 9223372036854775808) (count v) (numbered (18446744073709551616 - v))
-
-abbrev unseen : ℕ → Routed
-unseen n = pick (eqb n hidden-number) Routed.Hidden (Routed.Refused n)
-
-abbrev routed-of : ℕ → Routed
-routed-of = read-back Routed.Count unseen
-
-abbrev kept-of : ℕ → Kept
-kept-of = read-back Kept.Wrote Kept.Refused
-
-abbrev written-of : ℕ → Written
-written-of = read-back Written.Bytes Written.Refused
-
--- a list in memory has fewer than 2^63 places; the questions have numbers below that of "hidden"
-abbrev pub CountFits : ℕ → Type 0
-CountFits n = n < 9223372036854775808
-
+-- the questions have numbers below that of "hidden"
 abbrev pub PaperNumber : ℕ → Type 0
 PaperNumber n = (0 < n) × (n ≤ 100)
 

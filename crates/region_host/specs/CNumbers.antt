@@ -1,6 +1,8 @@
 -- What a query answers, as one number for C. C reads the 64 digits as a signed number: a count as it is, and a number of the papers below zero.
 use mathlib.Core.List.{List}
-use Prim.Native.Nat.{ℕ, zero, suc, _-_}
+use Prim.Native.Nat.{ℕ, zero, suc, _-_, _<_}
+use lib.Dec.{eqb, ltb}
+use Rattle.region_graph.specs.Lists.{pick}
 use Rattle.region_routes.specs.Hooks.{Outcome}
 use Rattle.region_routes.specs.declared.Routed.{Routed}
 use Rattle.region_routes.specs.declared.Routed.the-variants as Routed
@@ -39,3 +41,23 @@ answered n exit = record { value = n; exit = exit }
 -- an outcome for C
 abbrev pub for-c : {A : Type 0} → (A → ℕ) → Outcome A → Answered
 for-c value o = answered (value (o .answer)) (o .exit)
+
+-- what C reads in such a number: a count where it is not below zero, else a number of the papers
+abbrev pub read-back : {A : Type 0} → (ℕ → A) → (ℕ → A) → ℕ → A
+read-back count numbered v = pick (ltb v 9223372036854775808) (count v) (numbered (18446744073709551616 - v))
+
+abbrev pub unseen : ℕ → Routed
+unseen n = pick (eqb n hidden-number) Routed.Hidden (Routed.Refused n)
+
+abbrev pub routed-of : ℕ → Routed
+routed-of = read-back Routed.Count unseen
+
+abbrev pub kept-of : ℕ → Kept
+kept-of = read-back Kept.Wrote Kept.Refused
+
+abbrev pub written-of : ℕ → Written
+written-of = read-back Written.Bytes Written.Refused
+
+-- a count that is not read as a number below zero; a list in memory has no more places
+abbrev pub CountFits : ℕ → Type 0
+CountFits n = n < 9223372036854775808

@@ -2,4 +2,3 @@
 pub mod Collecting
 pub mod Counting
 pub mod ListingLaws
-pub mod Printed

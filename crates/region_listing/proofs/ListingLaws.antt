@@ -208,7 +208,7 @@ pub refusal-fits : (n : ℕ) → length (refusal-text n) ≤ longest-text
 unfolding refusal-text refused-word
 refusal-fits n = omega (arith, field-most n newline)
 
-model-legal : {s : List ℕ} (f : FileMeaning s) → Legal (read-model f)
+pub model-legal : {s : List ℕ} (f : FileMeaning s) → Legal (read-model f)
 model-legal (means m l e) = l
 model-legal (means-none n) = legal-nothing
 

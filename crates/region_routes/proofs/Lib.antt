@@ -1,6 +1,5 @@
 pub mod RouteLaws
 pub mod Choosing
-pub mod Net
 pub mod SetLaws
 pub mod Layers
 pub mod SearchLoops
@@ -10,6 +9,3 @@ pub mod TableLaws
 pub mod Chaining
 pub mod Keeping
 pub mod Answering
-pub mod Claims
-pub mod Rows
-pub mod WholeList

@@ -6,26 +6,24 @@ use mathlib.Core.Option.{Option, some, none}
 use Prim.Native.Nat.{ℕ, _-_}
 use native.Mathlib.Omega.{arith}
 use lib.Dec.{eqb}
-use borrow.Author.Tests.{eqb-true}
+use borrow.Author.Tests.{eqb-true, ne-eqb}
 use Rattle.region_graph.specs.Refusals.{not-refused}
 use Rattle.region_graph.specs.Lists.{pick, keep}
 use Rattle.region_graph.specs.Model.{Model, Legal}
-use Rattle.region_graph.specs.Calls.{first-no}
 use Rattle.region_graph.specs.Promise.{place-of}
 use Rattle.region_graph.specs.declared.Item.{Item}
 use Rattle.region_graph.specs.declared.Place.{Place}
 use Rattle.region_graph.specs.declared.Place.the-variants.{Within, Nowhere}
 use Rattle.region_routes.specs.Chosen.{chosen, sees}
-use Rattle.region_routes.specs.Hooks.{Outcome, item, routed, kept, judged, shown, shown-from, kept-outcome, sees-from, route-questions, find-questions, event-questions, route-outcome, find-outcome, event-outcome}
-use Rattle.region_routes.specs.Claim
-use Rattle.region_routes.specs.Claim.{Selected, Seen, RouteSays, says-hidden, says-route, KeptSays, ListenerSees}
-use Rattle.region_routes.specs.declared.Kind.{Kind}
+use Rattle.region_routes.specs.Hooks.{Outcome, routed, kept, judged, shown, shown-from, kept-outcome, sees-from}
+use Rattle.demands.specs.Claim
+use Rattle.demands.specs.Claim.{Selected, Seen, RouteSays, says-hidden, says-route, KeptSays, InstalledWhere}
 use Rattle.region_routes.specs.declared.Routed.{Routed}
 use Rattle.region_routes.specs.declared.Routed.the-variants as Routed
 use Rattle.region_routes.specs.declared.Kept.{Kept}
 use Rattle.region_routes.specs.declared.Kept.the-variants as Kept
 use Rattle.region_routes.proofs.RouteLaws.{nonempty}
 use Rattle.region_routes.proofs.Choosing.{chosen-best, chosen-none, sees-route, route-sees}
 
 -- the elements that pass a test are those of which P holds, where the test says so
 pub keep-selected : (P : ℕ → Type 0) (p : ℕ → Bool) → ((x : ℕ) → p x ≡ true → P x) → ((x : ℕ) → P x → p x ≡ true)
@@ -45,14 +43,14 @@ module _ (m : Model) (h : Legal m) where
   seen-sees i r s = route-sees m i r h (s .0) (s .1)
 
   -- a listener hears of the item exactly where the set of regions-seeing has its region
-  pub listener-sees : (i : Item) (l : ℕ) → sees-from m i (place-of (m .bundles) l) ≡ true → ListenerSees m i l
+  pub listener-sees : (i : Item) (l : ℕ) → sees-from m i (place-of (m .bundles) l) ≡ true → InstalledWhere m l (Seen m i)
   listener-sees i l e = go (place-of (m .bundles) l) refl e
     where
-      go : (p : Place) → place-of (m .bundles) l ≡ p → sees-from m i p ≡ true → ListenerSees m i l
+      go : (p : Place) → place-of (m .bundles) l ≡ p → sees-from m i p ≡ true → InstalledWhere m l (Seen m i)
       go (Within r) q k = (r, q, sees-seen i r k)
       go Nowhere q k = let z : _≡_ {A = ℕ} 0 1 = ap (λ (t : Bool). pick t 1 0) k in absurd (omega arith)
 
-  pub sees-listener : (i : Item) (l : ℕ) → ListenerSees m i l → sees-from m i (place-of (m .bundles) l) ≡ true
+  pub sees-listener : (i : Item) (l : ℕ) → InstalledWhere m l (Seen m i) → sees-from m i (place-of (m .bundles) l) ≡ true
   sees-listener i l s = rw (s .1) (seen-sees i (s .0) (s .2))
 
   -- the outcome of a route call
@@ -81,8 +79,24 @@ kept-says P p f g xs entry exit a e = record {
   exit-is = ap (λ (x : Outcome Kept). x .exit) e;
 }
 
+-- those of which P holds are those of which Q holds, where the two say the same
+selected-same : {P Q : ℕ → Type 0} → ((x : ℕ) → P x → Q x) → ((x : ℕ) → Q x → P x) → {xs ys : List ℕ} → Selected P xs ys → Selected Q xs ys
+selected-same f g Claim.none = Claim.none
+selected-same f g (Claim.kept {x = x} h s) = Claim.kept (f x h) (selected-same f g s)
+selected-same f g (Claim.left {x = x} h s) = Claim.left (λ q. h (g x q)) (selected-same f g s)
+
+pub kept-same : {P Q : ℕ → Type 0} → ((x : ℕ) → P x → Q x) → ((x : ℕ) → Q x → P x) → {xs entry exit : List ℕ} {a : Kept}
+    → KeptSays P xs entry exit a → KeptSays Q xs entry exit a
+kept-same f g k = record { those = k .those; selected = selected-same f g (k .selected); count = k .count; exit-is = k .exit-is }
+
+-- a refused query leaves the buffer as it was
+pub judged-kept : {A : Type 0} (refused : ℕ → A) (n : ℕ) (o : Outcome A) (entry : List ℕ) → (n ≡ not-refused → ⊥)
+    → judged refused n o entry .exit ≡ entry
+judged-kept refused n o entry u =
+    ap (λ (b : Bool). pick b o (record { answer = refused n; returned = record { number = n; values = [] }; exit = entry }) .exit) (ne-eqb n not-refused u)
+
 -- the number of an answer is that of the first question answered no
-judged-number : {A : Type 0} (refused : ℕ → A) (n : ℕ) (o : Outcome A) (entry : List ℕ) → o .returned .number ≡ not-refused
+pub judged-number : {A : Type 0} (refused : ℕ → A) (n : ℕ) (o : Outcome A) (entry : List ℕ) → o .returned .number ≡ not-refused
     → judged refused n o entry .returned .number ≡ n
 judged-number refused n o entry e = go (eqb n not-refused) refl
   where
@@ -91,23 +105,10 @@ judged-number refused n o entry e = go (eqb n not-refused) refl
     go true q = e ∙ sym (eqb-true n not-refused q)
     go false q = refl
 
-shown-number : (m : Model) (i : Item) (p : Place) (entry : List ℕ) → shown-from m i p entry .returned .number ≡ not-refused
+pub shown-number : (m : Model) (i : Item) (p : Place) (entry : List ℕ) → shown-from m i p entry .returned .number ≡ not-refused
 shown-number m i (Within r) entry = go (chosen m i r)
   where
     go : (o : Option (List ℕ)) → shown o entry .returned .number ≡ not-refused
     go none = refl
     go (some p) = refl
 shown-number m i Nowhere entry = refl
-
-pub route-number : (m : Model) (l kind number : ℕ) (entry : List ℕ)
-    → route-outcome m l kind number entry .returned .number ≡ first-no (route-questions m l kind entry)
-route-number m l kind number entry =
-    judged-number Routed.Refused (first-no (route-questions m l kind entry)) _ entry (shown-number m (item kind number) (place-of (m .bundles) l) entry)
-
-pub find-number : (m : Model) (k : Kind) (l : ℕ) (xs entry : List ℕ)
-    → find-outcome m k l xs entry .returned .number ≡ first-no (find-questions m l xs entry)
-find-number m k l xs entry = judged-number Kept.Refused (first-no (find-questions m l xs entry)) _ entry refl
-
-pub event-number : (m : Model) (k : Kind) (xs : List ℕ) (number : ℕ) (entry : List ℕ)
-    → event-outcome m k xs number entry .returned .number ≡ first-no (event-questions m xs entry)
-event-number m k xs number entry = judged-number Kept.Refused (first-no (event-questions m xs entry)) _ entry refl

@@ -3,20 +3,16 @@
 use mathlib.Core.Path.{_≡_}
 use mathlib.Core.List.{List, [], _∷_}
 use Prim.Native.Nat.{ℕ, suc}
-use lib.ListN.{length}
+use lib.ListN.{length, replicate}
 use Rattle.region_graph.specs.Lists.{All}
-use Rattle.region_graph.specs.Model.{Model, Part, nothing}
+use Rattle.region_graph.specs.Model.{Part, nothing}
 use Rattle.region_graph.specs.Calls.{Call, run, numbers}
-use Rattle.region_graph.specs.Promise.{place-of}
 use Rattle.region_graph.specs.declared.Item.{Item}
-use Rattle.region_graph.specs.declared.Place.the-variants.{Within}
 use Rattle.region_routes.specs.Chosen.{NoRouteFor, BestFor}
 use Rattle.region_routes.specs.Hooks.{item}
-use Rattle.region_routes.specs.Claim.{Selected, Seen}
+use Rattle.demands.specs.Claim.{Selected, Seen, InstalledWhere}
 
 pub data Claim : Type 0 where
-  -- the numbers of the calls
-  answers : List ℕ → Claim
   -- resolve for the bundle at a location, on these candidates, gives those
   resolves : ℕ → List ℕ → List ℕ → Claim
   -- the route from the bundle at a location to an item, and its count of connections
@@ -24,23 +20,19 @@ pub data Claim : Type 0 where
   -- an item is hidden from the bundle at a location
   hides : ℕ → Item → Claim
 
--- P holds of the region in which the bundle at a location is installed
-abbrev pub Asks : Model → ℕ → (ℕ → Type 0) → Type 0
-Asks m l P = (r : ℕ) × (place-of (m .bundles) l ≡ Within r) × P r
-
 abbrev pub Says : List Call → Claim → Type 0
-Says cs (answers ns) = numbers nothing cs ≡ ns
-Says cs (resolves l xs ys) = let m = run nothing cs in Asks m l (λ r. Selected (λ n. Seen m (item 1 n) r) xs ys)
-Says cs (routes l i p n) = let m = run nothing cs in Asks m l (λ r. BestFor m i r p × (length p ≡ suc n))
-Says cs (hides l i) = let m = run nothing cs in Asks m l (NoRouteFor m i)
+Says cs (resolves l xs ys) = let m = run nothing cs in InstalledWhere m l (λ r. Selected (λ n. Seen m (item 1 n) r) xs ys)
+Says cs (routes l i p n) = let m = run nothing cs in InstalledWhere m l (λ r. BestFor m i r p × (length p ≡ suc n))
+Says cs (hides l i) = let m = run nothing cs in InstalledWhere m l (NoRouteFor m i)
 
+-- calls, the number of each, and claims about the model that they give
 pub record Row : Type 0 where
   pub calls : List Call
+  pub returned : List ℕ
   pub claims : List Claim
 
--- all that a row claims holds
 abbrev pub RowHolds : Row → Type 0
-RowHolds w = All (Says (w .calls)) (w .claims)
+RowHolds w = (numbers nothing (w .calls) ≡ w .returned) × All (Says (w .calls)) (w .claims)
 
 -- a bundle with packages and services, and connections that pass packages, services or bundles
 abbrev pub bundle-of : ℕ → ℕ → List ℕ → List ℕ → Call
@@ -89,20 +81,22 @@ diamond =
 abbrev pub rows : List Row
 rows =
     -- G1 to G6
-    record { calls = graph-g; claims = resolves 10 (1 ∷ 2 ∷ 3 ∷ []) (1 ∷ []) ∷ [] }
-    ∷ record { calls = graph-g; claims = resolves 20 (1 ∷ 2 ∷ 3 ∷ []) (1 ∷ 3 ∷ []) ∷ [] }
-    ∷ record { calls = graph-g; claims = routes 10 (item 1 1) (0 ∷ 1 ∷ []) 1 ∷ [] }
-    ∷ record { calls = graph-g; claims = hides 10 (item 1 3) ∷ [] }
-    ∷ record { calls = graph-g; claims = hides 20 (item 0 30) ∷ [] }
-    ∷ record { calls = graph-g; claims = routes 10 (item 0 10) (0 ∷ []) 0 ∷ [] }
+    record { calls = graph-g; returned = replicate 8 0; claims = resolves 10 (1 ∷ 2 ∷ 3 ∷ []) (1 ∷ []) ∷ [] }
+    ∷ record { calls = graph-g; returned = replicate 8 0; claims = resolves 20 (1 ∷ 2 ∷ 3 ∷ []) (1 ∷ 3 ∷ []) ∷ [] }
+    ∷ record { calls = graph-g; returned = replicate 8 0; claims = routes 10 (item 1 1) (0 ∷ 1 ∷ []) 1 ∷ [] }
+    ∷ record { calls = graph-g; returned = replicate 8 0; claims = hides 10 (item 1 3) ∷ [] }
+    ∷ record { calls = graph-g; returned = replicate 8 0; claims = hides 20 (item 0 30) ∷ [] }
+    ∷ record { calls = graph-g; returned = replicate 8 0; claims = routes 10 (item 0 10) (0 ∷ []) 0 ∷ [] }
     -- G7
     ∷ record {
       calls = cycle;
+      returned = replicate 6 0;
       claims = hides 10 (item 2 77) ∷ hides 20 (item 2 77) ∷ [];
     }
     -- G8
     ∷ record {
       calls = diamond;
+      returned = replicate 10 0;
       claims = routes 10 (item 2 5) (0 ∷ 1 ∷ 3 ∷ []) 2 ∷ [];
     }
     -- G9
@@ -115,8 +109,27 @@ rows =
           ∷ Call.uninstall 20
           ∷ bundle-of 20 1 [] []
           ∷ [];
-      claims = answers (0 ∷ 0 ∷ 0 ∷ 0 ∷ 0 ∷ 10 ∷ []) ∷ [];
+      returned = 0 ∷ 0 ∷ 0 ∷ 0 ∷ 0 ∷ 10 ∷ [];
+      claims = [];
     }
     -- G10
-    ∷ record { calls = Call.add-region 15 ∷ Call.add-region 16 ∷ []; claims = answers (0 ∷ 1 ∷ []) ∷ [] }
+    ∷ record { calls = Call.add-region 15 ∷ Call.add-region 16 ∷ []; returned = 0 ∷ 1 ∷ []; claims = [] }
+    ∷ []
+
+-- graph G's image, all 84 bytes
+abbrev pub g-image : List ℕ
+g-image =
+    0x01 ∷ 0x00 ∷ 0x00 ∷ 0x00 ∷ 0x4F ∷ 0x03 ∷ 0x00 ∷ 0x01 ∷ 0x02 ∷ 0x03 ∷ 0x00 ∷ 0x07 ∷ 0x00 ∷ 0x00 ∷ 0x00 ∷ 0x0A
+    ∷ 0x00 ∷ 0x00 ∷ 0x00 ∷ 0x00 ∷ 0x0B ∷ 0x00 ∷ 0x00 ∷ 0x00 ∷ 0x14 ∷ 0x01 ∷ 0x01 ∷ 0x00 ∷ 0x00 ∷ 0x00 ∷ 0x01 ∷ 0x00
+    ∷ 0x00 ∷ 0x13 ∷ 0x00 ∷ 0x00 ∷ 0x00 ∷ 0x1E ∷ 0x02 ∷ 0x03 ∷ 0x00 ∷ 0x00 ∷ 0x00 ∷ 0x01 ∷ 0x00 ∷ 0x00 ∷ 0x00 ∷ 0x02
+    ∷ 0x00 ∷ 0x00 ∷ 0x00 ∷ 0x03 ∷ 0x00 ∷ 0x02 ∷ 0x00 ∷ 0x0D ∷ 0x00 ∷ 0x01 ∷ 0x00 ∷ 0x02 ∷ 0x00 ∷ 0x00 ∷ 0x00 ∷ 0x01
+    ∷ 0x00 ∷ 0x00 ∷ 0x00 ∷ 0x02 ∷ 0x00 ∷ 0x00 ∷ 0x0D ∷ 0x01 ∷ 0x02 ∷ 0x00 ∷ 0x02 ∷ 0x00 ∷ 0x00 ∷ 0x00 ∷ 0x01 ∷ 0x00
+    ∷ 0x00 ∷ 0x00 ∷ 0x03 ∷ 0x00 ∷ []
+
+-- 10 0 1 1 0, 20 1 1 2 0 and 30 2 1 3 0, each on a line
+abbrev pub lines-of-g : List ℕ
+lines-of-g =
+    49 ∷ 48 ∷ 32 ∷ 48 ∷ 32 ∷ 49 ∷ 32 ∷ 49 ∷ 32 ∷ 48 ∷ 10
+    ∷ 50 ∷ 48 ∷ 32 ∷ 49 ∷ 32 ∷ 49 ∷ 32 ∷ 50 ∷ 32 ∷ 48 ∷ 10
+    ∷ 51 ∷ 48 ∷ 32 ∷ 50 ∷ 32 ∷ 49 ∷ 32 ∷ 51 ∷ 32 ∷ 48 ∷ 10
     ∷ []

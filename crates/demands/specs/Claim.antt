@@ -7,12 +7,13 @@ use Rattle.region_graph.specs.Model.{Model}
 use Rattle.region_graph.specs.Promise.{place-of}
 use Rattle.region_graph.specs.declared.Item.{Item}
 use Rattle.region_graph.specs.declared.Place.the-variants.{Within}
 use Rattle.region_routes.specs.Chosen.{RouteFor, NoRouteFor, BestFor}
 use Rattle.region_routes.specs.Hooks.{written}
 use Rattle.region_routes.specs.declared.Routed.{Routed}
 use Rattle.region_routes.specs.declared.Routed.the-variants.{Hidden, Count}
 use Rattle.region_routes.specs.declared.Kept.{Kept}
 use Rattle.region_routes.specs.declared.Kept.the-variants.{Wrote}
+use Rattle.region_archive.specs.Promise.{seen-number, hidden-number}
 
 -- ys are exactly those of xs of which P holds, in the order given, repetitions kept
 pub data Selected (P : ℕ → Type 0) : List ℕ → List ℕ → Type 0 where
@@ -36,6 +37,11 @@ pub record KeptSays (P : ℕ → Type 0) (xs entry exit : List ℕ) (answer : Ke
   pub count : answer ≡ Wrote (length those)
   pub exit-is : exit ≡ written those entry
 
--- a listener is installed in a region that sees the item
-abbrev pub ListenerSees : Model → Item → ℕ → Type 0
-ListenerSees m i l = (r : ℕ) × (place-of (m .bundles) l ≡ Within r) × Seen m i r
+-- P holds of the region in which the bundle at a location is installed
+abbrev pub InstalledWhere : Model → ℕ → (ℕ → Type 0) → Type 0
+InstalledWhere m l P = (r : ℕ) × (place-of (m .bundles) l ≡ Within r) × P r
+
+-- an archive query returns 100 where there is a route from the bundle's region, and 101 where there is none
+pub data QuerySays (m : Model) (i : Item) (r : ℕ) : ℕ → Type 0 where
+  says-seen : Seen m i r → QuerySays m i r seen-number
+  says-unseen : NoRouteFor m i r → QuerySays m i r hidden-number

@@ -1,22 +1,22 @@
--- Document 01's example of a listing, computed: what is printed for G, for a graph with nothing in it, and for a refused file.
+-- Document 01's image and listing of graph G, computed; what is printed for a graph with nothing in it, and for a refused file.
 use mathlib.Core.Path.{_≡_, refl}
-use mathlib.Core.List.{List, [], _∷_, _++_}
-use Prim.Native.Nat.{ℕ}
+use mathlib.Core.List.{[], _∷_, _++_}
+use lib.ListN.{length}
 use Rattle.region_graph.specs.Model.{nothing}
 use Rattle.region_graph.specs.Refusals.{broken-layout}
 use Rattle.region_graph.specs.Calls.{run}
 use Rattle.region_routes.specs.Chosen.{chosen-by, chosen}
-use Rattle.region_routes.specs.Table.{graph-g}
 use Rattle.text_lines.specs.Decimal.{decimal}
+use Rattle.region_archive.specs.Image.{image}
 use Rattle.region_listing.specs.Listing.{held, seen-from, header, listing-text, refused-word, refusal-text}
+use Rattle.demands.specs.JointTable.{graph-g, g-image, lines-of-g}
 
--- 10 0 1 1 0, 20 1 1 2 0 and 30 2 1 3 0, each on a line
-abbrev pub lines-of-g : List ℕ
-lines-of-g =
-    49 ∷ 48 ∷ 32 ∷ 48 ∷ 32 ∷ 49 ∷ 32 ∷ 49 ∷ 32 ∷ 48 ∷ 10
-    ∷ 50 ∷ 48 ∷ 32 ∷ 49 ∷ 32 ∷ 49 ∷ 32 ∷ 50 ∷ 32 ∷ 48 ∷ 10
-    ∷ 51 ∷ 48 ∷ 32 ∷ 50 ∷ 32 ∷ 49 ∷ 32 ∷ 51 ∷ 32 ∷ 48 ∷ 10
-    ∷ []
+pub image-of-g : image (run nothing graph-g) ≡ g-image
+unfolding image
+image-of-g = refl
+
+pub length-of-image : length g-image ≡ 84
+length-of-image = refl
 
 pub printed-g : listing-text (run nothing graph-g) ≡ header ++ lines-of-g
 unfolding listing-text header seen-from held decimal chosen chosen-by

@@ -12,11 +12,11 @@ use Rattle.region_graph.specs.Promise.{place-of}
 use Rattle.region_graph.specs.declared.Item.{Item}
 use Rattle.region_graph.specs.declared.Place.the-variants.{Within}
 use Rattle.region_graph.proofs.Legal.{legal-nothing, legal-run}
 use Rattle.region_routes.specs.Chosen.{chosen-by, chosen, sees}
 use Rattle.region_routes.specs.Hooks.{item}
-use Rattle.region_routes.specs.Table.{Says, RowHolds, rows, graph-g, cycle, diamond, resolves, routes, hides}
+use Rattle.demands.specs.JointTable.{Says, RowHolds, rows, graph-g, cycle, diamond, resolves, routes, hides}
 use Rattle.region_routes.proofs.Choosing.{chosen-best, chosen-none}
-use Rattle.region_routes.proofs.Claims.{keep-selected, sees-seen, seen-sees}
+use Rattle.demands.proofs.Claims.{keep-selected, sees-seen, seen-sees}
 
 module _ (cs : List Call) (w : All Words cs) where
   legal : Legal (run nothing cs)
@@ -52,24 +52,27 @@ words-diamond = search needs depth 30 fits 4000
 pub every-row : All RowHolds rows
 unfolding chosen chosen-by
 every-row = (
-  (finds graph-g words-g 10 0 (1 ∷ 2 ∷ 3 ∷ []) refl, tt),
+  (refl, (finds graph-g words-g 10 0 (1 ∷ 2 ∷ 3 ∷ []) refl, tt)),
   (
-    (finds graph-g words-g 20 1 (1 ∷ 2 ∷ 3 ∷ []) refl, tt),
+    (refl, (finds graph-g words-g 20 1 (1 ∷ 2 ∷ 3 ∷ []) refl, tt)),
     (
-      (shows graph-g words-g 10 0 (item 1 1) _ _ refl refl refl, tt),
+      (refl, (shows graph-g words-g 10 0 (item 1 1) _ _ refl refl refl, tt)),
       (
-        (shows-none graph-g words-g 10 0 (item 1 3) refl refl, tt),
+        (refl, (shows-none graph-g words-g 10 0 (item 1 3) refl refl, tt)),
         (
-          (shows-none graph-g words-g 20 1 (item 0 30) refl refl, tt),
+          (refl, (shows-none graph-g words-g 20 1 (item 0 30) refl refl, tt)),
           (
-            (shows graph-g words-g 10 0 (item 0 10) _ _ refl refl refl, tt),
+            (refl, (shows graph-g words-g 10 0 (item 0 10) _ _ refl refl refl, tt)),
             (
-              (shows-none cycle words-cycle 10 3 (item 2 77) refl refl, (shows-none cycle words-cycle 20 4 (item 2 77) refl refl, tt)),
+              (refl, (shows-none cycle words-cycle 10 3 (item 2 77) refl refl, (shows-none cycle words-cycle 20 4 (item 2 77) refl refl, tt))),
               (
-                (shows diamond words-diamond 10 0 (item 2 5) _ _ refl refl refl, tt),
+                (refl, (shows diamond words-diamond 10 0 (item 2 5) _ _ refl refl refl, tt)),
                 (
                   (refl, tt),
-                  ((refl, tt), tt),
+                  (
+                    (refl, tt),
+                    tt,
+                  ),
                 ),
               ),
             ),

@@ -1,0 +1,107 @@
+-- What the promises of the writer and of the reader say of each other.
+use mathlib.Core.Path.{_≡_, refl, sym, ap, _∙_}
+use mathlib.Core.Bool.{Bool, true, false}
+use mathlib.Core.List.{List, [], _∷_}
+use Prim.Native.Nat.{ℕ, _≤_}
+use borrow.Author.Tests.{le-leb, eq-eqb, eqb-false}
+use lib.Dec.{eqb, leb}
+use lib.ListN.{length, take, drop}
+use lib.Seq.{take-at}
+use Rattle.region_graph.specs.Refusals.{not-refused, no-place}
+use Rattle.region_graph.specs.Lists.{pick}
+use Rattle.region_graph.specs.Model.{Model, Legal}
+use Rattle.region_graph.specs.Record.{Valid, meaning}
+use Rattle.region_graph.specs.Promise.{Empty}
+use Rattle.region_graph.specs.declared.Graph.{Graph}
+use Rattle.region_graph.specs.declared.Changed.{Changed}
+use Rattle.region_graph.specs.Calls.{ask, first-no}
+use Rattle.region_graph.proofs.Lists.{false-true}
+use Rattle.region_graph.proofs.Legal.{all-yes}
+use Rattle.region_graph.proofs.Storing.{meaning-injective}
+use Rattle.region_routes.specs.Hooks.{Outcome, written, judged}
+use Rattle.region_archive.specs.Image.{image}
+use Rattle.region_archive.specs.File.{FileMeaning, means, means-none, read-questions, read-number, read-model}
+use Rattle.region_archive.specs.Promise.{archived, write-outcome, Reads, ReadsOver}
+use Rattle.region_archive.specs.declared.Written.{Written}
+use Rattle.region_archive.specs.declared.Written.the-variants as Written
+use Rattle.region_archive.proofs.FileReads.{accepted, refused-model}
+use Rattle.region_archive.proofs.Meaning.{file-meaning}
+
+-- a file that is no image is refused
+none-refused : {s : List ℕ} (n : (m : Model) → Legal m → image m ≡ s → ⊥) → read-number (means-none n) ≡ not-refused → ⊥
+none-refused n e = false-true (all-yes (read-questions (means-none n)) (refl, (refl, (refl, tt))) e .1 .1 .0)
+
+-- what a read gives by value is what a read over the empty record gives
+pub read-over-empty : {s : List ℕ} {g : Graph} {r : Changed} → Empty g → Reads s r → ReadsOver g s r
+read-over-empty {s} {g} {r} e a = record {
+  valid = a .valid;
+  kept = λ u. let f = file-meaning s in meaning-injective (r .graph) g (a .valid) (e .valid) (nothing-read f (λ z. u (a .says f .number ∙ z)));
+  says = λ f. record { number = a .says f .number; next = go f (eqb (read-number f) not-refused) refl };
+}
+  where
+    nothing-read : (f : FileMeaning s) → (read-number f ≡ not-refused → ⊥) → meaning (r .graph) ≡ meaning g
+    nothing-read f u = a .says f .next ∙ refused-model f u ∙ sym (e .model)
+
+    go : (f : FileMeaning s) (b : Bool) → eqb (read-number f) not-refused ≡ b → meaning (r .graph) ≡ pick b (read-model f) (meaning g)
+    go f true q = a .says f .next
+    go f false q = nothing-read f (eqb-false (read-number f) not-refused q)
+
+module _ {g : Graph} {s : List ℕ} {r : Changed} (a : ReadsOver g s r) where
+  -- an accepted file is read as what it means
+  pub accepted-model : r .number ≡ not-refused → (f : FileMeaning s) → meaning (r .graph) ≡ read-model f
+  accepted-model e f =
+      a .says f .next ∙ ap (λ (b : Bool). pick b (read-model f) (meaning g)) (eq-eqb (read-number f) not-refused (sym (a .says f .number) ∙ e))
+
+  -- an accepted file is the image of what the record means
+  pub accepted-image : r .number ≡ not-refused → image (meaning (r .graph)) ≡ s
+  accepted-image e = by (file-meaning s)
+    where
+      by : (f : FileMeaning s) → image (meaning (r .graph)) ≡ s
+      by (means m l i) = ap image (accepted-model e (means m l i)) ∙ i
+      by (means-none n) = absurd (none-refused n (sym (a .says (means-none n) .number) ∙ e))
+
+  -- a legal model's image is accepted, and read as that model
+  pub image-accepted : (m : Model) → Legal m → image m ≡ s → (r .number ≡ not-refused) × (meaning (r .graph) ≡ m)
+  image-accepted m l e =
+      let f = means m l e in
+      let n : r .number ≡ not-refused = a .says f .number ∙ sym (accepted f m l e .0) in
+      (n, accepted-model n f)
+
+  -- where no valid record has the file as its image, it is refused
+  pub others-refused : ((h : Graph) → Valid h → image (meaning h) ≡ s → ⊥) → r .number ≡ not-refused → ⊥
+  others-refused u e = u (r .graph) (a .valid) (accepted-image e)
+
+-- two reads of one file, over one record, give one result
+pub read-settled : {g : Graph} {s : List ℕ} {x y : Changed} → ReadsOver g s x → ReadsOver g s y → x ≡ y
+read-settled {g} {s} {x} {y} a b =
+    let f = file-meaning s in
+    λ i. record {
+      graph = meaning-injective (x .graph) (y .graph) (a .valid) (b .valid) (a .says f .next ∙ sym (b .says f .next)) i;
+      number = (a .says f .number ∙ sym (b .says f .number)) i;
+    }
+
+-- the bytes that a write reports are the image
+abbrev byte-count : Written → ℕ
+byte-count (Written.Bytes n) = n
+byte-count (Written.Refused n) = 0
+
+abbrev is-bytes : Written → Bool
+is-bytes (Written.Bytes n) = true
+is-bytes (Written.Refused n) = false
+
+pub written-image : (m : Model) (entry exit : List ℕ) (n : ℕ)
+    → _≡_ {A = Outcome Written} (archived (Written.Bytes n) exit) (write-outcome m entry) → image m ≡ take n exit
+written-image m entry exit n w = by (leb (length (image m)) (length entry)) w
+  where
+    by : (b : Bool)
+        → _≡_ {A = Outcome Written} (archived (Written.Bytes n) exit)
+        (judged Written.Refused (first-no (ask no-place b ∷ [])) (archived (Written.Bytes (length (image m))) (written (image m) entry)) entry)
+        → image m ≡ take n exit
+    by true w =
+        sym ((λ i. take (byte-count (w i .answer)) (w i .exit)) ∙ take-at (image m) (drop (length (image m)) entry) (length (image m)) refl)
+    by false w = false-true (sym (ap (λ (o : Outcome Written). is-bytes (o .answer)) w))
+
+-- where there is room for the image it is written
+pub image-written : (m : Model) (s entry : List ℕ) → image m ≡ s → length s ≤ length entry
+    → write-outcome m entry ≡ archived (Written.Bytes (length s)) (written s entry)
+image-written m s entry i h = rw (i, le-leb (length s) (length entry) h) refl

@@ -1,0 +1,8 @@
+-- Laws by subject, each over what stands above it.
+pub mod Claims
+pub mod NetLaws
+pub mod Inverse
+pub mod Meets
+pub mod Theorems
+pub mod Rows
+pub mod GraphG

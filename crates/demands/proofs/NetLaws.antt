@@ -1,0 +1,89 @@
+-- What routes let a region see is the least solution of 001's equation, and on G7 there is a greater one.
+use mathlib.Core.Path.{_≡_, refl, subst}
+use mathlib.Core.Bool.{Bool, true, false, and-false}
+use mathlib.Core.Logic.{inl, inr}
+use mathlib.Core.List.{List, [], _∷_}
+use Prim.Native.Nat.{ℕ}
+use native.Mathlib.Omega.{arith}
+use Rattle.region_graph.specs.Lists.{pick, All, member}
+use Rattle.region_graph.specs.Model.{Model, Bundle, Legal, LegalBundle, nothing}
+use Rattle.region_graph.specs.Calls.{run, at-location}
+use Rattle.region_graph.specs.Promise.{place-of}
+use Rattle.region_graph.specs.declared.Item.{Item}
+use Rattle.region_graph.specs.declared.Place.the-variants.{Within}
+use Rattle.region_graph.proofs.Lists.{false-true, member-all}
+use Rattle.region_routes.specs.Route.{last, next}
+use Rattle.region_routes.specs.Chosen.{RouteFor}
+use Rattle.region_routes.specs.Hooks.{item, kind-number}
+use Rattle.region_routes.specs.declared.Kind.the-variants as Kind
+use Rattle.region_routes.proofs.Choosing.{crosses-members}
+use Rattle.demands.specs.Claim.{Seen}
+use Rattle.demands.specs.Net.{OwnOrPassed, Solves, NetRegions}
+use Rattle.demands.specs.JointTable.{cycle}
+
+module _ (m : Model) (i : Item) where
+  first-step : {r : ℕ} {p : List ℕ} → RouteFor m i r p → OwnOrPassed m i (Seen m i) r
+  first-step (last h) = inl h
+  first-step (next {s = s} {p = p} e t) = inr (s, e, (p, t))
+
+  longer : (r : ℕ) → OwnOrPassed m i (Seen m i) r → Seen m i r
+  longer r (inl h) = (r ∷ [], last h)
+  longer r (inr (s, e, n)) = (r ∷ n .0, next e (n .1))
+
+  -- routes solve the equation
+  pub seen-solves : Solves m i (Seen m i)
+  seen-solves = record { opens = λ r h n. first-step (n .1); closes = λ r h. longer r }
+
+  -- what they let a region see is in every solution
+  pub seen-least : Legal m → (N : ℕ → Type 0) → Solves m i N → (r : ℕ) → member r (m .regions) ≡ true → Seen m i r → N r
+  seen-least l N solves r h n = go h (n .1)
+    where
+      go : {r : ℕ} {p : List ℕ} → member r (m .regions) ≡ true → RouteFor m i r p → N r
+      go h (last {r = r} d) = solves .closes r h (inl d)
+      go h (next {r = r} {s = s} e t) = solves .closes r h (inr (s, e, go (crosses-members m i r s l e .1) t))
+
+-- the items seen are the net regions; so they are the same as any other account of them
+pub seen-net : (m : Model) → Legal m → NetRegions m (Seen m)
+seen-net m l i = record { solves = seen-solves m i; least = seen-least m i l }
+
+module _ (m : Model) (l : Legal m) {net : Item → ℕ → Type 0} (n : NetRegions m net) (i : Item) (r : ℕ) (h : member r (m .regions) ≡ true) where
+  pub seen-in-net : Seen m i r → net i r
+  seen-in-net = seen-least m i l (net i) (n i .solves) r h
+
+  pub net-seen : net i r → Seen m i r
+  net-seen = n i .least (Seen m i) (seen-solves m i) r h
+
+-- a bundle is installed in a region of the graph
+pub place-member : (m : Model) → Legal m → (l r : ℕ) → place-of (m .bundles) l ≡ Within r → member r (m .regions) ≡ true
+place-member m h l r = go (m .bundles) (h .bundles-legal .each)
+  where
+    go : (bs : List Bundle) → All (LegalBundle (m .regions)) bs → place-of bs l ≡ Within r → member r (m .regions) ≡ true
+    go [] a e = let z : _≡_ {A = ℕ} 0 1 = cc in absurd (omega arith)
+    go (b ∷ bs) a e = step (at-location l b) (go bs (a .1)) e
+      where
+        step : (t : Bool) → (place-of bs l ≡ Within r → member r (m .regions) ≡ true) → pick t (Within (b .region)) (place-of bs l) ≡ Within r
+            → member r (m .regions) ≡ true
+        step true f k = let q : b .region ≡ r = cc in subst (λ (x : ℕ). member x (m .regions) ≡ true) q (a .0 .region)
+        step false f k = f k
+
+-- G7: regions 3 and 4, a bundle in each, connected both ways, both passing service 77, which nobody publishes
+abbrev cyclic : Model
+cyclic = run nothing cycle
+
+abbrev unpublished : Item
+unpublished = item (kind-number Kind.Service) 77
+
+-- that every region sees the service solves the equation, though no region has a route to it
+pub all-see-solves : Solves cyclic unpublished (λ r. Unit {0})
+all-see-solves =
+    record {
+      opens = λ r h n. member-all (OwnOrPassed cyclic unpublished (λ r. Unit {0})) r (cyclic .regions) (inr (4, refl, tt), (inr (3, refl, tt), tt)) h;
+      closes = λ r h j. tt;
+    }
+
+pub nobody-sees : (r : ℕ) → Seen cyclic unpublished r → ⊥
+nobody-sees r n = go (n .1)
+  where
+    go : {r : ℕ} {p : List ℕ} → RouteFor cyclic unpublished r p → ⊥
+    go (last h) = false-true (simp and-false at h)
+    go (next e t) = go t

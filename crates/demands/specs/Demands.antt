@@ -1,0 +1,101 @@
+-- The three demands, of any interface.
+use mathlib.Core.Path.{_≡_}
+use mathlib.Core.Bool.{true}
+use mathlib.Core.List.{List}
+use Prim.Native.Nat.{ℕ, _≤_}
+use lib.ListN.{length, take}
+use Rattle.region_graph.specs.Size.{regions}
+use Rattle.region_graph.specs.Refusals.{not-refused, broken-layout}
+use Rattle.region_graph.specs.Model.{Model}
+use Rattle.region_graph.specs.Steps.{Steps}
+use Rattle.region_graph.specs.Calls.{Call, Question, first-no, questions, run, numbers}
+use Rattle.region_graph.specs.Record.{Valid, meaning}
+use Rattle.region_graph.specs.Promise.{place-of}
+use Rattle.region_graph.specs.declared.Graph.{Graph}
+use Rattle.region_graph.specs.declared.Item.{Item}
+use Rattle.region_graph.specs.declared.Place.the-variants.{Within}
+use Rattle.region_routes.specs.Hooks.{routed-as, kept-as, item, kind-number, written, all-installed, route-questions, find-questions, event-questions}
+use Rattle.region_routes.specs.declared.Kind.{Kind}
+use Rattle.region_routes.specs.declared.Routed.{Routed}
+use Rattle.region_routes.specs.declared.Kept.{Kept}
+use Rattle.region_archive.specs.Image.{image}
+use Rattle.region_archive.specs.File.{FileMeaning, read-questions, read-model}
+use Rattle.region_archive.specs.Promise.{written-as, write-questions, query-questions}
+use Rattle.region_archive.specs.declared.Written.{Written}
+use Rattle.region_archive.specs.declared.Written.the-variants as Written
+use Rattle.demands.specs.Claim.{Seen, RouteSays, KeptSays, InstalledWhere, QuerySays}
+use Rattle.demands.specs.Net.{NetRegions}
+use Rattle.demands.specs.Interface.{Interface, Started}
+
+-- Demand 1. The number is that of the first question answered no, one of the seventeen, or 0; where it is not 0, what could have changed
+-- (the record, or the buffer) is as it was.
+pub record Questioned {A : Type 0} (qs : List Question) (number : ℕ) (before after : A) : Type 0 where
+  pub first : number ≡ first-no qs
+  pub known : number ≤ broken-layout
+  pub kept : (number ≡ not-refused → ⊥) → after ≡ before
+
+pub record RefusedAsAsked (c : Interface) : Type 0 where
+  pub changes : {g h : Graph} {k : Call} {n : ℕ} → c .changes g k n h → Questioned (questions (meaning g) k) n g h
+  pub reads : {s : List ℕ} {g h : Graph} {n : ℕ} → c .reads s g n h → (f : FileMeaning s) → Questioned (read-questions f) n g h
+  pub writes : {g : Graph} {entry exit : List ℕ} {a : Written} → Valid g → c .writes g entry a exit
+      → Questioned (write-questions (meaning g) entry) (written-as a .number) entry exit
+  pub routes : {g : Graph} {l kind number : ℕ} {entry exit : List ℕ} {a : Routed} → c .routes g l kind number entry a exit
+      → Questioned (route-questions (meaning g) l kind entry) (routed-as a .number) entry exit
+  pub finds : {g : Graph} {k : Kind} {l : ℕ} {xs entry exit : List ℕ} {a : Kept} → c .finds g k l xs entry a exit
+      → Questioned (find-questions (meaning g) l xs entry) (kept-as a .number) entry exit
+  pub events : {g : Graph} {k : Kind} {number : ℕ} {xs entry exit : List ℕ} {a : Kept} → c .events g k number xs entry a exit
+      → Questioned (event-questions (meaning g) xs entry) (kept-as a .number) entry exit
+  -- an archive query's answer is the number of the first question answered no, if there is one
+  pub asks : {s : List ℕ} {l kind number v : ℕ} → c .asks s l kind number v → (f : FileMeaning s)
+      → (first-no (query-questions f l kind) ≡ not-refused → ⊥) → (v ≡ first-no (query-questions f l kind)) × (v ≤ broken-layout)
+
+-- Demand 2, the hooks, as 001 has them in section 8: what is written are those of the candidates that are in the net region of the asker's
+-- region, and those of the listeners in the net region of whose region the item is.
+pub record HooksGiveNet (c : Interface) : Type 1 where
+  pub finds : {g : Graph} {k : Kind} {l r : ℕ} {xs entry exit : List ℕ} {a : Kept} → Valid g → (net : Item → ℕ → Type 0) → NetRegions (meaning g) net
+      → place-of (meaning g .bundles) l ≡ Within r → length xs ≤ length entry
+      → c .finds g k l xs entry a exit → KeptSays (λ n. net (item (kind-number k) n) r) xs entry exit a
+  pub events : {g : Graph} {k : Kind} {number : ℕ} {xs entry exit : List ℕ} {a : Kept} → Valid g → (net : Item → ℕ → Type 0)
+      → NetRegions (meaning g) net → all-installed (meaning g) xs ≡ true → length xs ≤ length entry
+      → c .events g k number xs entry a exit → KeptSays (λ l. InstalledWhere (meaning g) l (net (item (kind-number k) number))) xs entry exit a
+
+-- Demand 2, the archive: writer and reader invert each other, each graph has one image, and a file that is no graph's image is refused.
+pub record ArchiveInverts (c : Interface) : Type 0 where
+  -- what was written is read back as the record that it was written from
+  pub write-read : {g old h : Graph} {entry exit : List ℕ} {k n : ℕ} → Valid g
+      → c .writes g entry (Written.Bytes k) exit → c .reads (take k exit) old n h → (n ≡ not-refused) × (h ≡ g)
+  -- what was read is written as the bytes that it was read from
+  pub read-write : {s : List ℕ} {old h : Graph} {n : ℕ} {entry exit : List ℕ} {a : Written}
+      → c .reads s old n h → n ≡ not-refused → length s ≤ length entry
+      → c .writes h entry a exit → (a ≡ Written.Bytes (length s)) × (exit ≡ written s entry)
+  pub one-image : (g h : Graph) → Valid g → Valid h → image (meaning g) ≡ image (meaning h) → g ≡ h
+  pub others-refused : {s : List ℕ} {old h : Graph} {n : ℕ} → ((g : Graph) → Valid g → image (meaning g) ≡ s → ⊥)
+      → c .reads s old n h → (n ≡ not-refused → ⊥) × (h ≡ old)
+
+-- Demand 3. The queries on the record g answer as the routes of the model m say: for every bundle and listener installed in m, every kind
+-- and item, with the output places that question 14 asks.
+pub record Answers (c : Interface) (g : Graph) (m : Model) : Type 0 where
+  pub routes : {l r kind number : ℕ} {entry exit : List ℕ} {a : Routed} → place-of (m .bundles) l ≡ Within r → kind ≤ 2 → regions ≤ length entry
+      → c .routes g l kind number entry a exit → RouteSays m (item kind number) r entry exit a
+  pub finds : {k : Kind} {l r : ℕ} {xs entry exit : List ℕ} {a : Kept} → place-of (m .bundles) l ≡ Within r → length xs ≤ length entry
+      → c .finds g k l xs entry a exit → KeptSays (λ n. Seen m (item (kind-number k) n) r) xs entry exit a
+  pub events : {k : Kind} {number : ℕ} {xs entry exit : List ℕ} {a : Kept} → all-installed m xs ≡ true → length xs ≤ length entry
+      → c .events g k number xs entry a exit → KeptSays (λ l. InstalledWhere m l (Seen m (item (kind-number k) number))) xs entry exit a
+
+-- For every list of changing calls, refused ones included, from the empty record or an accepted archive, each with the record that the one
+-- before handed back: the numbers are the model's, and after the list the queries answer as the routes of the model say.
+pub record WholeLists (c : Interface) : Type 0 where
+  pub every-list : {g h : Graph} {m : Model} {cs : List Call} {ns : List ℕ} → Started c g m → Steps (c .changes) g cs ns h
+      → (ns ≡ numbers m cs) × Answers c h (run m cs)
+
+-- An archive query whose questions are all answered yes says what the routes of the file's model say.
+pub record QueriesAnswer (c : Interface) : Type 0 where
+  pub asks : {s : List ℕ} {l kind number v : ℕ} → c .asks s l kind number v → (f : FileMeaning s)
+      → first-no (query-questions f l kind) ≡ not-refused → InstalledWhere (read-model f) l (λ r. QuerySays (read-model f) (item kind number) r v)
+
+pub record Demands (c : Interface) : Type 1 where
+  pub refusals : RefusedAsAsked c
+  pub hooks : HooksGiveNet c
+  pub archive : ArchiveInverts c
+  pub whole-lists : WholeLists c
+  pub queries : QueriesAnswer c

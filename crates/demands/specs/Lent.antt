@@ -1,0 +1,185 @@
+-- The calls on a lent record, by the contracts that the check proved of them: the record at entry and at exit, and of a query the answer
+-- that C reads in the number that it gets.
+use mathlib.Core.Path.{_≡_, refl}
+use mathlib.Core.Bool.{Bool}
+use mathlib.Core.List.{List}
+use Prim.Native.Nat.{ℕ}
+use lib.ListN.{length}
+use base.Logic.{emp}
+use contract.Lifetimes.{Lfts}
+use denote.Ref.{RefT}
+use borrow.Fn.Claims.{AllOf}
+use borrow.Fn.Read.{ReadAt, no-know, r-last}
+use borrow.Fn.World.{World, Pr, w₀}
+use Rattle.region_graph.specs.Calls.{Call}
+use Rattle.region_graph.specs.Promise.{bundle, connection}
+use Rattle.region_graph.specs.declared.Graph.{Graph}
+use Rattle.region_routes.specs.declared.Kind.{Kind}
+use Rattle.region_routes.specs.declared.Kind.the-variants as Kind
+use Rattle.region_routes.specs.declared.Routed.{Routed}
+use Rattle.region_routes.specs.declared.Kept.{Kept}
+use Rattle.region_archive.specs.declared.Written.{Written}
+use Rattle.region_host.specs.CNumbers.{routed-of, kept-of, written-of, CountFits}
+use Rattle.region_host.proofs.region_empty as empty
+use Rattle.region_host.proofs.region_add as add
+use Rattle.region_host.proofs.region_remove as remove
+use Rattle.region_host.proofs.region_install as install
+use Rattle.region_host.proofs.region_uninstall as uninstall
+use Rattle.region_host.proofs.region_connect as connect
+use Rattle.region_host.proofs.region_disconnect as disconnect
+use Rattle.region_host.proofs.region_read as read
+use Rattle.region_host.proofs.region_write as write
+use Rattle.region_host.proofs.region_route as route
+use Rattle.region_host.proofs.region_bundle_find as bundle-find
+use Rattle.region_host.proofs.region_resolve as resolve
+use Rattle.region_host.proofs.region_service_find as service-find
+use Rattle.region_host.proofs.region_bundle_event as bundle-event
+use Rattle.region_host.proofs.region_service_event as service-event
+use Rattle.region_host.proofs.archive_query.Reads as archive-query
+use Rattle.demands.specs.Interface.{Interface}
+
+-- the facts that an assertion tells, the same in every world
+abbrev Facts : (P : (w : World) → Pr w) (f : (w : World) → ReadAt w (λ w. emp (w .𝓤)) no-know (P w))
+    → ((w : World) → f w .tells ≡ f w₀ .tells) → Type 0
+Facts P f same = AllOf (f w₀ .tells)
+
+abbrev Slice : Type 0
+Slice = RefT (List ℕ)
+
+abbrev LentGraph : Type 0
+LentGraph = RefT Graph
+
+-- what a caller learns of each call
+abbrev Empties : Lfts 1 → LentGraph → LentGraph → Type 0
+Empties κs was is =
+    Facts (λ w. empty.clauses (w .𝓤) (w .H) (w .𝓖 .A) (w .𝓜 .mem) (w .𝓡 .run) κs (was, tt)
+    .ensures tt tt (is, tt)) (λ w. r-last _) (λ w. refl)
+
+abbrev Adds : Lfts 1 → LentGraph → ℕ → LentGraph → ℕ → Type 0
+Adds κs was r is n =
+    Facts (λ w. add.clauses (w .𝓤) (w .H) (w .𝓖 .A) (w .𝓜 .mem) (w .𝓡 .run) κs (was, (r, tt))
+    .ensures tt n (is, (r, tt))) (λ w. r-last _) (λ w. refl)
+
+abbrev Removes : Lfts 1 → LentGraph → ℕ → LentGraph → ℕ → Type 0
+Removes κs was r is n =
+    Facts (λ w. remove.clauses (w .𝓤) (w .H) (w .𝓖 .A) (w .𝓜 .mem) (w .𝓡 .run) κs (was, (r, tt))
+    .ensures tt n (is, (r, tt))) (λ w. r-last _) (λ w. refl)
+
+abbrev Installs : Lfts 3 → LentGraph → ℕ → ℕ → Slice → Slice → LentGraph → ℕ → Type 0
+Installs κs was r l ps ss is n =
+    Facts (λ w. install.clauses (w .𝓤) (w .H) (w .𝓖 .A) (w .𝓜 .mem) (w .𝓡 .run) κs (was, (r, (l, (ps, (ss, tt)))))
+    .ensures tt n (is, (r, (l, (ps, (ss, tt)))))) (λ w. r-last _) (λ w. refl)
+
+abbrev Uninstalls : Lfts 1 → LentGraph → ℕ → LentGraph → ℕ → Type 0
+Uninstalls κs was l is n =
+    Facts (λ w. uninstall.clauses (w .𝓤) (w .H) (w .𝓖 .A) (w .𝓜 .mem) (w .𝓡 .run) κs (was, (l, tt))
+    .ensures tt n (is, (l, tt))) (λ w. r-last _) (λ w. refl)
+
+abbrev Connects : Lfts 4 → LentGraph → ℕ → ℕ → Slice → Bool → Slice → Bool → Slice → LentGraph → ℕ → Type 0
+Connects κs was r s bs p ps q ss is n =
+    Facts (λ w. connect.clauses (w .𝓤) (w .H) (w .𝓖 .A) (w .𝓜 .mem) (w .𝓡 .run) κs (was, (r, (s, (bs, (p, (ps, (q, (ss, tt))))))))
+    .ensures tt n (is, (r, (s, (bs, (p, (ps, (q, (ss, tt))))))))) (λ w. r-last _) (λ w. refl)
+
+abbrev Disconnects : Lfts 1 → LentGraph → ℕ → ℕ → LentGraph → ℕ → Type 0
+Disconnects κs was r s is n =
+    Facts (λ w. disconnect.clauses (w .𝓤) (w .H) (w .𝓖 .A) (w .𝓜 .mem) (w .𝓡 .run) κs (was, (r, (s, tt)))
+    .ensures tt n (is, (r, (s, tt)))) (λ w. r-last _) (λ w. refl)
+
+abbrev ReadsFile : Lfts 2 → LentGraph → Slice → LentGraph → ℕ → Type 0
+ReadsFile κs was bytes is n =
+    Facts (λ w. read.clauses (w .𝓤) (w .H) (w .𝓖 .A) (w .𝓜 .mem) (w .𝓡 .run) κs (was, (bytes, tt))
+    .ensures tt n (is, (bytes, tt))) (λ w. r-last _) (λ w. refl)
+
+abbrev WritesImage : Lfts 2 → LentGraph → Slice → Slice → ℕ → Type 0
+WritesImage κs g buffer out v =
+    Facts (λ w. write.clauses (w .𝓤) (w .H) (w .𝓖 .A) (w .𝓜 .mem) (w .𝓡 .run) κs (g, (buffer, tt))
+    .ensures tt v (g, (out, tt))) (λ w. r-last _) (λ w. refl)
+
+abbrev FindsRoute : Lfts 2 → LentGraph → Slice → ℕ → ℕ → ℕ → Slice → ℕ → Type 0
+FindsRoute κs g buffer l kind number out v =
+    Facts (λ w. route.clauses (w .𝓤) (w .H) (w .𝓖 .A) (w .𝓜 .mem) (w .𝓡 .run) κs (g, (buffer, (l, (kind, (number, tt)))))
+    .ensures tt v (g, (out, (l, (kind, (number, tt)))))) (λ w. r-last _) (λ w. refl)
+
+abbrev FindsBundles : Lfts 3 → LentGraph → Slice → ℕ → Slice → Slice → ℕ → Type 0
+FindsBundles κs g buffer l xs out v =
+    Facts (λ w. bundle-find.clauses (w .𝓤) (w .H) (w .𝓖 .A) (w .𝓜 .mem) (w .𝓡 .run) κs (g, (buffer, (l, (xs, tt))))
+    .ensures tt v (g, (out, (l, (xs, tt))))) (λ w. r-last _) (λ w. refl)
+
+abbrev FindsPackages : Lfts 3 → LentGraph → Slice → ℕ → Slice → Slice → ℕ → Type 0
+FindsPackages κs g buffer l xs out v =
+    Facts (λ w. resolve.clauses (w .𝓤) (w .H) (w .𝓖 .A) (w .𝓜 .mem) (w .𝓡 .run) κs (g, (buffer, (l, (xs, tt))))
+    .ensures tt v (g, (out, (l, (xs, tt))))) (λ w. r-last _) (λ w. refl)
+
+abbrev FindsServices : Lfts 3 → LentGraph → Slice → ℕ → Slice → Slice → ℕ → Type 0
+FindsServices κs g buffer l xs out v =
+    Facts (λ w. service-find.clauses (w .𝓤) (w .H) (w .𝓖 .A) (w .𝓜 .mem) (w .𝓡 .run) κs (g, (buffer, (l, (xs, tt))))
+    .ensures tt v (g, (out, (l, (xs, tt))))) (λ w. r-last _) (λ w. refl)
+
+abbrev TellsBundle : Lfts 3 → LentGraph → Slice → Slice → ℕ → Slice → ℕ → Type 0
+TellsBundle κs g buffer xs number out v =
+    Facts (λ w. bundle-event.clauses (w .𝓤) (w .H) (w .𝓖 .A) (w .𝓜 .mem) (w .𝓡 .run) κs (g, (buffer, (xs, (number, tt))))
+    .ensures tt v (g, (out, (xs, (number, tt))))) (λ w. r-last _) (λ w. refl)
+
+abbrev TellsService : Lfts 3 → LentGraph → Slice → Slice → ℕ → Slice → ℕ → Type 0
+TellsService κs g buffer xs number out v =
+    Facts (λ w. service-event.clauses (w .𝓤) (w .H) (w .𝓖 .A) (w .𝓜 .mem) (w .𝓡 .run) κs (g, (buffer, (xs, (number, tt))))
+    .ensures tt v (g, (out, (xs, (number, tt))))) (λ w. r-last _) (λ w. refl)
+
+pub data LentChange : Graph → Call → ℕ → Graph → Type 0 where
+  by-add : (κs : Lfts 1) (was is : LentGraph) (r n : ℕ) → Adds κs was r is n → LentChange (was .now) (Call.add-region r) n (is .now)
+  by-remove : (κs : Lfts 1) (was is : LentGraph) (r n : ℕ) → Removes κs was r is n → LentChange (was .now) (Call.remove-region r) n (is .now)
+  by-install : (κs : Lfts 3) (was is : LentGraph) (r l n : ℕ) (ps ss : Slice) → Installs κs was r l ps ss is n
+      → LentChange (was .now) (Call.install (bundle r l (ps .now) (ss .now))) n (is .now)
+  by-uninstall : (κs : Lfts 1) (was is : LentGraph) (l n : ℕ) → Uninstalls κs was l is n → LentChange (was .now) (Call.uninstall l) n (is .now)
+  by-connect : (κs : Lfts 4) (was is : LentGraph) (r s n : ℕ) (bs : Slice) (p : Bool) (ps : Slice) (q : Bool) (ss : Slice)
+      → Connects κs was r s bs p ps q ss is n
+      → LentChange (was .now) (Call.connect (connection r s (bs .now) p (ps .now) q (ss .now))) n (is .now)
+  by-disconnect : (κs : Lfts 1) (was is : LentGraph) (r s n : ℕ) → Disconnects κs was r s is n → LentChange (was .now) (Call.disconnect r s) n (is .now)
+
+-- a refused read leaves the lent record as it was
+pub data LentRead : List ℕ → Graph → ℕ → Graph → Type 0 where
+  by-read : (κs : Lfts 2) (was is : LentGraph) (bytes : Slice) (n : ℕ) → ReadsFile κs was bytes is n → LentRead (bytes .now) (was .now) n (is .now)
+
+-- of a query, the answer is what C reads in the number v
+pub data LentWrite : Graph → List ℕ → Written → List ℕ → Type 0 where
+  by-write : (κs : Lfts 2) (g : LentGraph) (was out : Slice) (v : ℕ) → WritesImage κs g was out v → LentWrite (g .now) (was .now) (written-of v) (out .now)
+
+pub data LentRoute : Graph → ℕ → ℕ → ℕ → List ℕ → Routed → List ℕ → Type 0 where
+  by-route : (κs : Lfts 2) (g : LentGraph) (was out : Slice) (l kind number v : ℕ) → FindsRoute κs g was l kind number out v
+      → LentRoute (g .now) l kind number (was .now) (routed-of v) (out .now)
+
+-- a list in memory has fewer than 2^63 numbers, so that a count is not read as a number below zero
+pub data LentFind : Graph → Kind → ℕ → List ℕ → List ℕ → Kept → List ℕ → Type 0 where
+  by-bundle-find : (κs : Lfts 3) (g : LentGraph) (was xs out : Slice) (l v : ℕ) → CountFits (length (xs .now)) → FindsBundles κs g was l xs out v
+      → LentFind (g .now) Kind.Bundle l (xs .now) (was .now) (kept-of v) (out .now)
+  by-resolve : (κs : Lfts 3) (g : LentGraph) (was xs out : Slice) (l v : ℕ) → CountFits (length (xs .now)) → FindsPackages κs g was l xs out v
+      → LentFind (g .now) Kind.Package l (xs .now) (was .now) (kept-of v) (out .now)
+  by-service-find : (κs : Lfts 3) (g : LentGraph) (was xs out : Slice) (l v : ℕ) → CountFits (length (xs .now)) → FindsServices κs g was l xs out v
+      → LentFind (g .now) Kind.Service l (xs .now) (was .now) (kept-of v) (out .now)
+
+pub data LentEvent : Graph → Kind → ℕ → List ℕ → List ℕ → Kept → List ℕ → Type 0 where
+  by-bundle-event : (κs : Lfts 3) (g : LentGraph) (was xs out : Slice) (number v : ℕ) → CountFits (length (xs .now)) → TellsBundle κs g was xs number out v
+      → LentEvent (g .now) Kind.Bundle number (xs .now) (was .now) (kept-of v) (out .now)
+  by-service-event : (κs : Lfts 3) (g : LentGraph) (was xs out : Slice) (number v : ℕ) → CountFits (length (xs .now)) → TellsService κs g was xs number out v
+      → LentEvent (g .now) Kind.Service number (xs .now) (was .now) (kept-of v) (out .now)
+
+-- the archive query takes no record
+pub data LentAsk : List ℕ → ℕ → ℕ → ℕ → ℕ → Type 0 where
+  by-archive-query : (κs : Lfts 1) (bytes : Slice) (l kind number v : ℕ)
+      → archive-query.Learnt κs (bytes, (l, (kind, (number, tt)))) v (bytes, (l, (kind, (number, tt)))) → LentAsk (bytes .now) l kind number v
+
+pub data LentEmpty : Graph → Type 0 where
+  by-empty : (κs : Lfts 1) (was is : LentGraph) → Empties κs was is → LentEmpty (is .now)
+
+abbrev pub lent : Interface
+lent =
+    record {
+      empties = LentEmpty;
+      changes = LentChange;
+      reads = LentRead;
+      writes = LentWrite;
+      routes = LentRoute;
+      finds = LentFind;
+      events = LentEvent;
+      asks = LentAsk;
+    }

@@ -1,0 +1,10 @@
+-- What the buyer's demands say of the calls, in the order in which docs/DEMANDS.md has them.
+pub mod Claim
+pub mod Net
+pub mod Interface
+pub mod Demands
+-- the interfaces of which they are shown: the calls by value, and those on a lent record
+pub mod ByValue
+pub mod Lent
+-- document 01's worked cases
+pub mod JointTable

@@ -39,6 +39,9 @@
 extern "C" {
 #endif
 
+/* The version of this interface. It is raised whenever a host must be compiled anew: where the record or a call's arguments change. */
+#define WIMBORU_VERSION 1
+
 /* What a changing call returns: 0, or the number of the question that was answered no. A query returns the same numbers below
    zero, as in -REGION_NOT_INSTALLED. */
 enum {
@@ -128,6 +131,17 @@ static_assert(sizeof(size_t) == 8, "the calls take lengths of 8 bytes");
 static_assert(sizeof(bool) == 1, "the calls take flags of one byte");
 static_assert(sizeof(region_graph) == 16408, "the size of the record");
 static_assert(alignof(region_graph) == 8, "the alignment of the record");
+
+/* The version of the interface that the library has, and the bytes of its record. */
+uint32_t region_interface_version(void);
+size_t region_record_size(void);
+
+/* Whether the library has the interface of this header. A host that may have been compiled with another header asks before it lends
+   a record: a record of another size would be read and written outside its memory. */
+static inline bool region_library_matches(void)
+{
+    return region_interface_version() == WIMBORU_VERSION && region_record_size() == sizeof(region_graph);
+}
 
 /* The declarations are laid out by hand: a list, its count and its flag stand in one line. */
 /* clang-format off */

@@ -7,7 +7,8 @@ extern size_t copied;
 void *__real_memcpy(void *to, const void *from, size_t length);
 void *__wrap_memcpy(void *to, const void *from, size_t length);
 
-void *__wrap_memcpy(void *to, const void *from, size_t length) {
+void *__wrap_memcpy(void *to, const void *from, size_t length)
+{
     copied += length;
     return __real_memcpy(to, from, length);
 }

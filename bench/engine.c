@@ -48,30 +48,35 @@ static file longest;
 static bool counting;
 size_t copied;
 
-static void must(bool holds, const char *what) {
+static void must(bool holds, const char *what)
+{
     if (!holds) {
         fprintf(stderr, "%s\n", what);
         exit(1);
     }
 }
 
-static double now(void) {
+static double now(void)
+{
     struct timespec t;
     clock_gettime(CLOCK_MONOTONIC, &t);
     return (double)t.tv_sec * 1e9 + (double)t.tv_nsec;
 }
 
-static double least(double a, double b) {
+static double least(double a, double b)
+{
     return a < b ? a : b;
 }
 
 /* Prints what a call copied. */
-static void print_copied(const char *name, const char *filters, size_t before) {
+static void print_copied(const char *name, const char *filters, size_t before)
+{
     printf("%s%s %zu\n", name, filters, copied - before);
 }
 
 /* Prints the best average of the rounds. */
-static void best(const char *name, const char *filters, int64_t (*call)(void)) {
+static void best(const char *name, const char *filters, int64_t (*call)(void))
+{
     size_t before = copied;
     int64_t answer = call();
     if (counting) {
@@ -86,7 +91,9 @@ static void best(const char *name, const char *filters, int64_t (*call)(void)) {
         size_t calls = 0;
         double start = now();
         while (now() - start < ROUND) {
-            for (size_t i = 0; i < batch; i++) must(call() == answer, "another answer");
+            for (size_t i = 0; i < batch; i++) {
+                must(call() == answer, "another answer");
+            }
             calls += batch;
         }
         shortest = least(shortest, (now() - start) / (double)calls);
@@ -95,29 +102,35 @@ static void best(const char *name, const char *filters, int64_t (*call)(void)) {
 }
 
 /* Time for a changing call on each copy of the graph. */
-static double on_copies(uint32_t (*call)(region_graph *)) {
+static double on_copies(uint32_t (*call)(region_graph *))
+{
     double start = now();
-    for (size_t i = 0; i < COPIES; i++) must(call(&copies[i]) == 0, "a refusal");
+    for (size_t i = 0; i < COPIES; i++) {
+        must(call(&copies[i]) == 0, "a refusal");
+    }
     return now() - start;
 }
 
 /* Prints what a changing call copied. */
-static void count_on(const char *name, uint32_t (*call)(region_graph *)) {
+static void count_on(const char *name, uint32_t (*call)(region_graph *))
+{
     size_t before = copied;
     must(call(&graph) == 0, "a refusal");
     print_copied(name, "", before);
 }
 
 /* Prints the best averages of a call that removes and of the one that puts back. */
-static void best_pair(const char *removes, uint32_t (*down)(region_graph *),
-                      const char *puts_back, uint32_t (*up)(region_graph *)) {
+static void best_pair(const char *removes, uint32_t (*down)(region_graph *), const char *puts_back, uint32_t (*up)(region_graph *))
+{
     double shortest_down = 1e18, shortest_up = 1e18;
     if (counting) {
         count_on(removes, down);
         count_on(puts_back, up);
         return;
     }
-    for (size_t i = 0; i < COPIES; i++) copies[i] = graph;
+    for (size_t i = 0; i < COPIES; i++) {
+        copies[i] = graph;
+    }
     for (int round = 0; round < ROUNDS; round++) {
         size_t calls = 0;
         double spent_down = 0, spent_up = 0;
@@ -132,6 +145,7 @@ static void best_pair(const char *removes, uint32_t (*down)(region_graph *),
     printf("%s %.1f 0\n%s %.1f 0\n", removes, shortest_down, puts_back, shortest_up);
 }
 
+/* clang-format off */
 static int64_t route_seen(void) { return region_route(&graph, bytes, sizeof bytes, ASKER, REGION_KIND_PACKAGE, SEEN_ITEM); }
 static int64_t route_hidden(void) { return region_route(&graph, bytes, sizeof bytes, ASKER, REGION_KIND_PACKAGE, hidden); }
 static int64_t find_1_seen(void) { return region_resolve(&graph, kept, LIST, ASKER, &SEEN_ITEM, 1); }
@@ -152,32 +166,43 @@ static int64_t read_longest(void) { return region_read(&graph, longest.bytes, lo
 static int64_t write_longest(void) { return region_write(&graph, bytes, sizeof bytes); }
 static int64_t query_g(void) { return archive_query(g.bytes, g.length, 10, REGION_KIND_PACKAGE, 1); }
 static int64_t query_longest(void) { return archive_query(longest.bytes, longest.length, 1000, REGION_KIND_PACKAGE, 600); }
+/* clang-format on */
 
 /* The packages, and the services, of bundle i. */
-static void provide(uint32_t i) {
-    for (uint32_t k = 0; k < PROVIDED; k++) provided[k] = PROVIDED * i + k;
+static void provide(uint32_t i)
+{
+    for (uint32_t k = 0; k < PROVIDED; k++) {
+        provided[k] = PROVIDED * i + k;
+    }
 }
 
-static void connect_full(uint32_t source, uint32_t target, bool all) {
+static void connect_full(uint32_t source, uint32_t target, bool all)
+{
     const uint32_t *numbers = target == 15 ? listed_to_15 : listed;
     size_t count = all ? 0 : LISTED;
     must(region_connect(&graph, source, target, numbers, count, all, numbers, count, all, numbers, count) == 0, "connect");
 }
 
 /* 16 regions, 64 bundles, 48 connections that pass all packages and services, or list 8 numbers in each part. */
-static void full_graph(bool all) {
+static void full_graph(bool all)
+{
     region_empty(&graph);
-    for (uint32_t r = 0; r < REGION_REGIONS; r++) must(region_add(&graph, r) == 0, "add");
+    for (uint32_t r = 0; r < REGION_REGIONS; r++) {
+        must(region_add(&graph, r) == 0, "add");
+    }
     for (uint32_t i = 0; i < REGION_MOST_BUNDLES; i++) {
         provide(i);
         must(region_install(&graph, i % REGION_REGIONS, ASKER + i, provided, PROVIDED, provided, PROVIDED) == 0, "install");
     }
-    for (uint32_t r = 0; r < REGION_REGIONS; r++)
-        for (uint32_t step = 1; step <= 3; step++)
+    for (uint32_t r = 0; r < REGION_REGIONS; r++) {
+        for (uint32_t step = 1; step <= 3; step++) {
             connect_full(r, (r + step) % REGION_REGIONS, all);
+        }
+    }
 }
 
-static void queries(const char *filters, uint32_t hidden_item) {
+static void queries(const char *filters, uint32_t hidden_item)
+{
     hidden = hidden_item;
     best("route_seen", filters, route_seen);
     best("route_hidden", filters, route_hidden);
@@ -187,7 +212,8 @@ static void queries(const char *filters, uint32_t hidden_item) {
     best("event_1000", filters, event_1000);
 }
 
-static void take(file *f, const char *folder, const char *name) {
+static void take(file *f, const char *folder, const char *name)
+{
     char path[4096];
     must(snprintf(path, sizeof path, "%s/%s", folder, name) < (int)sizeof path, "the path is too long");
     FILE *stream = fopen(path, "rb");
@@ -196,7 +222,8 @@ static void take(file *f, const char *folder, const char *name) {
     fclose(stream);
 }
 
-int main(int count, char **arguments) {
+int main(int count, char **arguments)
+{
     must(count == 2 || count == 3, "usage: engine EXAMPLES [copies]");
     counting = count == 3;
     take(&g, arguments[1], "g.archive");

@@ -39,53 +39,56 @@
 extern "C" {
 #endif
 
+/* The version of this interface. It is raised whenever a host must be compiled anew: where the record or a call's arguments change. */
+#define WIMBORU_VERSION 1
+
 /* What a changing call returns: 0, or the number of the question that was answered no. A query returns the same numbers below
    zero, as in -REGION_NOT_INSTALLED. */
 enum {
     REGION_NOT_REFUSED = 0,
-    REGION_NOT_A_REGION = 1,       /* a region number is above 15 */
-    REGION_USED = 2,               /* the region is in the graph already */
-    REGION_NO_SUCH_REGION = 3,     /* a region is not in the graph */
-    REGION_ENDS_EQUAL = 4,         /* source and target are the same region */
-    REGION_CONNECTED = 5,          /* there is a connection from source to target already */
-    REGION_NOT_CONNECTED = 6,      /* there is no connection from source to target */
-    REGION_LIST_TOO_LONG = 7,      /* a list has more numbers than its limit */
-    REGION_LIST_OUT_OF_ORDER = 8,  /* a list is not strictly ascending */
-    REGION_INSTALLED = 9,          /* the location is installed already, in this region or another */
-    REGION_FILTERED = 10,          /* a connection that leaves the region names the location in its bundle part */
-    REGION_FULL = 11,              /* there are 64 bundles, or 48 connections, already */
-    REGION_NOT_INSTALLED = 12,     /* the bundle, or a listener, is not installed */
-    REGION_NOT_A_KIND = 13,        /* the kind is above 2 */
-    REGION_NO_PLACE = 14,          /* the output buffer is too short */
-    REGION_NOT_AN_ARCHIVE = 15,    /* there are fewer than 5 bytes, or the first is not 1 */
-    REGION_WRONG_LENGTH = 16,      /* the length field is not the count of bytes after it */
-    REGION_BROKEN_LAYOUT = 17      /* the bytes after the length are not an archive's layout, to the end */
+    REGION_NOT_A_REGION = 1,      /* a region number is above 15 */
+    REGION_USED = 2,              /* the region is in the graph already */
+    REGION_NO_SUCH_REGION = 3,    /* a region is not in the graph */
+    REGION_ENDS_EQUAL = 4,        /* source and target are the same region */
+    REGION_CONNECTED = 5,         /* there is a connection from source to target already */
+    REGION_NOT_CONNECTED = 6,     /* there is no connection from source to target */
+    REGION_LIST_TOO_LONG = 7,     /* a list has more numbers than its limit */
+    REGION_LIST_OUT_OF_ORDER = 8, /* a list is not strictly ascending */
+    REGION_INSTALLED = 9,         /* the location is installed already, in this region or another */
+    REGION_FILTERED = 10,         /* a connection that leaves the region names the location in its bundle part */
+    REGION_FULL = 11,             /* there are 64 bundles, or 48 connections, already */
+    REGION_NOT_INSTALLED = 12,    /* the bundle, or a listener, is not installed */
+    REGION_NOT_A_KIND = 13,       /* the kind is above 2 */
+    REGION_NO_PLACE = 14,         /* the output buffer is too short */
+    REGION_NOT_AN_ARCHIVE = 15,   /* there are fewer than 5 bytes, or the first is not 1 */
+    REGION_WRONG_LENGTH = 16,     /* the length field is not the count of bytes after it */
+    REGION_BROKEN_LAYOUT = 17,    /* the bytes after the length are not an archive's layout, to the end */
 };
 
 /* What an item may be: archive_query gives these as they are, region_route gives -REGION_HIDDEN. */
 enum {
     REGION_SEEN = 100,
-    REGION_HIDDEN = 101
+    REGION_HIDDEN = 101,
 };
 
 /* The kinds of items. */
 enum {
     REGION_KIND_BUNDLE = 0,
     REGION_KIND_PACKAGE = 1,
-    REGION_KIND_SERVICE = 2
+    REGION_KIND_SERVICE = 2,
 };
 
 /* The limits. */
 enum {
-    REGION_REGIONS = 16,           /* region numbers are below this */
+    REGION_REGIONS = 16, /* region numbers are below this */
     REGION_MOST_BUNDLES = 64,
     REGION_MOST_CONNECTIONS = 48,
-    REGION_MOST_PROVIDED = 8,      /* packages, and services, of one bundle */
-    REGION_MOST_LISTED = 16,       /* numbers in one part of a filter */
-    REGION_EVERYTHING = 255,       /* the count of a part that is everything, in the record and in an archive */
-    REGION_ROUTE_BYTES = 16,       /* the buffer that a route needs, however short the route is */
-    REGION_LONGEST_IMAGE = 14248,  /* bytes; a buffer of this length takes the image of any graph */
-    REGION_STACK_BYTES = 524288    /* the stack that is enough for any call */
+    REGION_MOST_PROVIDED = 8,     /* packages, and services, of one bundle */
+    REGION_MOST_LISTED = 16,      /* numbers in one part of a filter */
+    REGION_EVERYTHING = 255,      /* the count of a part that is everything, in the record and in an archive */
+    REGION_ROUTE_BYTES = 16,      /* the buffer that a route needs, however short the route is */
+    REGION_LONGEST_IMAGE = 14248, /* bytes; a buffer of this length takes the image of any graph */
+    REGION_STACK_BYTES = 524288,  /* the stack that is enough for any call */
 };
 
 /* The record. Its members are here for its size and alignment alone: a host neither reads nor writes them. */
@@ -128,6 +131,20 @@ static_assert(sizeof(size_t) == 8, "the calls take lengths of 8 bytes");
 static_assert(sizeof(bool) == 1, "the calls take flags of one byte");
 static_assert(sizeof(region_graph) == 16408, "the size of the record");
 static_assert(alignof(region_graph) == 8, "the alignment of the record");
+
+/* The version of the interface that the library has, and the bytes of its record. */
+uint32_t region_interface_version(void);
+size_t region_record_size(void);
+
+/* Whether the library has the interface of this header. A host that may have been compiled with another header asks before it lends
+   a record: a record of another size would be read and written outside its memory. */
+static inline bool region_library_matches(void)
+{
+    return region_interface_version() == WIMBORU_VERSION && region_record_size() == sizeof(region_graph);
+}
+
+/* The declarations are laid out by hand: a list, its count and its flag stand in one line. */
+/* clang-format off */
 
 /*
  * Calls that change the record. Each returns 0 where it is accepted, else the number of the question that was answered no; the
@@ -204,6 +221,8 @@ int64_t region_service_event(const region_graph *graph, uint32_t *out, size_t ou
 /* Whether the bundle at a location sees an item in the graph of an archive; no record is needed. Returns 100 (REGION_SEEN), 101
    (REGION_HIDDEN), or the number of the question that was answered no: 15, 16, 17, 12, 13, in this order. */
 uint32_t archive_query(const uint8_t *bytes, size_t length, uint32_t location, uint32_t kind, uint32_t item);
+
+/* clang-format on */
 
 #ifdef __cplusplus
 }

@@ -1,22 +1,15 @@
 #!/bin/sh
-# Runs the built listing program on the examples and at the edges of its input. Exit status 0 where every text is the expected one.
-set -u
-cd "$(dirname "$0")/.."
-program=target/bin/listing
-[ -x "$program" ] || { echo "build it first: rt check listing"; exit 2; }
-work=$(mktemp -d)
-trap 'rm -rf "$work"' EXIT
-failed=0
+# Runs the listing program on the examples and at the edges of its input. Exit status 0 where every text is the expected one, 1 where
+# one is not, 2 where something is missing.
+set -eu
+root=$(cd "$(dirname "$0")/.." && pwd)
+# shellcheck source=tests/functions.sh
+. "$root/tests/functions.sh"
+provide_listing
 
 # NAME FILE EXPECTED: the program's text on a file
 expect() {
-    got=$("$program" < "$2")
-    if [ "$got" = "$3" ]; then
-        echo "ok $1"
-    else
-        echo "FAILED $1: got '$got'"
-        failed=1
-    fi
+    same "$1" "$("$listing" < "$2")" "$3"
 }
 
 # COUNT: so many spaces, which are no archive's body
@@ -52,11 +45,5 @@ expect 65537-bytes "$work/over" 'refused 17'
 head -c 65535 "$work/whole" > "$work/under"
 expect 65535-bytes "$work/under" 'refused 16'
 
-lines=$("$program" < examples/longest.archive | wc -l)
-if [ "$lines" -eq 65 ]; then
-    echo "ok longest"
-else
-    echo "FAILED longest: $lines lines"
-    failed=1
-fi
-exit $failed
+same 'lines of longest' "$("$listing" < examples/longest.archive | grep -c .)" 65
+end_checks

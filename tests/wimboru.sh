@@ -1,14 +1,10 @@
 #!/bin/sh
-# Runs ./wimboru on the examples, with wrong usage, and at its builds. Exit status 0 where every output and status is the expected
-# one. WIMBORU_LISTING and WIMBORU_LIB name a listing program and a library that are there; without them ./wimboru builds them.
+# Runs ./wimboru on the examples, with wrong usage, and at its builds. Without WIMBORU_LISTING and WIMBORU_LIB it builds them itself.
+# Exit status 0 where every output and status is the expected one, 1 where one is not, 2 where something is missing.
 set -eu
-case ${WIMBORU_LISTING:-/} in /*) ;; *) WIMBORU_LISTING=$PWD/$WIMBORU_LISTING ;; esac
-case ${WIMBORU_LIB:-/} in /*) ;; *) WIMBORU_LIB=$PWD/$WIMBORU_LIB ;; esac
 root=$(cd "$(dirname "$0")/.." && pwd)
-work=$(mktemp -d)
-trap 'rm -rf "$work"' EXIT
-failed=0
-passed=0
+# shellcheck source=tests/functions.sh
+. "$root/tests/functions.sh"
 
 # The cases run in a copy of what ./wimboru uses, with an rt that notes how it is called and hands out what is built already.
 copy() {
@@ -31,16 +27,6 @@ END
     chmod +x "$work/bin/rt"
     : > "$work/calls"
     PATH=$work/bin:$PATH
-}
-
-# NAME GOT EXPECTED
-same() {
-    if [ "$2" = "$3" ]; then
-        passed=$((passed + 1))
-    else
-        echo "FAILED $1: got '$2' and not '$3'"
-        failed=1
-    fi
 }
 
 # STATUS OUTPUT ARGUMENT...: what a call prints, and its status; a status above 1 has a message, a lower one has none
@@ -182,7 +168,9 @@ listing_g="$header
 question_15='are there at least 5 bytes, the first being 1?'
 question_16='does the length field equal the count of bytes after it?'
 question_17='are those bytes the layout of an archive, to the end?'
-if [ -z "${WIMBORU_LISTING:-}" ] || [ -z "${WIMBORU_LIB:-}" ]; then
+need "${CC:-cc}" 'Debian: gcc'
+if [ -z "$WIMBORU_LISTING" ] || [ -z "$WIMBORU_LIB" ]; then
+    need rt 'the Rattle kit'
     same 'list, built here' "$("$root/wimboru" list "$g")" "$listing_g"
     same 'query, built here' "$("$root/wimboru" query "$g" 10 package 1)" seen
 fi
@@ -193,5 +181,4 @@ failed_builds
 lists
 queries
 files
-echo "$passed checks passed"
-exit $failed
+end_checks

@@ -79,8 +79,8 @@ static void longest_lists(void)
     regions(0, 2);
     ACCEPTED(region_install(graph, 0, UINT32_MAX, listed, REGION_MOST_PROVIDED, listed, REGION_MOST_PROVIDED));
     ACCEPTED(region_install(graph, 1, 0, LIST(UINT32_MAX), LIST(UINT32_MAX)));
-    ACCEPTED(region_connect(graph, 0, 1, listed, REGION_MOST_LISTED, false, listed, REGION_MOST_LISTED,
-                            false, listed, REGION_MOST_LISTED));
+    ACCEPTED(region_connect(graph, 0, 1, listed, REGION_MOST_LISTED, false, listed, REGION_MOST_LISTED, false, listed,
+                            REGION_MOST_LISTED));
     KEEPS(region_bundle_find(graph, lent.places, PLACES, UINT32_MAX, LIST(UINT32_MAX, 0, 1)), UINT32_MAX, 0);
     KEEPS(region_resolve(graph, lent.places, PLACES, UINT32_MAX, LIST(UINT32_MAX, 7, 8)), UINT32_MAX, 7);
     KEEPS(region_service_find(graph, lent.places, PLACES, UINT32_MAX, LIST(UINT32_MAX, 7, 8)), UINT32_MAX, 7);

@@ -11,7 +11,7 @@ typedef int64_t event_call(const region_graph *, uint32_t *, size_t, const uint3
 enum {
     GUARD = 64,
     PLACES = 1024,
-    BYTES = REGION_LONGEST_IMAGE + 8
+    BYTES = REGION_LONGEST_IMAGE + 8,
 };
 
 /* Everything that is lent to a call for writing, with guard bytes around each part. */

@@ -9,7 +9,7 @@
 #include <unistd.h>
 
 enum {
-    ROOM = 1 << 16  /* a whole number of pages, for any part that is lent */
+    ROOM = 1 << 16 /* a whole number of pages, for any part that is lent */
 };
 
 /* The end of ROOM bytes of memory, which have a page after them that faults. */

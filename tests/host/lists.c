@@ -64,10 +64,10 @@ static void overlapping(void)
 static void twelve(void)
 {
     build_g();
-    KEEPS(region_bundle_find(graph, lent.places, PLACES, 10, LIST(10, 10, 10, 10, 10, 10, 10, 10, 10, 10, 10, 10)),
-          10, 10, 10, 10, 10, 10, 10, 10, 10, 10, 10, 10);
-    KEEPS(region_bundle_event(graph, lent.places, PLACES, LIST(10, 10, 10, 10, 10, 10, 10, 10, 10, 10, 10, 10), 10),
-          10, 10, 10, 10, 10, 10, 10, 10, 10, 10, 10, 10);
+    KEEPS(region_bundle_find(graph, lent.places, PLACES, 10, LIST(10, 10, 10, 10, 10, 10, 10, 10, 10, 10, 10, 10)), 10, 10, 10, 10,
+          10, 10, 10, 10, 10, 10, 10, 10);
+    KEEPS(region_bundle_event(graph, lent.places, PLACES, LIST(10, 10, 10, 10, 10, 10, 10, 10, 10, 10, 10, 10), 10), 10, 10, 10, 10,
+          10, 10, 10, 10, 10, 10, 10, 10);
     UNCHANGED(-12, region_bundle_find(graph, lent.places, PLACES, 11, LIST(10)));
     UNCHANGED(-12, region_bundle_event(graph, lent.places, PLACES, LIST(11), 10));
 }

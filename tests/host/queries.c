@@ -43,8 +43,8 @@ static void routes(void)
     ROUTES(route(10, REGION_KIND_SERVICE, 5), 0, 1, 4, 5);
     ROUTES(route(20, REGION_KIND_SERVICE, 5), 5);
     build_chain();
-    ROUTES(region_route(graph, lent.bytes, REGION_ROUTE_BYTES, 10, REGION_KIND_SERVICE, 5),
-           0, 1, 2, 3, 4, 5, 6, 7, 8, 9, 10, 11, 12, 13, 14, 15);
+    ROUTES(region_route(graph, lent.bytes, REGION_ROUTE_BYTES, 10, REGION_KIND_SERVICE, 5), 0, 1, 2, 3, 4, 5, 6, 7, 8, 9, 10, 11,
+           12, 13, 14, 15);
 }
 
 /* Order and repetitions are kept; what nobody holds is unseen; the kinds are apart. */

@@ -1,4 +1,4 @@
-/* The record as memory: its size, its alignment, copies of it. */
+/* The record as memory: its size, its alignment, copies of it; and the version of the interface, which its size goes with. */
 #include "graphs.h"
 #include "host.h"
 #include "images.h"
@@ -39,11 +39,22 @@ static void size(void)
 {
     static struct block a;
     static struct block b;
-    CHECK(sizeof(region_graph) == 16408);
     empty_over(&a, 0x5A);
     empty_over(&b, 0xA5);
     CHECK(image_of(&a.graph).length == 8);
     CHECK(same_graph(&a.graph, &b.graph));
+}
+
+/* The library has the interface of the header. The table has the bytes of the record at each version, from 1 on, and only grows: a
+   record of another size has another version. */
+static void version(void)
+{
+    static const size_t sizes[] = {16408};
+    CHECK(region_library_matches());
+    CHECK(region_interface_version() == WIMBORU_VERSION);
+    CHECK(region_record_size() == sizeof(region_graph));
+    CHECK(WIMBORU_VERSION == sizeof sizes / sizeof sizes[0]);
+    CHECK(region_record_size() == sizes[sizeof sizes / sizeof sizes[0] - 1]);
 }
 
 /* A record at each alignment that its type allows: at 8, and at no more than 8. */
@@ -74,6 +85,7 @@ static void copy(void)
 void test_record(void)
 {
     size();
+    version();
     alignment();
     copy();
 }

@@ -3,9 +3,7 @@
 #include "graphs.h"
 #include "host.h"
 
-enum {
-    LONG_LIST = REGION_MOST_LISTED + 1
-};
+enum { LONG_LIST = REGION_MOST_LISTED + 1 };
 
 static const uint32_t ascending[LONG_LIST] = {1, 2, 3, 4, 5, 6, 7, 8, 9, 10, 11, 12, 13, 14, 15, 16, 17};
 static const uint32_t descending[LONG_LIST] = {17, 16, 15, 14, 13, 12, 11, 10, 9, 8, 7, 6, 5, 4, 3, 2, 1};

@@ -8,7 +8,7 @@
 enum {
     THREADS = 4,
     ROUNDS = 20,
-    GUARD_BYTES = 1 << 20  /* memory past the stack's end that faults, more than any frame has */
+    GUARD_BYTES = 1 << 20 /* memory past the stack's end that faults, more than any frame has */
 };
 
 static struct image longest;
@@ -25,12 +25,10 @@ static bool changes(region_graph *own)
 {
     region_empty(own);
     return region_read(own, longest.bytes, longest.length) == REGION_NOT_REFUSED
-        && region_uninstall(own, 1000) == REGION_NOT_REFUSED
-        && region_install(own, 0, 1, NONE, NONE) == REGION_NOT_REFUSED
+        && region_uninstall(own, 1000) == REGION_NOT_REFUSED && region_install(own, 0, 1, NONE, NONE) == REGION_NOT_REFUSED
         && region_disconnect(own, 0, 1) == REGION_NOT_REFUSED
         && region_connect(own, 0, 1, NONE, true, NONE, true, NONE) == REGION_NOT_REFUSED
-        && region_remove(own, 1) == REGION_NOT_REFUSED
-        && region_add(own, 1) == REGION_NOT_REFUSED;
+        && region_remove(own, 1) == REGION_NOT_REFUSED && region_add(own, 1) == REGION_NOT_REFUSED;
 }
 
 /* Each query of the shared record, which holds the longest archive. */
@@ -40,8 +38,7 @@ static bool queries(uint8_t *written)
     uint32_t kept[2];
     return archive_query(longest.bytes, longest.length, 1000, REGION_KIND_PACKAGE, 8) == REGION_SEEN
         && region_route(graph, route, sizeof route, 1000, REGION_KIND_PACKAGE, 8) == 1
-        && region_bundle_find(graph, kept, 2, 1000, LIST(1015, 1017)) == 1
-        && region_resolve(graph, kept, 2, 1000, LIST(8, 16)) == 1
+        && region_bundle_find(graph, kept, 2, 1000, LIST(1015, 1017)) == 1 && region_resolve(graph, kept, 2, 1000, LIST(8, 16)) == 1
         && region_service_find(graph, kept, 2, 1000, LIST(UINT32_MAX)) == 0
         && region_bundle_event(graph, kept, 2, LIST(1000, 1001), 1017) == 1
         && region_service_event(graph, kept, 2, LIST(1000, 1001), UINT32_MAX) == 0

@@ -36,7 +36,7 @@ struct file {
 
 static struct guarded rooms[ROOMS];
 static region_graph *graph;
-static struct file archive;      /* the archive bytes that stand, in their room */
+static struct file archive; /* the archive bytes that stand, in their room */
 static const char *listing;
 static unsigned long line_number;
 
@@ -60,8 +60,9 @@ static uint32_t number(const char *text, char **end)
 
     errno = 0;
     value = strtoul(text, end, 10);
-    if (text[0] < '0' || text[0] > '9' || errno != 0 || value > UINT32_MAX)
+    if (text[0] < '0' || text[0] > '9' || errno != 0 || value > UINT32_MAX) {
         stop("not a number", text);
+    }
     return (uint32_t)value;
 }
 
@@ -70,8 +71,9 @@ static uint32_t whole_number(const char *text)
     char *end;
     uint32_t value = number(text, &end);
 
-    if (*end != '\0')
+    if (*end != '\0') {
         stop("not a number", text);
+    }
     return value;
 }
 
@@ -82,16 +84,19 @@ static struct list list(const char *text, int room)
     char *rest;
     size_t i;
 
-    if (result.all || strcmp(text, "-") == 0)
+    if (result.all || strcmp(text, "-") == 0) {
         return result;
+    }
     result.count = 1;
-    for (i = 0; text[i] != '\0'; i++)
+    for (i = 0; text[i] != '\0'; i++) {
         result.count += text[i] == ',';
+    }
     items = block(room, result.count * sizeof *items);
     for (i = 0; i < result.count; i++) {
         items[i] = number(text, &rest);
-        if (*rest != (i + 1 < result.count ? ',' : '\0'))
+        if (*rest != (i + 1 < result.count ? ',' : '\0')) {
             stop("not a list", text);
+        }
         text = rest + 1;
     }
     result.items = items;
@@ -103,8 +108,9 @@ static unsigned digit(const char *text)
     static const char digits[] = "0123456789abcdef";
     const char *at = *text == '\0' ? NULL : strchr(digits, *text);
 
-    if (at == NULL)
+    if (at == NULL) {
         stop("not a digit of base 16", text);
+    }
     return (unsigned)(at - digits);
 }
 
@@ -114,10 +120,12 @@ static struct file file(const char *text, int room)
     uint8_t *bytes = block(room, length);
     struct file result = {bytes, length};
 
-    if (length > 0 && strlen(text) % 2 != 0)
+    if (length > 0 && strlen(text) % 2 != 0) {
         stop("half a byte", text);
-    for (size_t i = 0; i < length; i++)
+    }
+    for (size_t i = 0; i < length; i++) {
         bytes[i] = (uint8_t)(digit(text + 2 * i) << 4 | digit(text + 2 * i + 1));
+    }
     return result;
 }
 
@@ -135,8 +143,9 @@ static uint32_t *place_buffer(uint32_t count)
 {
     uint32_t *out = block(OUTPUT, count * sizeof *out);
 
-    for (uint32_t i = 0; i < count; i++)
+    for (uint32_t i = 0; i < count; i++) {
         out[i] = FILLED_PLACE + i;
+    }
     return out;
 }
 
@@ -149,25 +158,28 @@ static void print_number(uint32_t answer)
 
 static void print_result(int64_t result)
 {
-    if (result >= 0)
+    if (result >= 0) {
         printf("0 %" PRId64 " ", result);
-    else if (result == -REGION_HIDDEN)
+    } else if (result == -REGION_HIDDEN) {
         printf("0 hidden ");
-    else
+    } else {
         printf("%" PRId64 " - ", -result);
+    }
 }
 
 static void print_bytes(const uint8_t *bytes, size_t length)
 {
-    for (size_t i = 0; i < length; i++)
+    for (size_t i = 0; i < length; i++) {
         printf("%02x", bytes[i]);
+    }
     puts(length == 0 ? "-" : "");
 }
 
 static void print_places(const uint32_t *places, size_t count)
 {
-    for (size_t i = 0; i < count; i++)
+    for (size_t i = 0; i < count; i++) {
         printf(i == 0 ? "%" PRIu32 : ",%" PRIu32, places[i]);
+    }
     puts(count == 0 ? "-" : "");
 }
 
@@ -183,10 +195,11 @@ static void lent(char **a)
 static void start(char **a)
 {
     region_empty(graph);
-    if (strcmp(a[0], "empty") == 0)
+    if (strcmp(a[0], "empty") == 0) {
         print_number(0);
-    else
+    } else {
         lent(a);
+    }
 }
 
 static void add(char **a)
@@ -203,8 +216,8 @@ static void install(char **a)
 {
     struct list packages = list(a[2], FIRST), services = list(a[3], SECOND);
 
-    print_number(region_install(graph, whole_number(a[0]), whole_number(a[1]), packages.items, packages.count,
-                                services.items, services.count));
+    print_number(region_install(graph, whole_number(a[0]), whole_number(a[1]), packages.items, packages.count, services.items,
+                                services.count));
 }
 
 static void uninstall(char **a)
@@ -216,9 +229,8 @@ static void connect(char **a)
 {
     struct list bundles = list(a[2], FIRST), packages = list(a[3], SECOND), services = list(a[4], THIRD);
 
-    print_number(region_connect(graph, whole_number(a[0]), whole_number(a[1]), bundles.items, bundles.count,
-                                packages.all, packages.items, packages.count,
-                                services.all, services.items, services.count));
+    print_number(region_connect(graph, whole_number(a[0]), whole_number(a[1]), bundles.items, bundles.count, packages.all,
+                                packages.items, packages.count, services.all, services.items, services.count));
 }
 
 static void disconnect(char **a)
@@ -298,10 +310,11 @@ static void image(char **a)
     int64_t length = region_write(graph, out, REGION_LONGEST_IMAGE);
 
     (void)a;
-    if (length < 0)
+    if (length < 0) {
         printf("refused %" PRId64 "\n", -length);
-    else
+    } else {
         print_bytes(out, (size_t)length);
+    }
 }
 
 static void keep_archive(char **a)
@@ -323,8 +336,9 @@ static FILE *archive_file(void)
 {
     FILE *result = tmpfile();
 
-    if (result == NULL || fwrite(archive.bytes, 1, archive.length, result) != archive.length || fflush(result) != 0)
+    if (result == NULL || fwrite(archive.bytes, 1, archive.length, result) != archive.length || fflush(result) != 0) {
         stop("the archive could not be put in a file", "");
+    }
     rewind(result);
     return result;
 }
@@ -336,12 +350,14 @@ static int run_listing(FILE *input, FILE *output)
     pid_t process = fork();
 
     if (process == 0) {
-        if (dup2(fileno(input), STDIN_FILENO) >= 0 && dup2(fileno(output), STDOUT_FILENO) >= 0)
+        if (dup2(fileno(input), STDIN_FILENO) >= 0 && dup2(fileno(output), STDOUT_FILENO) >= 0) {
             execl(listing, listing, (char *)NULL);
+        }
         _exit(127);
     }
-    if (process < 0 || waitpid(process, &status, 0) != process)
+    if (process < 0 || waitpid(process, &status, 0) != process) {
         stop("the listing program could not be run", listing);
+    }
     return status;
 }
 
@@ -365,16 +381,19 @@ static void list_archive(char **a)
     int status;
 
     (void)a;
-    if (listing == NULL || output == NULL)
+    if (listing == NULL || output == NULL) {
         stop("no listing program is named, or it has no room for its text", "");
+    }
     status = run_listing(input, output);
-    if (status != 0)
+    if (status != 0) {
         printf("status %d ", status);
+    }
     print_text(output);
     fclose(input);
     fclose(output);
 }
 
+/* clang-format off */
 static const struct command {
     const char *word;
     int arguments;
@@ -387,6 +406,7 @@ static const struct command {
     {"bfind", 3, bundle_find},    {"resolve", 3, resolve},      {"sfind", 3, service_find},
     {"bevent", 3, bundle_event},  {"sevent", 3, service_event}, {"route", 4, route},
 };
+/* clang-format on */
 
 static void run_line(char *line)
 {
@@ -394,8 +414,9 @@ static void run_line(char *line)
     char *word = strtok(line, " ");
     int count = 0;
 
-    while (count <= MOST_ARGUMENTS && (arguments[count] = strtok(NULL, " ")) != NULL)
+    while (count <= MOST_ARGUMENTS && (arguments[count] = strtok(NULL, " ")) != NULL) {
         count++;
+    }
     for (size_t i = 0; word != NULL && i < sizeof commands / sizeof commands[0]; i++) {
         if (strcmp(commands[i].word, word) == 0 && commands[i].arguments == count) {
             commands[i].run(arguments);
@@ -413,18 +434,21 @@ int main(int count, char **words)
     ssize_t length;
 
     listing = count > 1 ? words[1] : NULL;
-    for (int i = 0; i < ROOMS; i++)
+    for (int i = 0; i < ROOMS; i++) {
         rooms[i] = guarded_make();
+    }
     archive.bytes = rooms[ARCHIVE].first;
     graph = guarded_high(rooms[RECORD], sizeof *graph);
     memset(graph, FILLED_BYTE, sizeof *graph);
     region_empty(graph);
     while ((length = getline(&line, &room, stdin)) > 0) {
         line_number++;
-        if (line[length - 1] == '\n')
+        if (line[length - 1] == '\n') {
             line[length - 1] = '\0';
-        if (line[0] != '\0' && line[0] != '#')
+        }
+        if (line[0] != '\0' && line[0] != '#') {
             run_line(line);
+        }
     }
     free(line);
     return 0;

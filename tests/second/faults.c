@@ -9,9 +9,9 @@
 /* The faults have the numbers from 1 up to this one; 0 is none. */
 enum { FAULTS = 45 };
 
-#define CALL(type, name, ...)          \
-    type __real_##name(__VA_ARGS__);   \
-    type __wrap_##name(__VA_ARGS__);   \
+#define CALL(type, name, ...) \
+    type __real_##name(__VA_ARGS__); \
+    type __wrap_##name(__VA_ARGS__); \
     type __wrap_##name(__VA_ARGS__)
 
 static bool fault(int number)
@@ -41,10 +41,12 @@ CALL(uint32_t, region_remove, region_graph *g, uint32_t region)
 {
     uint32_t number = __real_region_remove(g, region);
 
-    if (fault(3) && number == 0)
+    if (fault(3) && number == 0) {
         region_add(g, region);
-    if (fault(4) && number == 3)
+    }
+    if (fault(4) && number == 3) {
         __real_region_remove(g, 15);
+    }
     return number;
 }
 
@@ -53,17 +55,22 @@ CALL(uint32_t, region_install, region_graph *g, uint32_t region, uint32_t locati
 {
     uint32_t number;
 
-    if (fault(5))
+    if (fault(5)) {
         package_count %= 256;
+    }
     number = __real_region_install(g, region, location, packages, package_count, services, service_count);
-    if (fault(6) && number == 8 && !not_installed(g, location))
+    if (fault(6) && number == 8 && !not_installed(g, location)) {
         return 9;
-    if (fault(7) && number == 11)
+    }
+    if (fault(7) && number == 11) {
         return 10;
-    if (fault(8) && number == 0 && g->bundle_count == REGION_MOST_BUNDLES)
+    }
+    if (fault(8) && number == 0 && g->bundle_count == REGION_MOST_BUNDLES) {
         return region_uninstall(g, location), 11;
-    if (fault(9) && number == 10 && g->bundle_count > 0)
+    }
+    if (fault(9) && number == 10 && g->bundle_count > 0) {
         g->bundle_count--;
+    }
     return number;
 }
 
@@ -71,11 +78,14 @@ CALL(uint32_t, region_uninstall, region_graph *g, uint32_t location)
 {
     uint32_t number = __real_region_uninstall(g, location);
 
-    if (fault(10))
+    if (fault(10)) {
         return 0;
-    for (size_t i = 0; fault(11) && number == 0 && i < g->connection_count; i++)
-        if (g->connections[i].bundles.count == 1 && g->connections[i].bundles.items[0] == location)
+    }
+    for (size_t i = 0; fault(11) && number == 0 && i < g->connection_count; i++) {
+        if (g->connections[i].bundles.count == 1 && g->connections[i].bundles.items[0] == location) {
             g->connections[i].bundles.count = 0;
+        }
+    }
     return number;
 }
 
@@ -85,15 +95,19 @@ CALL(uint32_t, region_connect, region_graph *g, uint32_t source, uint32_t target
 {
     uint32_t number;
 
-    if (fault(12) && bundle_count == 17)
+    if (fault(12) && bundle_count == 17) {
         bundle_count = 16;
+    }
     number = __real_region_connect(g, source, target, bundles, bundle_count, all_packages, packages, package_count, all_services,
                                    services, service_count);
-    for (size_t i = 0; fault(13) && number == 0 && i < bundle_count; i++)
-        if (!not_installed(g, bundles[i]))
+    for (size_t i = 0; fault(13) && number == 0 && i < bundle_count; i++) {
+        if (!not_installed(g, bundles[i])) {
             return region_disconnect(g, source, target), 10;
-    if (fault(14) && number == 0 && g->connection_count == REGION_MOST_CONNECTIONS)
+        }
+    }
+    if (fault(14) && number == 0 && g->connection_count == REGION_MOST_CONNECTIONS) {
         return region_disconnect(g, source, target), 11;
+    }
     return fault(15) && number == 3 && source == target ? 4 : number;
 }
 
@@ -101,8 +115,9 @@ CALL(uint32_t, region_disconnect, region_graph *g, uint32_t source, uint32_t tar
 {
     uint32_t number = __real_region_disconnect(g, source, target);
 
-    if (fault(16) && number == 0)
+    if (fault(16) && number == 0) {
         __real_region_disconnect(g, target, source);
+    }
     return fault(17) && number == 6 ? 0 : number;
 }
 
@@ -113,14 +128,18 @@ static int64_t found(int64_t count, uint32_t *out, size_t out_count, const uint3
 {
     volatile uint32_t touched;
 
-    if (fault(18) && count >= 0 && (size_t)count < out_count)
+    if (fault(18) && count >= 0 && (size_t)count < out_count) {
         out[count] = 0;
-    if (fault(19) && count == -REGION_NO_PLACE && out_count > 0)
+    }
+    if (fault(19) && count == -REGION_NO_PLACE && out_count > 0) {
         out[0] = 0;
-    if (fault(20))
+    }
+    if (fault(20)) {
         touched = candidates[candidate_count];
-    if (fault(21) && count >= 2 && out[0] == out[1])
+    }
+    if (fault(21) && count >= 2 && out[0] == out[1]) {
         return memmove(out, out + 1, (size_t)(count - 1) * sizeof *out), count - 1;
+    }
     (void)touched;
     return count;
 }
@@ -140,20 +159,23 @@ CALL(int64_t, region_resolve, const region_graph *g, uint32_t *out, size_t out_c
 
     if (fault(22) && count == -REGION_NO_PLACE) {
         count = __real_region_resolve(g, own, REGION_LONGEST_IMAGE, location, candidates, candidate_count);
-        if (count < 0 || (size_t)count > out_count)
+        if (count < 0 || (size_t)count > out_count) {
             return -REGION_NO_PLACE;
+        }
         memcpy(out, own, (size_t)count * sizeof *out);
     }
-    if (fault(23) && count == -REGION_NOT_INSTALLED && out_count < candidate_count)
+    if (fault(23) && count == -REGION_NOT_INSTALLED && out_count < candidate_count) {
         return -REGION_NO_PLACE;
+    }
     return count;
 }
 
 CALL(int64_t, region_service_event, const region_graph *g, uint32_t *out, size_t out_count, const uint32_t *listeners,
      size_t listener_count, uint32_t service)
 {
-    if (fault(24) && listener_count > 1 && not_installed(g, listeners[listener_count - 1]))
+    if (fault(24) && listener_count > 1 && not_installed(g, listeners[listener_count - 1])) {
         listener_count--;
+    }
     return __real_region_service_event(g, out, out_count, listeners, listener_count, service);
 }
 
@@ -165,26 +187,32 @@ CALL(int64_t, region_route, const region_graph *g, uint8_t *out, size_t out_leng
     region_graph other = *g;
     int64_t count, others;
 
-    if (fault(25))
+    if (fault(25)) {
         kind %= 256;
-    if (fault(26))
+    }
+    if (fault(26)) {
         item &= 0xFFFFFF;
+    }
     count = __real_region_route(g, out, out_length, location, kind, item);
-    if (fault(27) && count >= 0 && (size_t)count + 1 < out_length)
+    if (fault(27) && count >= 0 && (size_t)count + 1 < out_length) {
         out[count + 1] = 0;
-    if (fault(28) && count == -REGION_HIDDEN)
+    }
+    if (fault(28) && count == -REGION_HIDDEN) {
         out[0] = 0;
+    }
     if (fault(29) && count == -REGION_NO_PLACE) {
         count = __real_region_route(g, own, sizeof own, location, kind, item);
-        if (count < 0 || (size_t)count + 1 > out_length)
+        if (count < 0 || (size_t)count + 1 > out_length) {
             return -REGION_NO_PLACE;
+        }
         memcpy(out, own, (size_t)count + 1);
     }
     /* another route: of as many connections, or a longer one */
     if (count > 0 && region_disconnect(&other, out[0], out[1]) == 0) {
         others = __real_region_route(&other, own, sizeof own, location, kind, item);
-        if ((fault(30) && others == count) || (fault(31) && others > count))
+        if ((fault(30) && others == count) || (fault(31) && others > count)) {
             return memcpy(out, own, (size_t)others + 1), others;
+        }
     }
     return fault(32) && count == 15 ? -REGION_HIDDEN : count;
 }
@@ -196,17 +224,22 @@ CALL(uint32_t, region_read, region_graph *g, const uint8_t *bytes, size_t length
     uint64_t regions = g->regions;
     uint32_t number;
 
-    if (fault(33))
+    if (fault(33)) {
         length %= 65536;
+    }
     number = __real_region_read(g, bytes, length);
-    if (fault(34) && number != 0)
+    if (fault(34) && number != 0) {
         region_empty(g);
-    if (fault(35) && number == 17)
+    }
+    if (fault(35) && number == 17) {
         region_add(g, 15);
-    if (fault(36) && number == 0)
+    }
+    if (fault(36) && number == 0) {
         g->regions |= regions;
-    if (fault(37) && number == 16)
+    }
+    if (fault(37) && number == 16) {
         return __real_region_read(g, bytes, length - 1) == 0 ? 0 : number;
+    }
     return fault(38) && number == 15 && length == 5 ? 16 : number;
 }
 
@@ -214,10 +247,12 @@ CALL(uint32_t, archive_query, const uint8_t *bytes, size_t length, uint32_t loca
 {
     uint32_t answer = __real_archive_query(bytes, length, location, fault(39) ? kind % 256 : kind, item);
 
-    if (fault(40) && answer == 12 && kind > 2)
+    if (fault(40) && answer == 12 && kind > 2) {
         return 13;
-    if (fault(41) && answer == 17 && kind > 2)
+    }
+    if (fault(41) && answer == 17 && kind > 2) {
         return 13;
+    }
     return fault(42) && answer == REGION_SEEN && location == item && kind == 2 ? REGION_HIDDEN : answer;
 }
 
@@ -225,11 +260,14 @@ CALL(int64_t, region_write, const region_graph *g, uint8_t *out, size_t out_leng
 {
     int64_t length = __real_region_write(g, out, out_length);
 
-    if (fault(43) && length >= 0 && (size_t)length < out_length)
+    if (fault(43) && length >= 0 && (size_t)length < out_length) {
         out[length] = 0;
-    if (fault(44) && length < 0 && out_length > 0)
+    }
+    if (fault(44) && length < 0 && out_length > 0) {
         out[0] = 1;
-    if (fault(45) && g->bundle_count == REGION_MOST_BUNDLES && length > 0)
+    }
+    if (fault(45) && g->bundle_count == REGION_MOST_BUNDLES && length > 0) {
         out[length - 1] ^= 1;
+    }
     return length;
 }

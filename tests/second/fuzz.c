@@ -24,8 +24,7 @@
 enum { PLACES = 4096, SIZES = 6 };
 
 /* What libFuzzer takes as new, by the number of the read. */
-__attribute__((section("__libfuzzer_extra_counters")))
-static uint8_t counters[REGION_BROKEN_LAYOUT + 1][PLACES][SIZES];
+__attribute__((section("__libfuzzer_extra_counters"))) static uint8_t counters[REGION_BROKEN_LAYOUT + 1][PLACES][SIZES];
 
 static struct guarded archive, written, record_room;
 static region_graph *record;
@@ -39,8 +38,9 @@ static void fault(int signal_number, siginfo_t *info, void *context)
 {
     const unsigned char *at = info->si_addr;
 
-    if (probing && at >= archive.past && at < archive.past + GUARDED_ROOM)
+    if (probing && at >= archive.past && at < archive.past + GUARDED_ROOM) {
         siglongjmp(probe, 1);
+    }
     other_faults.sa_sigaction(signal_number, info, context);
 }
 
@@ -105,10 +105,11 @@ static size_t depth(const uint8_t *data, size_t size)
     while (low < high) {
         size_t middle = low + (high - low) / 2;
 
-        if (touches(data, size, middle))
+        if (touches(data, size, middle)) {
             low = middle + 1;
-        else
+        } else {
             high = middle;
+        }
     }
     return low;
 }
@@ -124,8 +125,9 @@ static void count(const uint8_t *data, size_t size, uint32_t number)
     size_t past = number == 0 ? size : depth(data, size);
     size_t from = number == 0 || past == 0 ? 0 : past - 1;
 
-    for (size_t i = from; i < past && i < PLACES; i++)
+    for (size_t i = from; i < past && i < PLACES; i++) {
         counters[number][i][size_of(data[i])] = 1;
+    }
 }
 
 static void check_read(const uint8_t *file, size_t size, uint32_t number)
@@ -145,8 +147,9 @@ static uint32_t word(const uint8_t *file, size_t size, size_t at)
 {
     uint32_t value = 0;
 
-    for (size_t i = at; i < at + 4; i++)
+    for (size_t i = at; i < at + 4; i++) {
         value = value << 8 | (i < size ? file[i] : 0u);
+    }
     return value;
 }
 
@@ -176,8 +179,9 @@ size_t LLVMFuzzerCustomMutator(uint8_t *data, size_t size, size_t most, unsigned
 
     if (changed >= 5 && seed % 8 != 0) {
         data[0] = 1;
-        for (int i = 0; i < 4; i++)
+        for (int i = 0; i < 4; i++) {
             data[1 + i] = (uint8_t)((changed - 5) >> (24 - 8 * i));
+        }
     }
     return changed;
 }
@@ -188,16 +192,18 @@ int LLVMFuzzerTestOneInput(const uint8_t *data, size_t size)
     uint8_t *file;
     uint32_t number;
 
-    if (!made)
+    if (!made) {
         make_all();
+    }
     made = true;
     memcpy(record, &before, sizeof before);
     file = guarded_high(archive, size);
     memcpy(file, data, size);
     number = region_read(record, file, size);
     check_read(file, size, number);
-    for (size_t at = size % 7; at < size; at += size / 12 + 1)
+    for (size_t at = size % 7; at < size; at += size / 12 + 1) {
         check_query(file, size, number, at);
+    }
     count(data, size, number);
     return 0;
 }

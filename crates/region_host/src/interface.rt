@@ -1,0 +1,37 @@
+// What a host asks before it lends a record: the version of the interface, and the size of the record.
+ghost use mathlib.Core.Path.{_≡_};
+ghost use Rattle.region_host.specs.Version.{«interface-version», «record-size»};
+use region_graph::size::MOST_BUNDLES;
+use region_graph::size::MOST_CONNECTIONS;
+use region_graph::size::MOST_LISTED;
+use region_graph::size::MOST_PROVIDED;
+
+// Raised whenever a host must be compiled anew; WIMBORU_VERSION of include/wimboru.h goes with it.
+const VERSION: u32 = 1;
+
+// Bytes of a number, of a count or the set of regions, of a bundle, of a connection and of the record.
+const NUMBER: usize = 4;
+
+const COUNT: usize = 8;
+
+const BUNDLE: usize = 2 * NUMBER + 2 * (COUNT + MOST_PROVIDED * NUMBER);
+
+const CONNECTION: usize = 2 * NUMBER + 3 * (COUNT + MOST_LISTED * NUMBER);
+
+const RECORD: usize = COUNT
+    + (COUNT + MOST_BUNDLES * BUNDLE)
+    + (COUNT + MOST_CONNECTIONS * CONNECTION);
+
+#[no_mangle]
+pub extern "C" fn region_interface_version() -> u32
+    ensures { λ r. ⌜ r ≡ interface-version ⌝ }
+{
+    VERSION
+}
+
+#[no_mangle]
+pub extern "C" fn region_record_size() -> usize
+    ensures { λ r. ⌜ r ≡ record-size ⌝ }
+{
+    RECORD
+}

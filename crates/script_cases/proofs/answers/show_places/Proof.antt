@@ -1,0 +1,26 @@
+use Prim.Native.Nat.{_-_}
+use borrow.Author.Needs.{needs}
+use Rattle.script_cases.proofs.answers.show_places.Statement.{statement}
+use Rattle.script_cases.proofs.answers.show_places.Tie as tie
+
+abbrev Inv-loop : tie.InvT-loop
+Inv-loop places count i₀ i = Unit {0}
+
+abbrev μ-loop : tie.MeasureT-loop
+μ-loop places count i₀ i = 128 - i
+
+pub show-places-spec : {M : Type 1} → statement M
+show-places-spec =
+    tie.close
+    (tie.spec
+    Inv-loop
+    μ-loop
+    (λ c. search needs)
+    (λ c. search needs)
+    (λ c. search needs)
+    (λ c κs. search needs)
+    (λ c. search needs)
+    (λ c. search needs)
+    (λ c. search needs)
+    (λ c κs. search needs)
+    (λ c. search needs))

@@ -1,0 +1,84 @@
+// The changing calls, as lines of the script.
+ghost use Rattle.region_graph.specs.Record.{Valid};
+use crate::lines::is_all;
+use crate::lines::list;
+use crate::lines::value;
+use crate::lines::word;
+use crate::words::is;
+use region_graph::Changed;
+use region_graph::Graph;
+
+// Room for the numbers of a list: more than a list may have.
+const ROOM: usize = 20;
+
+// What a line that is no call is answered with.
+const NOT_A_CALL: u32 = 999;
+
+// install REGION LOCATION PACKAGES SERVICES
+fn install(g: Graph, line: &[u8]) -> Changed
+    requires { ⌜ Valid g ⌝ }
+    ensures { λ r. ⌜ Valid (r .graph) ⌝ }
+{
+    let region = value(line, 1);
+    let location = value(line, 2);
+    let mut packages = [0u32; ROOM];
+    let mut services = [0u32; ROOM];
+    let n = list(word(line, 3), &mut packages);
+    let m = list(word(line, 4), &mut services);
+    g.install(region, location, &packages[..n], &services[..m])
+}
+
+// connect SOURCE TARGET BUNDLES PACKAGES SERVICES
+fn connect(g: Graph, line: &[u8]) -> Changed
+    requires { ⌜ Valid g ⌝ }
+    ensures { λ r. ⌜ Valid (r .graph) ⌝ }
+{
+    let source = value(line, 1);
+    let target = value(line, 2);
+    let mut bundles = [0u32; ROOM];
+    let mut packages = [0u32; ROOM];
+    let mut services = [0u32; ROOM];
+    let k = list(word(line, 3), &mut bundles);
+    let n = list(word(line, 4), &mut packages);
+    let m = list(word(line, 5), &mut services);
+    let all_packages = is_all(word(line, 4));
+    let all_services = is_all(word(line, 5));
+    g.connect(
+        source,
+        target,
+        &bundles[..k],
+        all_packages,
+        &packages[..n],
+        all_services,
+        &services[..m],
+    )
+}
+
+// The call of a line. A line that is none has a number of its own and changes nothing.
+pub fn call(g: Graph, line: &[u8]) -> Changed
+    requires { ⌜ Valid g ⌝ }
+    ensures { λ r. ⌜ Valid (r .graph) ⌝ }
+{
+    if is(line, b"add") {
+        return g.add_region(value(line, 1));
+    }
+    if is(line, b"remove") {
+        return g.remove_region(value(line, 1));
+    }
+    if is(line, b"install") {
+        return install(g, line);
+    }
+    if is(line, b"uninstall") {
+        return g.uninstall(value(line, 1));
+    }
+    if is(line, b"connect") {
+        return connect(g, line);
+    }
+    if is(line, b"disconnect") {
+        return g.disconnect(value(line, 1), value(line, 2));
+    }
+    Changed {
+        graph: g,
+        number: NOT_A_CALL,
+    }
+}

@@ -1,0 +1,77 @@
+# shellcheck shell=sh
+# What the scripts of the tests share. A script sets `root` to the top of the repository and reads this file, which goes to the top
+# and makes `work`, a folder for the script's files that is removed at its end.
+#
+# WIMBORU_LIB and WIMBORU_LISTING name a static library and a listing program that are there; without them `rt` proves and builds both.
+# WIMBORU_DRIVER names the program that tests/second/run builds to run scripts on the engine.
+
+# PATH: the same from any folder
+absolute() {
+    case $1 in '' | /*) echo "$1" ;; *) echo "$PWD/$1" ;; esac
+}
+
+WIMBORU_LIB=$(absolute "${WIMBORU_LIB:-}")
+WIMBORU_LISTING=$(absolute "${WIMBORU_LISTING:-}")
+WIMBORU_DRIVER=$(absolute "${WIMBORU_DRIVER:-}")
+cd "${root:?}" || exit 2
+work=$(mktemp -d)
+trap 'rm -rf "$work"' EXIT
+passed=0
+failed=0
+
+# WORDS: ends with 2, since something is missing
+missing() {
+    echo "missing: $1" >&2
+    exit 2
+}
+
+# COMMAND PLACE: ends with 2 where a command is not there; the place is where it comes from
+need() {
+    [ -n "$(command -v "$1")" ] || missing "$1 ($2)"
+}
+
+# WORD...: a command of rt, whose text shows where it fails
+by_rt() {
+    need rt 'the Rattle kit'
+    rt "$@" > "$work/rt" 2>&1 || { tail -n 20 "$work/rt" >&2; missing "what rt $* makes"; }
+}
+
+# Sets library to the static library.
+provide_library() {
+    library=$WIMBORU_LIB
+    [ -z "$library" ] || return 0
+    by_rt staticlib region_host
+    library=$root/target/staticlib/libregion_host.a
+}
+
+# Sets listing to the listing program.
+provide_listing() {
+    listing=$WIMBORU_LISTING
+    [ -z "$listing" ] || return 0
+    by_rt check listing
+    listing=$root/target/bin/listing
+}
+
+# USAGE NUMBER: ends with 2 unless a number is one from 1 on
+need_count() {
+    case $2 in
+        '' | 0* | *[!0-9]*) echo "usage: $1" >&2; exit 2 ;;
+    esac
+}
+
+# NAME GOT EXPECTED: counts a check
+same() {
+    if [ "$2" = "$3" ]; then
+        passed=$((passed + 1))
+    else
+        echo "FAILED $1: got '$2' and not '$3'"
+        failed=$((failed + 1))
+    fi
+}
+
+# Prints how many checks passed and failed, and ends.
+end_checks() {
+    echo "$passed checks passed, $failed failed"
+    [ "$failed" -eq 0 ] || exit 1
+    exit 0
+}

@@ -10,23 +10,25 @@ use lib.ListN.{length, getD, take, drop, set, replicate, length-append, length-m
 use lib.Seq.{take-suc, take-suc-set, length-take-le, drop-cons, take-at, take-all}
 use lib.Bits.{bitOr}
 use borrow.Author.Tests.{eq-eqb, ne-eqb}
-use Rattle.region_graph.specs.Size.{regions, most-bundles, most-connections, most-provided, most-listed}
+use Rattle.region_graph.specs.Size.{regions, most-bundles, most-connections, most-provided, most-listed, everything-sign}
 use Rattle.region_graph.specs.Lists.{pick, exists, All, member, concat-map}
 use Rattle.region_graph.specs.Sets.{singleton, set-of}
 use Rattle.region_graph.specs.Model.{Model, Bundle, Filter, Part, Connection, Word, NumberedPart, Legal, LegalBundle, LegalFilter, LegalConnection}
 use Rattle.region_graph.specs.Items.{provided, part-of, part-passes, provides, passes, crosses}
 use Rattle.region_graph.specs.Record.{store-bundle, store-connection, bundle-in, connection-in, no-bundle, no-connection}
-use Rattle.region_graph.specs.Places.{ShortBundle, ShortConnection, BundleStored, ConnectionStored}
+use Rattle.region_graph.specs.Places.{ShortBundle, ShortConnection, PartStored, BundleStored, ConnectionStored}
 use Rattle.region_graph.specs.Promise.{place-of, holder-set, predecessor-sets}
 use Rattle.region_graph.specs.declared.Place.{Place}
 use Rattle.region_graph.specs.declared.Place.the-variants.{Within, Nowhere}
+use Rattle.region_graph.specs.declared.numbers.Numbers.{Numbers}
 use Rattle.region_graph.specs.declared.bundles.StoredBundle.{StoredBundle}
 use Rattle.region_graph.specs.declared.connections.StoredConnection.{StoredConnection}
 use Rattle.region_graph.proofs.Lists.{exists-append, all-at, all-map, member-all, map-append, eqb-sym}
 use Rattle.region_graph.proofs.Bits.{set-below-lt, set-none}
 use Rattle.region_graph.proofs.Views.{exists-more, sets-more}
-use Rattle.region_graph.proofs.Arrays.{Filled, filled-at, filled-inside, filled-means}
+use Rattle.region_graph.proofs.Arrays.{Filled, filled-length, filled-at, filled-inside, filled-means}
 use Rattle.region_graph.proofs.Storing.{map-back, stored-as, bundle-back, connection-back, short-bundle, short-connection}
+use Rattle.region_graph.proofs.Storing.{numbers-filled, provided-filled, packages-stored, services-stored, named-stored, listed-stored}
 use Rattle.region_routes.specs.Hooks.{item, is-installed, all-installed}
 use Rattle.region_routes.specs.Search.{RegionSets}
 use Rattle.region_routes.specs.Tables.{width, everything-number, packed, number-in, place-in, ends, source-in, target-in, most-entries, passed, offer, passage, offers, passages, Appended, Holding, held-in, leads-in, leads-also, led-by, place-at, all-placed, Tables}
@@ -47,14 +49,49 @@ appended-then {before} {mid} {after} {at} {j} {k} {xs} {ys} a b = record {
   kept = b .kept ∙ ap (λ (l : List ℕ). l ++ ys) (a .kept) ∙ append-assoc (take at before) xs ys;
 }
 
--- the numbers of a list are put one by one
-module _ (f : ℕ → ℕ) (xs : List ℕ) (i : ℕ) (h : i < length xs) {before mid : List ℕ} {at j : ℕ} (a : Appended before at (map f (take i xs)) mid j) where
-  pub appended-room : at + length (map f xs) ≤ length before → length mid ≡ length before → j < length mid
-  appended-room r e = omega (arith, a .counted, length-map xs f, length-map (take i xs) f, length-take-le i xs (omega arith))
+-- a loop has put the entries of the first i numbers of a list
+pub record Appending (f : ℕ → ℕ) (xs before : List ℕ) (at i : ℕ) (out : List ℕ) (n : ℕ) : Type 0 where
+  pub upto : i ≤ length xs
+  pub long : length out ≡ length before
+  pub done : Appended before at (map f (take i xs)) out n
 
-  pub appended-next : {after : List ℕ} {k x : ℕ} → x ≡ f (getD xs i 0) → Appended mid j (x ∷ []) after k
-      → Appended before at (map f (take (i + 1) xs)) after k
-  appended-next {x = x} e b = rw (add-one, take-suc xs i 0 h, map-append, ← e) (appended-then a b)
+module _ {f : ℕ → ℕ} {xs before : List ℕ} {at : ℕ} where
+  pub appending-start : Appending f xs before at 0 before at
+  appending-start = record { upto = omega arith; long = refl; done = appended-none }
+
+  module _ {i n : ℕ} {out : List ℕ} (a : Appending f xs before at i out n) where
+    pub appending-room : i < length xs → at + length (map f xs) ≤ length before → n < length out
+    appending-room l r = omega (arith, a .long, a .done .counted, length-map xs f, length-map (take i xs) f, length-take-le i xs (omega arith))
+
+    pub appending-next : {after : List ℕ} {k x : ℕ} → i < length xs → x ≡ f (getD xs i 0) → length after ≡ length before → Appended out n (x ∷ []) after k
+        → Appending f xs before at (i + 1) after k
+    appending-next l e h b = record {
+      upto = omega arith;
+      long = h;
+      done = rw (add-one, take-suc xs i 0 l, map-append, ← e) (appended-then (a .done) b);
+    }
+
+    pub appending-end : length xs ≤ i → Appended before at (map f xs) out n
+    appending-end l = rw (take-all i xs l) at (a .done)
+
+-- the numbers of a list stand in its first places
+filled-within : {size count : ℕ} {items xs : List ℕ} → Filled (λ x. x) 0 size items count xs → count ≤ length items
+filled-within h = omega (arith, h .counted, h .room, filled-length h)
+
+pub packages-within : (b : StoredBundle) → BundleStored b → b .packages .count ≤ length (b .packages .items)
+packages-within b h = filled-within (provided-filled (b .packages) (packages-stored b h))
+
+pub services-within : (b : StoredBundle) → BundleStored b → b .services .count ≤ length (b .services .items)
+services-within b h = filled-within (provided-filled (b .services) (services-stored b h))
+
+pub named-within : (c : StoredConnection) → ConnectionStored c → c .bundles .count ≤ length (c .bundles .items)
+named-within c h = filled-within (numbers-filled (c .bundles) (named-stored c h))
+
+pub listed-within : (p : Numbers) → PartStored p → (p .count ≡ everything-sign → ⊥) → p .count ≤ length (p .items)
+listed-within p h e = filled-within (numbers-filled p (listed-stored p h e))
+
+pub within-long : (count : ℕ) (items : List ℕ) → count ≤ length items → count ≡ length (take count items)
+within-long count items h = sym (length-take-le count items h)
 
 -- the entries of each element
 

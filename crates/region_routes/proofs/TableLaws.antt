@@ -4,6 +4,7 @@ use mathlib.Core.Bool.{Bool, true, false, _&&_, _||_, and-true, and-false, or-tr
 use mathlib.Core.List.{List, [], _∷_, _++_, map, append-assoc, append-nil}
 use Prim.Native.Nat.{ℕ, zero, suc, _+_, _*_, _-_, _≤_, _<_, _^_}
 use native.Mathlib.Numerals.{add-one}
+use native.Mathlib.Nat.{mul-le-mul-right}
 use native.Mathlib.Omega.{arith}
 use lib.Dec.{eqb}
 use lib.ListN.{length, getD, take, drop, set, replicate, length-append, length-map, drop-of-length-le}
@@ -15,7 +16,7 @@ use Rattle.region_graph.specs.Lists.{pick, exists, All, member, concat-map}
 use Rattle.region_graph.specs.Sets.{singleton, set-of}
 use Rattle.region_graph.specs.Model.{Model, Bundle, Filter, Part, Connection, Word, NumberedPart, Legal, LegalBundle, LegalFilter, LegalConnection}
 use Rattle.region_graph.specs.Items.{provided, part-of, part-passes, provides, passes, crosses}
-use Rattle.region_graph.specs.Record.{store-bundle, store-connection, bundle-in, connection-in, no-bundle, no-connection}
+use Rattle.region_graph.specs.Record.{places, store-bundle, store-connection, bundle-in, connection-in, no-bundle, no-connection}
 use Rattle.region_graph.specs.Places.{ShortBundle, ShortConnection, PartStored, BundleStored, ConnectionStored}
 use Rattle.region_graph.specs.Promise.{place-of, holder-set, predecessor-sets}
 use Rattle.region_graph.specs.declared.Place.{Place}
@@ -27,7 +28,8 @@ use Rattle.region_graph.proofs.Lists.{exists-append, all-at, all-map, member-al
 use Rattle.region_graph.proofs.Bits.{set-below-lt, set-none}
 use Rattle.region_graph.proofs.Views.{exists-more, sets-more}
 use Rattle.region_graph.proofs.Arrays.{Filled, filled-length, filled-at, filled-inside, filled-means}
-use Rattle.region_graph.proofs.Storing.{map-back, stored-as, bundle-back, connection-back, short-bundle, short-connection}
+use Rattle.region_graph.proofs.Storing.{map-back, stored-as, bundle-back, connection-back, bundles-each, connections-each}
+use Rattle.region_graph.proofs.Storing.{short-bundle, short-connection, short-connections}
 use Rattle.region_graph.proofs.Storing.{numbers-filled, provided-filled, packages-stored, services-stored, named-stored, listed-stored}
 use Rattle.region_routes.specs.Hooks.{item, is-installed, all-installed}
 use Rattle.region_routes.specs.Search.{RegionSets}
@@ -105,14 +107,8 @@ module _ {A : Type 0} (f : A → List ℕ) where
       rw (add-one, take-suc xs i d h)
       (concat-append (take i xs) (getD xs i d ∷ []) ∙ ap (λ (l : List ℕ). concat-map f (take i xs) ++ l) (append-nil (f (getD xs i d))))
 
-  -- the entries of one element more are put
-  pub gathered-next : (xs : List A) (i : ℕ) (d : A) {before mid after : List ℕ} {j k : ℕ} {ys : List ℕ} → i < length xs
-      → Appended before 0 (concat-map f (take i xs)) mid j → ys ≡ f (getD xs i d) → Appended mid j ys after k
-      → Appended before 0 (concat-map f (take (i + 1) xs)) after k
-  gathered-next xs i d h a e b = rw (concat-more xs i d h, ← e) (appended-then a b)
-
   -- with at most w entries of each element
-  pub concat-few : (w : ℕ) (xs : List A) → All (λ x. length (f x) ≤ w) xs → (i : ℕ) → length (concat-map f (take i xs)) ≤ i * w
+  concat-few : (w : ℕ) (xs : List A) → All (λ x. length (f x) ≤ w) xs → (i : ℕ) → length (concat-map f (take i xs)) ≤ i * w
   concat-few w xs h zero = omega arith
   concat-few w [] h (suc i) = omega arith
   concat-few w (x ∷ xs) h (suc i) = rw length-append (omega (arith, h .0, concat-few w xs (h .1) i))
@@ -126,34 +122,56 @@ module _ {A : Type 0} (f : A → List ℕ) where
   exists-each P p q e [] h = refl
   exists-each P p q e (x ∷ xs) h = ap₂ _||_ (e x (h .0)) (exists-each P p q e xs (h .1))
 
--- a loop over an array whose first places hold a list puts the entries of each element
-module _ {A B : Type 0} {store : A → B} {none : B} {size : ℕ} (out : B → A) (f : A → List ℕ)
-    {items : List B} {count : ℕ} {xs : List A} (back : All (λ x. out (store x) ≡ x) xs) (h : Filled store none size items count xs) where
-  filled-read : map out (take count items) ≡ xs
-  filled-read =
-      rw (h .shape, h .counted)
-      (ap (map out) (take-at (map store xs) (replicate (size - length xs) none) (length xs) (length-map xs store)) ∙ map-back store out xs back)
+-- the first places of an array hold the elements of a list, each of which has at most w entries; a table has room for those of all
+pub record Source {A B : Type 0} (store : A → B) (none : B) (size : ℕ) (out : B → A) (f : A → List ℕ) (w : ℕ) (places : List B) (count : ℕ) (xs : List A) : Type 0 where
+  pub filled : Filled store none size places count xs
+  pub back : All (λ x. out (store x) ≡ x) xs
+  pub few : All (λ x. length (f x) ≤ w) xs
+  pub fits : size * w ≤ most-entries
 
-  module _ {before mid : List ℕ} {j : ℕ} (i : ℕ) (l : i < count) (e : B) (d : A) (a : Appended before 0 (concat-map f (take i (map out (take count items)))) mid j) where
-    pub gathered-step : {after : List ℕ} {k : ℕ} → Appended mid j (f (out (getD items i e))) after k
-        → Appended before 0 (concat-map f (take (i + 1) (map out (take count items)))) after k
-    gathered-step b =
-        rw filled-read (gathered-next f xs i d (filled-inside h i l) (rw filled-read at a) (ap f (filled-means h out back i e d l)) b)
+-- a loop over them has put the entries of the first i elements
+pub record Gathering {A B : Type 0} (out : B → A) (f : A → List ℕ) (places : List B) (count : ℕ) (before : List ℕ) (i : ℕ) (items : List ℕ) (n : ℕ) : Type 0 where
+  pub upto : i ≤ count
+  pub long : length items ≡ most-entries
+  pub done : Appended before 0 (concat-map f (take i (map out (take count places)))) items n
 
-    -- with at most w entries of each element
-    pub gathered-room : (w : ℕ) → suc i * w ≤ length mid → All (λ x. length (f x) ≤ w) xs → j + length (f (out (getD items i e))) ≤ length mid
-    gathered-room w r g =
-        rw (filled-means h out back i e d l)
-        (omega (arith, (rw filled-read at a) .counted, concat-few f w xs g i, all-at (λ x. length (f x) ≤ w) xs i d (filled-inside h i l) g))
+pub gathering-start : {A B : Type 0} {out : B → A} {f : A → List ℕ} {places : List B} {count : ℕ} {before : List ℕ} → length before ≡ most-entries
+    → Gathering out f places count before 0 before 0
+gathering-start e = record { upto = omega arith; long = e; done = appended-none }
 
-  -- at the end
-  pub gathered-end : {before after : List ℕ} {i n : ℕ} (w : ℕ) → count ≤ i → i * w ≤ most-entries → length after ≡ most-entries
-      → All (λ x. length (f x) ≤ w) xs → Appended before 0 (concat-map f (take i (map out (take count items)))) after n → Holding (concat-map f xs) after n
-  gathered-end {i = i} w l r e g a = record {
-    few = omega (arith, (rw filled-read at a) .counted, concat-few f w xs g i);
-    room = omega (arith, e, (rw filled-read at a) .counted, concat-few f w xs g i);
-    table = (rw filled-read at a) .kept ∙ ap (concat-map f) (take-all i xs (omega (arith, h .counted)));
-  }
+module _ {A B : Type 0} {store : A → B} {none : B} {size w : ℕ} {out : B → A} {f : A → List ℕ} {places : List B} {count : ℕ} {xs : List A}
+    (s : Source store none size out f w places count xs) where
+  source-read : map out (take count places) ≡ xs
+  source-read =
+      rw (s .filled .shape, s .filled .counted)
+      (ap (map out) (take-at (map store xs) (replicate (size - length xs) none) (length xs) (length-map xs store)) ∙ map-back store out xs (s .back))
+
+  module _ {before items : List ℕ} {i n : ℕ} (g : Gathering out f places count before i items n) where
+    put : Appended before 0 (concat-map f (take i xs)) items n
+    put = rw source-read at (g .done)
+
+    module _ (e : B) (d : A) (l : i < count) where
+      pub gathering-room : n + length (f (out (getD places i e))) ≤ length items
+      gathering-room =
+          let here = filled-inside (s .filled) i l in
+          let within : suc i ≤ size = omega (arith, here, s .filled .room) in
+          rw (filled-means (s .filled) out (s .back) i e d l)
+          (omega (arith, put .counted, g .long, concat-few f w xs (s .few) i, all-at (λ x. length (f x) ≤ w) xs i d here (s .few), mul-le-mul-right w within, s .fits))
+
+      pub gathering-next : {after : List ℕ} {k : ℕ} → length after ≡ length items → Appended items n (f (out (getD places i e))) after k
+          → Gathering out f places count before (i + 1) after k
+      gathering-next h a = record {
+        upto = omega arith;
+        long = h ∙ g .long;
+        done =
+            rw (source-read, concat-more f xs i d (filled-inside (s .filled) i l), ← filled-means (s .filled) out (s .back) i e d l) (appended-then put a);
+      }
+
+    pub gathering-end : count ≤ i → Holding (concat-map f xs) items n
+    gathering-end l =
+        let within : i ≤ size = omega (arith, g .upto, s .filled .counted, s .filled .room) in
+        let m : n ≤ most-entries = omega (arith, put .counted, concat-few f w xs (s .few) i, mul-le-mul-right w within, s .fits) in
+        record { few = m; room = omega (arith, m, g .long); table = put .kept ∙ ap (concat-map f) (take-all i xs (omega (arith, s .filled .counted))) }
 
 -- the part of an array that holds a table
 module _ {xs items : List ℕ} {count : ℕ} (h : Holding xs items count) where
@@ -232,7 +250,7 @@ module _ (m : Model) (h : Legal m) where
   few-provided (suc (suc zero)) b l = l .services .few
   few-provided (suc (suc (suc k))) b l = omega arith
 
-  pub offers-few : (k : ℕ) → All (λ b. length (offer k b) ≤ most-provided) (m .bundles)
+  offers-few : (k : ℕ) → All (λ b. length (offer k b) ≤ most-provided) (m .bundles)
   offers-few k =
       all-map (LegalBundle (m .regions)) (λ b. length (offer k b) ≤ most-provided) (λ b l. rw length-map (few-provided k b l)) (m .bundles) (h .bundles-legal .each)
 
@@ -302,12 +320,41 @@ module _ (m : Model) (h : Legal m) where
   few-passed (Part.listed xs) l = l .few
   few-passed Part.everything l = omega arith
 
-  pub passages-few : (k : ℕ) → All (λ c. length (passage k c) ≤ most-listed) (m .connections)
+  passages-few : (k : ℕ) → All (λ c. length (passage k c) ≤ most-listed) (m .connections)
   passages-few k =
       all-map (LegalConnection (m .regions)) (λ c. length (passage k c) ≤ most-listed)
       (λ c l. rw length-map (few-passed (part-of k (c .filter)) (part-legal k (c .filter) (l .filter)))) (m .connections) (h .connections-legal .each)
 
-  -- the places of the bundles and of the connections: each is stored in the one way, and a connection's ends are regions
+  -- the places of the bundles and of the connections: what each table is put together from
+  module _ (k : ℕ) where
+    abbrev pub OffersFrom : List StoredBundle → ℕ → Type 0
+    OffersFrom items count =
+        Source store-bundle (store-bundle no-bundle) most-bundles bundle-in (offer k) most-provided items count (m .bundles)
+
+    pub offers-from : {items : List StoredBundle} {count : ℕ} → items ≡ places store-bundle (store-bundle no-bundle) most-bundles (m .bundles)
+        → count ≡ length (m .bundles) → OffersFrom items count
+    offers-from s c = record {
+      filled = record { shape = s; counted = c; room = h .bundles-legal .few };
+      back = bundles-each (m .bundles);
+      few = offers-few k;
+      fits = omega arith;
+    }
+
+    abbrev pub PassagesFrom : List StoredConnection → ℕ → Type 0
+    PassagesFrom items count =
+        Source store-connection (store-connection no-connection) most-connections connection-in (passage k) most-listed items count (m .connections)
+
+    pub passages-from : {items : List StoredConnection} {count : ℕ}
+        → items ≡ places store-connection (store-connection no-connection) most-connections (m .connections) → count ≡ length (m .connections)
+        → PassagesFrom items count
+    passages-from s c = record {
+      filled = record { shape = s; counted = c; room = h .connections-legal .few };
+      back = connections-each (m .connections) (short-connections h);
+      few = passages-few k;
+      fits = omega arith;
+    }
+
+  -- each is stored in the one way, and a connection's ends are regions
   module _ {items : List StoredBundle} {count : ℕ} (f : Filled store-bundle (store-bundle no-bundle) most-bundles items count (m .bundles)) where
     pub bundle-placed : (i : ℕ) (e : StoredBundle) → i < count → BundleStored (getD items i e)
     bundle-placed i e l =

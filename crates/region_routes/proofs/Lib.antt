@@ -8,6 +8,7 @@ pub mod Walking
 pub mod Judging
 pub mod TableLaws
 pub mod Chaining
+pub mod Lookups
 pub mod Keeping
 pub mod Answering
 pub mod Claims

@@ -33,7 +33,7 @@ use Rattle.region_graph.proofs.Storing.{short-bundle, short-connection, short-c
 use Rattle.region_graph.proofs.Storing.{numbers-filled, provided-filled, packages-stored, services-stored, named-stored, listed-stored}
 use Rattle.region_routes.specs.Hooks.{item, is-installed, all-installed}
 use Rattle.region_routes.specs.Search.{RegionSets}
-use Rattle.region_routes.specs.Tables.{width, everything-number, packed, number-in, place-in, ends, source-in, target-in, most-entries, passed, offer, passage, offers, passages, Appended, Holding, held-in, leads-in, leads-also, led-by, place-at, all-placed, Tables}
+use Rattle.region_routes.specs.Tables.{width, everything-number, packed, number-in, place-in, ends, source-in, target-in, most-entries, passed, offer, passage, offers, passages, Appended, Holding, held-in, step-in, step-or, predecessors-by, place-at, all-placed, Tables}
 use Rattle.region_routes.proofs.SetLaws.{counted-sets}
 
 -- what is put at the end of what stands in a buffer
@@ -302,8 +302,8 @@ module _ (m : Model) (h : Legal m) where
       ∙ exists-fixed (eqb (c .source) r && eqb (c .target) s) (λ x. eqb x everything-number || eqb x n) xs
       ∙ ap (λ (t : Bool). (eqb (c .source) r && eqb (c .target) s) && t) (part-says n (part-of k (c .filter)) (part-legal k (c .filter) (l .filter)))
 
-  -- an entry for all or for the number leads where a connection that passes the item leads
-  crosses-passages : (k n r s : ℕ) → leads-also (leads-in (passages k (m .connections)) everything-number) (passages k (m .connections)) n r s ≡ crosses m (item k n) r s
+  -- an entry for all or for the number goes from and to where a connection that passes the item goes
+  crosses-passages : (k n r s : ℕ) → step-or (step-in (passages k (m .connections)) everything-number) (passages k (m .connections)) n r s ≡ crosses m (item k n) r s
   crosses-passages k n r s =
       let test : ℕ → Bool = λ e. (eqb (source-in e) r && eqb (target-in e) s) && (eqb (number-in e) everything-number || eqb (number-in e) n) in
       exists-either (λ e. eqb (source-in e) r && eqb (target-in e) s) (λ e. eqb (number-in e) everything-number) (λ e. eqb (number-in e) n) (passages k (m .connections))
@@ -311,10 +311,10 @@ module _ (m : Model) (h : Legal m) where
       ∙ exists-each (passage k) (LegalConnection (m .regions)) (λ c. exists test (passage k c))
       (λ c. (eqb (c .source) r && eqb (c .target) s) && passes (item k n) (c .filter)) (passage-says k n r s) (m .connections) (h .connections-legal .each)
 
-  led-passages : (k n : ℕ)
-      → led-by (leads-also (leads-in (passages k (m .connections)) everything-number) (passages k (m .connections)) n) ≡ predecessor-sets m (item k n)
-  unfolding led-by predecessor-sets
-  led-passages k n = ap led-by (λ j r s. crosses-passages k n r s j)
+  stepped-passages : (k n : ℕ)
+      → predecessors-by (step-or (step-in (passages k (m .connections)) everything-number) (passages k (m .connections)) n) ≡ predecessor-sets m (item k n)
+  unfolding predecessors-by predecessor-sets
+  stepped-passages k n = ap predecessors-by (λ j r s. crosses-passages k n r s j)
 
   few-passed : (p : Part) → NumberedPart p → length (passed p) ≤ most-listed
   few-passed (Part.listed xs) l = l .few
@@ -384,75 +384,22 @@ pub placed-installed : (m : Model) {place : ℕ → Place} → ((l : ℕ) → pl
 placed-installed m e [] = refl
 placed-installed m e (l ∷ ls) = ap₂ _&&_ (ap is-installed (e l)) (placed-installed m e ls)
 
--- the entries from the i-th on
-module _ (es : List ℕ) (l i : ℕ) (h : i < length es) (e : place-at es l ≡ place-at (drop i es) l) where
-  place-next : place-at (drop i es) l ≡ pick (eqb (number-in (getD es i 0)) l) (Within (place-in (getD es i 0))) (place-at (drop (i + 1) es) l)
-  place-next = rw add-one (ap (λ (t : List ℕ). place-at t l) (drop-cons es i 0 h))
-
-  pub place-here : eqb (number-in (getD es i 0)) l ≡ true → Within (place-in (getD es i 0)) ≡ place-at es l
-  place-here t = sym (e ∙ place-next ∙ rw t)
-
-  pub place-later : eqb (number-in (getD es i 0)) l ≡ false → place-at es l ≡ place-at (drop (i + 1) es) l
-  place-later t = e ∙ place-next ∙ rw t
-
-pub place-end : (es : List ℕ) (l i : ℕ) → place-at es l ≡ place-at (drop i es) l → length es ≤ i → Nowhere ≡ place-at es l
-place-end es l i e h = sym (e ∙ rw (drop-of-length-le es h))
-
 -- the sets that the tables of a model give are the model's
 module _ {m : Model} {kind : ℕ} {offered passing : List ℕ} (t : Tables m kind offered passing) (n : ℕ) where
   pub held-table : held-in offered n ≡ holder-set m (item kind n)
   held-table = ap (λ (es : List ℕ). held-in es n) (t .offered-is) ∙ held-offers m (t .legal) kind n
 
-  pub led-table : led-by (leads-also (leads-in passing everything-number) passing n) ≡ predecessor-sets m (item kind n)
-  led-table = ap (λ (es : List ℕ). led-by (leads-also (leads-in es everything-number) es n)) (t .passing-is) ∙ led-passages m (t .legal) kind n
+  pub preceding-table : predecessors-by (step-or (step-in passing everything-number) passing n) ≡ predecessor-sets m (item kind n)
+  preceding-table = ap (λ (es : List ℕ). predecessors-by (step-or (step-in es everything-number) es n)) (t .passing-is) ∙ stepped-passages m (t .legal) kind n
 
 pub held-small : (es : List ℕ) (n : ℕ) → held-in es n < 2 ^ regions
 held-small es n = set-below-lt regions (λ r. exists (λ e. eqb (place-in e) r && eqb (number-in e) n) es)
 
-pub led-sets : (leads : ℕ → ℕ → Bool) → RegionSets (led-by leads)
-unfolding led-by
-led-sets leads = counted-sets (λ s r. leads r s)
+pub preceding-sets : (step : ℕ → ℕ → Bool) → RegionSets (predecessors-by step)
+unfolding predecessors-by
+preceding-sets step = counted-sets (λ s r. step r s)
 
--- no region leads anywhere
-pub led-none : replicate regions 0 ≡ led-by (λ r s. false)
-unfolding led-by
-led-none = rw set-none
-
--- the sets of predecessors, of those that are given and as one entry more comes in
-pub led-start : (leads : ℕ → ℕ → Bool) (n : ℕ) → led-by leads ≡ led-by (leads-also leads [] n)
-led-start leads n = ap led-by (λ j r s. sym (or-false (leads r s)) j)
-
-module _ (leads : ℕ → ℕ → Bool) (es : List ℕ) (n i : ℕ) (h : i < length es) where
-  leads-more : (b : Bool) → eqb (number-in (getD es i 0)) n ≡ b → (r s : ℕ)
-      → leads-also leads (take (i + 1) es) n r s
-      ≡ (leads-also leads (take i es) n r s || ((eqb (source-in (getD es i 0)) r && eqb (target-in (getD es i 0)) s) && b))
-  leads-more b q r s =
-      ap (λ (t : Bool). leads r s || t) (exists-more (λ e. (eqb (source-in e) r && eqb (target-in e) s) && eqb (number-in e) n) es i 0 h)
-      ∙ rw q (sym (or-assoc (leads r s) (leads-in (take i es) n r s) ((eqb (source-in (getD es i 0)) r && eqb (target-in (getD es i 0)) s) && b)))
-
-  -- an entry of the number adds its source to those that lead to its target
-  pub led-entry : {sets : List ℕ} {x : ℕ} → eqb (number-in (getD es i 0)) n ≡ true → sets ≡ led-by (leads-also leads (take i es) n)
-      → x ≡ singleton (source-in (getD es i 0)) → (let s = target-in (getD es i 0) in
-      s < regions → set sets s (bitOr (getD sets s 0) x) ≡ led-by (leads-also leads (take (i + 1) es) n))
-  unfolding led-by
-  led-entry q p t l =
-      let e = getD es i 0 in
-      sets-more (leads-also leads (take i es) n) (leads-also leads (take (i + 1) es) n) (source-in e) p t l
-      (λ r.
-      leads-more true q r (target-in e)
-      ∙ ap (λ (b : Bool). leads-also leads (take i es) n r (target-in e) || b)
-      (rw (eq-eqb (target-in e) (target-in e) refl) (and-true (eqb (source-in e) r && true) ∙ and-true (eqb (source-in e) r))))
-      (λ r s k.
-      leads-more true q r s
-      ∙ ap (λ (b : Bool). leads-also leads (take i es) n r s || b) (rw (ne-eqb (target-in e) s (λ j. k (sym j)), and-false (eqb (source-in e) r)))
-      ∙ or-false (leads-also leads (take i es) n r s))
-
-  -- an entry of another number adds nothing
-  pub led-other : eqb (number-in (getD es i 0)) n ≡ false → led-by (leads-also leads (take i es) n) ≡ led-by (leads-also leads (take (i + 1) es) n)
-  led-other q = ap led-by (λ j r s. sym (nothing r s) j)
-    where
-      nothing : (r s : ℕ) → leads-also leads (take (i + 1) es) n r s ≡ leads-also leads (take i es) n r s
-      nothing r s =
-          leads-more false q r s
-          ∙ ap (λ (b : Bool). leads-also leads (take i es) n r s || b) (and-false (eqb (source-in (getD es i 0)) r && eqb (target-in (getD es i 0)) s))
-          ∙ or-false (leads-also leads (take i es) n r s)
+-- no step goes anywhere
+pub preceding-none : replicate regions 0 ≡ predecessors-by (λ r s. false)
+unfolding predecessors-by
+preceding-none = rw set-none

@@ -231,7 +231,7 @@ pub fn holders(table: &[u64], links: &[u16], number: u64) -> u64
     set
 }
 
-// For each region, beside those given, the regions from which the entries that have a number lead to it.
+// For each region, beside those given, the regions from which the entries that have a number go to it.
 pub fn predecessors(
     table: &[u64],
     links: &[u16],
@@ -239,7 +239,7 @@ pub fn predecessors(
     given: [u64; REGIONS],
 ) -> [u64; REGIONS]
     requires { ⌜ Chains.Chained (now table) (now links) ⌝ }
-    ensures { λ r. ⌜ ((leads : ℕ → ℕ → Bool) → given ≡ Tables.led-by leads → r ≡ Tables.led-by (Tables.leads-also leads (now (table .entry)) number)) ⌝ }
+    ensures { λ r. ⌜ ((step : ℕ → ℕ → Bool) → given ≡ Tables.predecessors-by step → r ≡ Tables.predecessors-by (Tables.step-or step (now (table .entry)) number)) ⌝ }
 {
     let mut sets = given;
     let mut i = first_of(links, number);

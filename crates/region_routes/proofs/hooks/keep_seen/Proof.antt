@@ -8,7 +8,7 @@ use Rattle.region_graph.specs.Model.{Model}
 use Rattle.region_routes.specs.Chosen.{sees}
 use Rattle.region_routes.specs.Hooks.{item}
 use Rattle.region_routes.specs.Tables.{Tables}
-use Rattle.region_routes.proofs.TableLaws.{led-none}
+use Rattle.region_routes.proofs.TableLaws.{preceding-none}
 use Rattle.region_routes.proofs.Keeping.{Keeping, keeping-start, keeping-took, keeping-left, keeping-end, has-by}
 use Rattle.region_routes.proofs.hooks.keep_seen.Statement.{statement}
 use Rattle.region_routes.proofs.hooks.keep_seen.Tie as tie
@@ -49,7 +49,7 @@ loop-holds c =
 regions-seeing-by-requires : tie.Need-regions-seeing-by-requires Inv-loop μ-loop
 regions-seeing-by-requires c κs =
     let a = c .before .before .before .before .before in
-    (a .before .before .before .chained .ensures, (a .before .before .chained2 .ensures, a .predecessors .ensures (λ r s. false) led-none))
+    (a .before .before .before .chained .ensures, (a .before .before .chained2 .ensures, a .predecessors .ensures (λ r s. false) preceding-none))
 
 loop-again : tie.Need-loop-again Inv-loop μ-loop
 loop-again c =

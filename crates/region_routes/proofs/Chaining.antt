@@ -100,7 +100,7 @@ abbrev pub Skips : {S : Type 0} → (S → ℕ → Type 0) → List ℕ → ℕ 
 Skips {S} P es n = (x : S) (i : ℕ) → i < length es → eqb (number-in (getD es i 0)) n ≡ false → P x i → P x (i + 1)
 
 -- a walk along the chain of a number is at place i, where an entry of the chain is, if any; P is so there of the state x
-pub record Walk {S : Type 0} (P : S → ℕ → Type 0) (es links : List ℕ) (n : ℕ) (x : S) (i : ℕ) : Type 0 where
+pub record Along {S : Type 0} (P : S → ℕ → Type 0) (es links : List ℕ) (n : ℕ) (x : S) (i : ℕ) : Type 0 where
   pub chained : Chained es links
   pub skips : Skips P es n
   pub upto : i ≤ length es
@@ -109,47 +109,47 @@ pub record Walk {S : Type 0} (P : S → ℕ → Type 0) (es links : List ℕ) (n
 
 module _ {S : Type 0} {P : S → ℕ → Type 0} {es links : List ℕ} {n : ℕ} (c : Chained es links) (skips : Skips P es n) (x : S) where
   -- from place i on, to the next place of the chain
-  walk-from : (k i : ℕ) → i + k ≡ length es → P x i → Walk P es links n x (next-in es (chain n) i)
-  walk-from zero i e p =
+  along-from : (k i : ℕ) → i + k ≡ length es → P x i → Along P es links n x (next-in es (chain n) i)
+  along-from zero i e p =
       let s : i ≡ length es = omega arith in
-      subst (Walk P es links n x) (sym (rw s (next-end es (chain n))))
+      subst (Along P es links n x) (sym (rw s (next-end es (chain n))))
       (record { chained = c; skips = skips; upto = omega arith; own = λ l. absurd (omega arith); done = subst (P x) s p })
-  walk-from (suc k) i e p = go (eqb (chain (number-in (getD es i 0))) (chain n)) refl (walk-from k (i + 1) (omega arith))
+  along-from (suc k) i e p = go (eqb (chain (number-in (getD es i 0))) (chain n)) refl (along-from k (i + 1) (omega arith))
     where
       h : i < length es
       h = omega arith
 
-      go : (t : Bool) → eqb (chain (number-in (getD es i 0))) (chain n) ≡ t → (P x (i + 1) → Walk P es links n x (next-in es (chain n) (i + 1)))
-          → Walk P es links n x (next-in es (chain n) i)
+      go : (t : Bool) → eqb (chain (number-in (getD es i 0))) (chain n) ≡ t → (P x (i + 1) → Along P es links n x (next-in es (chain n) (i + 1)))
+          → Along P es links n x (next-in es (chain n) i)
       go true q r =
           let own = eqb-true (chain (number-in (getD es i 0))) (chain n) q in
-          subst (Walk P es links n x) (sym (next-here es (chain n) i h own))
+          subst (Along P es links n x) (sym (next-here es (chain n) i h own))
           (record { chained = c; skips = skips; upto = omega arith; own = λ l. own; done = p })
       go false q r =
           let f = eqb-false (chain (number-in (getD es i 0))) (chain n) q in
-          subst (Walk P es links n x) (sym (next-past es (chain n) i h f)) (r (skips x i h (ne-eqb (number-in (getD es i 0)) n (λ e. f (ap chain e))) p))
+          subst (Along P es links n x) (sym (next-past es (chain n) i h f)) (r (skips x i h (ne-eqb (number-in (getD es i 0)) n (λ e. f (ap chain e))) p))
 
-  pub walk-start : {j : ℕ} → P x 0 → j ≡ getD links (chain n) 0 → Walk P es links n x j
-  walk-start p e = rw (e ∙ c .first (chain n) (omega arith)) (walk-from (length es) 0 (omega arith) p)
+  pub along-start : {j : ℕ} → P x 0 → j ≡ getD links (chain n) 0 → Along P es links n x j
+  along-start p e = rw (e ∙ c .first (chain n) (omega arith)) (along-from (length es) 0 (omega arith) p)
 
 -- the entry at the walk's place has a link, to a place further on
-module _ {S : Type 0} {P : S → ℕ → Type 0} {es links : List ℕ} {n i : ℕ} {x : S} (w : Walk P es links n x i) (h : i < length es) where
-  pub walk-inside : chains + i < length links
-  walk-inside = omega (arith, w .chained .few, w .chained .long)
+module _ {S : Type 0} {P : S → ℕ → Type 0} {es links : List ℕ} {n i : ℕ} {x : S} (w : Along P es links n x i) (h : i < length es) where
+  pub along-inside : chains + i < length links
+  along-inside = omega (arith, w .chained .few, w .chained .long)
 
   module _ {j : ℕ} where
-    pub walk-less : j ≡ getD links (chains + i) 0 → length es - j < length es - i
+    pub along-less : j ≡ getD links (chains + i) 0 → length es - j < length es - i
     unfolding next-in
-    walk-less e = omega (arith, e, w .chained .next i h)
+    along-less e = omega (arith, e, w .chained .next i h)
 
-    pub walk-next : {y : S} → P y (i + 1) → j ≡ getD links (chains + i) 0 → Walk P es links n y j
-    walk-next {y} p e =
+    pub along-next : {y : S} → P y (i + 1) → j ≡ getD links (chains + i) 0 → Along P es links n y j
+    along-next {y} p e =
         rw (e ∙ w .chained .next i h ∙ ap (λ (k : ℕ). next-in es k (i + 1)) (w .own h))
-        (walk-from (w .chained) (w .skips) y (length es - (i + 1)) (i + 1) (omega arith) p)
+        (along-from (w .chained) (w .skips) y (length es - (i + 1)) (i + 1) (omega arith) p)
 
     -- past an entry of another number
-    pub walk-past : (number-in (getD es i 0) ≡ n → ⊥) → j ≡ getD links (chains + i) 0 → Walk P es links n x j
-    walk-past f e = walk-next (w .skips x i h (ne-eqb (number-in (getD es i 0)) n f) (w .done)) e
+    pub along-past : (number-in (getD es i 0) ≡ n → ⊥) → j ≡ getD links (chains + i) 0 → Along P es links n x j
+    along-past f e = along-next (w .skips x i h (ne-eqb (number-in (getD es i 0)) n f) (w .done)) e
 
 pub starts-inside : {es links : List ℕ} → Chained es links → chains ≤ length links
 starts-inside c = omega (arith, c .long)

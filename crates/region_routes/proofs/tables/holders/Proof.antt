@@ -2,13 +2,13 @@ use Prim.Native.Nat.{_-_}
 use native.Mathlib.Omega.{arith}
 use borrow.Author.Needs.{needs}
 use lib.ListN.{length}
-use Rattle.region_routes.proofs.Chaining.{Walk, walk-start, walk-inside, walk-less, walk-next, walk-past, starts-inside}
+use Rattle.region_routes.proofs.Chaining.{Along, along-start, along-inside, along-less, along-next, along-past, starts-inside}
 use Rattle.region_routes.proofs.Lookups.{Named, named-start, named-skips, named-more, named-end}
 use Rattle.region_routes.proofs.tables.holders.Statement.{statement}
 use Rattle.region_routes.proofs.tables.holders.Tie as tie
 
 abbrev Inv-loop : tie.InvT-loop
-Inv-loop table links number set₀ i₀ set i = Walk (Named table number) table links number set i
+Inv-loop table links number set₀ i₀ set i = Along (Named table number) table links number set i
 
 abbrev μ-loop : tie.MeasureT-loop
 μ-loop table links number set₀ i₀ set i = length table - i
@@ -17,7 +17,7 @@ loop-again : tie.Need-loop-again Inv-loop μ-loop
 loop-again c =
     let t = c .before .before .before .before in
     let w = t .before .loop .inv in
-    walk-next w (t .loop-test .taken) (named-more (w .done) (t .loop-test .taken) (c .before .if1 .taken) (c .singleton .ensures)) (c .before .before .next-of .ensures)
+    along-next w (t .loop-test .taken) (named-more (w .done) (t .loop-test .taken) (c .before .if1 .taken) (c .singleton .ensures)) (c .before .before .next-of .ensures)
 
 pub holders-spec : {M : Type 1} → statement M
 holders-spec =
@@ -26,14 +26,14 @@ holders-spec =
     Inv-loop
     μ-loop
     (λ c κs. starts-inside (c .before .before .pre))
-    (λ c. walk-start (c .before .before .before .pre) named-skips 0 named-start (c .first-of .ensures))
+    (λ c. along-start (c .before .before .before .pre) named-skips 0 named-start (c .first-of .ensures))
     (λ c. search needs)
     (λ c. search needs)
-    (λ c κs. walk-inside (c .before .before .loop .inv) (c .before .loop-test .taken))
+    (λ c κs. along-inside (c .before .before .loop .inv) (c .before .loop-test .taken))
     (λ c. omega arith)
     (λ c κs. search needs)
-    (λ c. walk-less (c .before .before .before .before .before .loop .inv) (c .before .before .before .before .loop-test .taken) (c .before .before .next-of .ensures))
+    (λ c. along-less (c .before .before .before .before .before .loop .inv) (c .before .before .before .before .loop-test .taken) (c .before .before .next-of .ensures))
     loop-again
-    (λ c. walk-less (c .before .before .before .before .loop .inv) (c .before .before .before .loop-test .taken) (c .before .next-of .ensures))
-    (λ c. walk-past (c .before .before .before .before .loop .inv) (c .before .before .before .loop-test .taken) (c .if1 .left) (c .before .next-of .ensures))
+    (λ c. along-less (c .before .before .before .before .loop .inv) (c .before .before .before .loop-test .taken) (c .before .next-of .ensures))
+    (λ c. along-past (c .before .before .before .before .loop .inv) (c .before .before .before .loop-test .taken) (c .if1 .left) (c .before .next-of .ensures))
     (λ c. named-end (c .before .loop .inv .done) (omega arith)))

@@ -3,13 +3,13 @@ use Prim.Native.Nat.{_-_}
 use native.Mathlib.Omega.{arith}
 use borrow.Author.Needs.{needs}
 use lib.ListN.{length}
-use Rattle.region_routes.proofs.Chaining.{Walk, walk-start, walk-inside, walk-less, walk-past, starts-inside}
+use Rattle.region_routes.proofs.Chaining.{Along, along-start, along-inside, along-less, along-past, starts-inside}
 use Rattle.region_routes.proofs.Lookups.{Later, later-skips, later-here, later-end}
 use Rattle.region_routes.proofs.tables.place_of.Statement.{statement}
 use Rattle.region_routes.proofs.tables.place_of.Tie as tie
 
 abbrev Inv-loop : tie.InvT-loop
-Inv-loop table links number i₀ i = Walk (Later table number) table links number tt i
+Inv-loop table links number i₀ i = Along (Later table number) table links number tt i
 
 abbrev μ-loop : tie.MeasureT-loop
 μ-loop table links number i₀ i = length table - i
@@ -21,12 +21,12 @@ place-of-spec =
     Inv-loop
     μ-loop
     (λ c κs. starts-inside (c .before .before .pre))
-    (λ c. walk-start (c .before .before .before .pre) later-skips tt (record { later = refl }) (c .first-of .ensures))
+    (λ c. along-start (c .before .before .before .pre) later-skips tt (record { later = refl }) (c .first-of .ensures))
     (λ c. search needs)
     (λ c. search needs)
-    (λ c κs. walk-inside (c .before .before .loop .inv) (c .before .loop-test .taken))
+    (λ c κs. along-inside (c .before .before .loop .inv) (c .before .loop-test .taken))
     (λ c. omega arith)
     (λ c. later-here (c .before .before .before .before .loop .inv .done) (c .before .before .before .loop-test .taken) (c .if1 .taken))
-    (λ c. walk-less (c .before .before .before .before .loop .inv) (c .before .before .before .loop-test .taken) (c .before .next-of .ensures))
-    (λ c. walk-past (c .before .before .before .before .loop .inv) (c .before .before .before .loop-test .taken) (c .if1 .left) (c .before .next-of .ensures))
+    (λ c. along-less (c .before .before .before .before .loop .inv) (c .before .before .before .loop-test .taken) (c .before .next-of .ensures))
+    (λ c. along-past (c .before .before .before .before .loop .inv) (c .before .before .before .loop-test .taken) (c .if1 .left) (c .before .next-of .ensures))
     (λ c. later-end (c .before .loop .inv .done) (omega arith)))

@@ -2,13 +2,13 @@ use Prim.Native.Nat.{_-_}
 use native.Mathlib.Omega.{arith}
 use borrow.Author.Needs.{needs}
 use lib.ListN.{length}
-use Rattle.region_routes.proofs.Chaining.{Walk, walk-start, walk-inside, walk-less, walk-next, walk-past, starts-inside}
+use Rattle.region_routes.proofs.Chaining.{Along, along-start, along-inside, along-less, along-next, along-past, starts-inside}
 use Rattle.region_routes.proofs.Lookups.{Preceding, preceding-start, preceding-skips, preceding-more, preceding-end}
 use Rattle.region_routes.proofs.tables.predecessors.Statement.{statement}
 use Rattle.region_routes.proofs.tables.predecessors.Tie as tie
 
 abbrev Inv-loop : tie.InvT-loop
-Inv-loop table links number sets₀ i₀ sets i = Walk (Preceding table number sets₀) table links number sets i
+Inv-loop table links number sets₀ i₀ sets i = Along (Preceding table number sets₀) table links number sets i
 
 abbrev μ-loop : tie.MeasureT-loop
 μ-loop table links number sets₀ i₀ sets i = length table - i
@@ -20,7 +20,7 @@ loop-again : tie.Need-loop-again Inv-loop μ-loop
 loop-again c =
     let t = c .before .before .before .before in
     let w = t .before .loop .inv in
-    walk-next w (t .loop-test .taken) (preceding-more (w .done) (t .loop-test .taken) (c .before .if1 .taken) (c .singleton .ensures)) (c .before .before .next-of .ensures)
+    along-next w (t .loop-test .taken) (preceding-more (w .done) (t .loop-test .taken) (c .before .if1 .taken) (c .singleton .ensures)) (c .before .before .next-of .ensures)
 
 pub predecessors-spec : {M : Type 1} → statement M
 predecessors-spec =
@@ -29,18 +29,18 @@ predecessors-spec =
     Inv-loop
     μ-loop
     (λ c κs. starts-inside (c .before .before .pre))
-    (λ c. walk-start (c .before .before .before .pre) preceding-skips (c .before .before .before .args .given) preceding-start (c .first-of .ensures))
+    (λ c. along-start (c .before .before .before .pre) preceding-skips (c .before .before .before .args .given) preceding-start (c .first-of .ensures))
     (λ c. search needs)
     (λ c. search needs)
-    (λ c κs. walk-inside (c .before .before .loop .inv) (c .before .loop-test .taken))
+    (λ c κs. along-inside (c .before .before .loop .inv) (c .before .loop-test .taken))
     (λ c. omega (arith, array-read-sets c))
     array-read-sets
     (λ c. omega arith)
     (λ c κs. search needs)
     (λ c. omega (arith, array-read-sets (c .before)))
     (λ c. array-read-sets (c .before))
-    (λ c. walk-less (c .before .before .before .before .before .loop .inv) (c .before .before .before .before .loop-test .taken) (c .before .before .next-of .ensures))
+    (λ c. along-less (c .before .before .before .before .before .loop .inv) (c .before .before .before .before .loop-test .taken) (c .before .before .next-of .ensures))
     loop-again
-    (λ c. walk-less (c .before .before .before .before .loop .inv) (c .before .before .before .loop-test .taken) (c .before .next-of .ensures))
-    (λ c. walk-past (c .before .before .before .before .loop .inv) (c .before .before .before .loop-test .taken) (c .if1 .left) (c .before .next-of .ensures))
+    (λ c. along-less (c .before .before .before .before .loop .inv) (c .before .before .before .loop-test .taken) (c .before .next-of .ensures))
+    (λ c. along-past (c .before .before .before .before .loop .inv) (c .before .before .before .loop-test .taken) (c .if1 .left) (c .before .next-of .ensures))
     (λ c. preceding-end (c .before .loop .inv .done) (omega arith)))

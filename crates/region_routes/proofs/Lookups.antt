@@ -10,7 +10,6 @@ use lib.Dec.{eqb}
 use lib.ListN.{length, getD, take, drop, set, drop-of-length-le}
 use lib.Seq.{drop-cons, take-all}
 use borrow.Author.Tests.{eq-eqb, ne-eqb}
-use Rattle.region_graph.specs.Size.{regions}
 use Rattle.region_graph.specs.Lists.{pick}
 use Rattle.region_graph.specs.Sets.{singleton}
 use Rattle.region_graph.specs.declared.Place.the-variants.{Within, Nowhere}

@@ -1,32 +1,29 @@
 -- Tables: how a loop fills one, what an entry says, and what a table says of the model whose table it is.
 use mathlib.Core.Path.{_≡_, refl, sym, ap, ap₂, _∙_}
-use mathlib.Core.Bool.{Bool, true, false, _&&_, _||_, and-true, and-false, or-true, or-false, or-assoc}
+use mathlib.Core.Bool.{Bool, true, false, _&&_, _||_, and-false, or-true}
 use mathlib.Core.List.{List, [], _∷_, _++_, map, append-assoc, append-nil}
 use Prim.Native.Nat.{ℕ, zero, suc, _+_, _*_, _-_, _≤_, _<_, _^_}
 use native.Mathlib.Numerals.{add-one}
 use native.Mathlib.Nat.{mul-le-mul-right}
 use native.Mathlib.Omega.{arith}
 use lib.Dec.{eqb}
-use lib.ListN.{length, getD, take, drop, set, replicate, length-append, length-map, drop-of-length-le}
-use lib.Seq.{take-suc, take-suc-set, length-take-le, drop-cons, take-at, take-all}
-use lib.Bits.{bitOr}
-use borrow.Author.Tests.{eq-eqb, ne-eqb}
+use lib.ListN.{length, getD, take, set, replicate, length-append, length-map}
+use lib.Seq.{take-suc, take-suc-set, length-take-le, take-at, take-all}
+use borrow.Author.Tests.{ne-eqb}
 use Rattle.region_graph.specs.Size.{regions, most-bundles, most-connections, most-provided, most-listed, everything-sign}
-use Rattle.region_graph.specs.Lists.{pick, exists, All, member, concat-map}
-use Rattle.region_graph.specs.Sets.{singleton, set-of}
+use Rattle.region_graph.specs.Lists.{exists, All, member, concat-map}
+use Rattle.region_graph.specs.Sets.{set-of}
 use Rattle.region_graph.specs.Model.{Model, Bundle, Filter, Part, Connection, Word, NumberedPart, Legal, LegalBundle, LegalFilter, LegalConnection}
 use Rattle.region_graph.specs.Items.{provided, part-of, part-passes, provides, passes, crosses}
 use Rattle.region_graph.specs.Record.{places, store-bundle, store-connection, bundle-in, connection-in, no-bundle, no-connection}
 use Rattle.region_graph.specs.Places.{ShortBundle, ShortConnection, PartStored, BundleStored, ConnectionStored}
 use Rattle.region_graph.specs.Promise.{place-of, holder-set, predecessor-sets}
 use Rattle.region_graph.specs.declared.Place.{Place}
-use Rattle.region_graph.specs.declared.Place.the-variants.{Within, Nowhere}
 use Rattle.region_graph.specs.declared.numbers.Numbers.{Numbers}
 use Rattle.region_graph.specs.declared.bundles.StoredBundle.{StoredBundle}
 use Rattle.region_graph.specs.declared.connections.StoredConnection.{StoredConnection}
 use Rattle.region_graph.proofs.Lists.{exists-append, all-at, all-map, member-all, map-append, eqb-sym}
 use Rattle.region_graph.proofs.Bits.{set-below-lt, set-none}
-use Rattle.region_graph.proofs.Views.{exists-more, sets-more}
 use Rattle.region_graph.proofs.Arrays.{Filled, filled-length, filled-at, filled-inside, filled-means}
 use Rattle.region_graph.proofs.Storing.{map-back, stored-as, bundle-back, connection-back, bundles-each, connections-each}
 use Rattle.region_graph.proofs.Storing.{short-bundle, short-connection, short-connections}

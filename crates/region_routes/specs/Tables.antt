@@ -2,7 +2,7 @@
 use mathlib.Core.Path.{_≡_}
 use mathlib.Core.Bool.{Bool, true, _&&_, _||_}
 use mathlib.Core.List.{List, [], _∷_, _++_, map}
-use Prim.Native.Nat.{ℕ, _+_, _*_, _/_, _%_, _≤_}
+use Prim.Native.Nat.{ℕ, _+_, _*_, _/_, _%_, _^_, _≤_}
 use lib.Dec.{eqb}
 use lib.ListN.{length, take}
 use Rattle.region_graph.specs.Size.{regions, most-connections, most-listed}
@@ -16,10 +16,10 @@ use Rattle.region_routes.specs.Hooks.{is-installed}
 
 -- an entry: a number of an item with the place that it goes with, below `width`; the number `everything-number`, which no item has, stands for all
 abbrev pub width : ℕ
-width = 65536
+width = 2 ^ 16
 
 abbrev pub everything-number : ℕ
-everything-number = 4294967296
+everything-number = 2 ^ 32
 
 abbrev pub packed : ℕ → ℕ → ℕ
 packed n place = n * width + place

@@ -1,7 +1,7 @@
 -- No two answers of a query are one number for C: what C reads back in the number is the answer.
 use mathlib.Core.Path.{_≡_, refl, sym, ap, _∙_}
 use native.Mathlib.Omega.{arith}
-use Prim.Native.Nat.{ℕ, zero, suc, _-_, _<_, _≤_}
+use Prim.Native.Nat.{ℕ, zero, suc, _-_, _^_, _<_, _≤_}
 use lib.Dec.{eqb, ltb}
 use borrow.Author.Tests.{lt-ltb, le-ltb, ne-eqb}
 use Rattle.region_graph.specs.Lists.{pick}
@@ -17,7 +17,7 @@ use Rattle.region_host.specs.CNumbers.{negative, routed-value, kept-valu
 
 -- what C reads in such a number: a count where it is not below zero, else a number of the papers
 abbrev read-back : {A : Type 0} → (ℕ → A) → (ℕ → A) → ℕ → A
-read-back count numbered v = pick (ltb v 9223372036854775808) (count v) (numbered (18446744073709551616 - v))
+read-back count numbered v = pick (ltb v (2 ^ 63)) (count v) (numbered (2 ^ 64 - v))
 
 abbrev unseen : ℕ → Routed
 unseen n = pick (eqb n hidden-number) Routed.Hidden (Routed.Refused n)
@@ -33,7 +33,7 @@ written-of = read-back Written.Bytes Written.Refused
 
 -- a list in memory has fewer than 2^63 places; the questions have numbers below that of "hidden"
 abbrev pub CountFits : ℕ → Type 0
-CountFits n = n < 9223372036854775808
+CountFits n = n < 2 ^ 63
 
 abbrev pub PaperNumber : ℕ → Type 0
 PaperNumber n = (0 < n) × (n ≤ 100)
@@ -52,17 +52,17 @@ WrittenGiven (Written.Bytes n) = CountFits n
 WrittenGiven (Written.Refused n) = PaperNumber n
 
 -- a number of the papers stands above every count, and is had back
-negative-is : (n : ℕ) → 0 < n → negative n ≡ 18446744073709551616 - n
+negative-is : (n : ℕ) → 0 < n → negative n ≡ 2 ^ 64 - n
 negative-is zero h = omega (arith, h)
 negative-is (suc n) h = refl
 
 module _ {A : Type 0} (count numbered : ℕ → A) where
   count-back : (n : ℕ) → CountFits n → read-back count numbered n ≡ count n
-  count-back n h = rw (lt-ltb n 9223372036854775808 h) refl
+  count-back n h = rw (lt-ltb n (2 ^ 63) h) refl
 
   number-back : (n : ℕ) → 0 < n → n ≤ 101 → read-back count numbered (negative n) ≡ numbered n
   number-back n h k =
-      rw (le-ltb (negative n) 9223372036854775808 (omega (arith, negative-is n h, k))) (ap numbered (omega (arith, negative-is n h, k)))
+      rw (le-ltb (negative n) (2 ^ 63) (omega (arith, negative-is n h, k))) (ap numbered (omega (arith, negative-is n h, k)))
 
 pub routed-back : (a : Routed) → RoutedGiven a → routed-of (routed-value a) ≡ a
 routed-back Routed.Hidden g = refl

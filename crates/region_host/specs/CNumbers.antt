@@ -1,6 +1,6 @@
--- What a query answers, as one number for C. C reads the 64 digits as a signed number: a count as it is, and a number of the papers below zero.
+-- What a query answers, as one number for C. C reads the 64 bits as a signed number: a count as it is, and a number of the papers below zero.
 use mathlib.Core.List.{List}
-use Prim.Native.Nat.{ℕ, zero, suc, _-_}
+use Prim.Native.Nat.{ℕ, zero, suc, _-_, _^_}
 use Rattle.region_routes.specs.Hooks.{Outcome}
 use Rattle.region_routes.specs.declared.Routed.{Routed}
 use Rattle.region_routes.specs.declared.Routed.the-variants as Routed
@@ -13,7 +13,7 @@ use Rattle.region_archive.specs.declared.Written.the-variants as Written
 -- a number below zero, in two's complement
 abbrev pub negative : ℕ → ℕ
 negative zero = 0
-negative (suc n) = 18446744073709551616 - suc n
+negative (suc n) = 2 ^ 64 - suc n
 
 abbrev pub routed-value : Routed → ℕ
 routed-value Routed.Hidden = negative hidden-number

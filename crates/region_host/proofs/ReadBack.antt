@@ -1,7 +1,7 @@
 -- No two answers of a query are one number for C: what C reads back in the number is the answer.
 use mathlib.Core.Path.{_≡_, refl, sym, ap, _∙_}
 use native.Mathlib.Omega.{arith}
-use Prim.Native.Nat.{ℕ, zero, suc, _-_, _<_, _≤_}
+use Prim.Native.Nat.{ℕ, zero, suc, _-_, _^_, _<_, _≤_}
 use borrow.Author.Tests.{lt-ltb, le-ltb, ne-eqb}
 use Rattle.region_graph.proofs.Lists.{pick-no}
 use Rattle.region_routes.specs.declared.Routed.{Routed}
@@ -31,17 +31,17 @@ WrittenGiven (Written.Bytes n) = CountFits n
 WrittenGiven (Written.Refused n) = PaperNumber n
 
 -- a number of the papers stands above every count, and is had back
-negative-is : (n : ℕ) → 0 < n → negative n ≡ 18446744073709551616 - n
+negative-is : (n : ℕ) → 0 < n → negative n ≡ 2 ^ 64 - n
 negative-is zero h = omega (arith, h)
 negative-is (suc n) h = refl
 
 module _ {A : Type 0} (count numbered : ℕ → A) where
   count-back : (n : ℕ) → CountFits n → read-back count numbered n ≡ count n
-  count-back n h = rw (lt-ltb n 9223372036854775808 h) refl
+  count-back n h = rw (lt-ltb n (2 ^ 63) h) refl
 
   number-back : (n : ℕ) → 0 < n → n ≤ 101 → read-back count numbered (negative n) ≡ numbered n
   number-back n h k =
-      rw (le-ltb (negative n) 9223372036854775808 (omega (arith, negative-is n h, k))) (ap numbered (omega (arith, negative-is n h, k)))
+      rw (le-ltb (negative n) (2 ^ 63) (omega (arith, negative-is n h, k))) (ap numbered (omega (arith, negative-is n h, k)))
 
 pub routed-back : (a : Routed) → RoutedGiven a → routed-of (routed-value a) ≡ a
 routed-back Routed.Hidden g = refl

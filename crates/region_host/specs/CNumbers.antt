@@ -1,6 +1,6 @@
--- What a query answers, as one number for C. C reads the 64 digits as a signed number: a count as it is, and a number of the papers below zero.
+-- What a query answers, as one number for C. C reads the 64 bits as a signed number: a count as it is, and a number of the papers below zero.
 use mathlib.Core.List.{List}
-use Prim.Native.Nat.{ℕ, zero, suc, _-_, _<_}
+use Prim.Native.Nat.{ℕ, zero, suc, _-_, _^_, _<_}
 use lib.Dec.{eqb, ltb}
 use Rattle.region_graph.specs.Lists.{pick}
 use Rattle.region_routes.specs.Hooks.{Outcome}
@@ -15,7 +15,7 @@ use Rattle.region_archive.specs.declared.Written.the-variants as Written
 -- a number below zero, in two's complement
 abbrev pub negative : ℕ → ℕ
 negative zero = 0
-negative (suc n) = 18446744073709551616 - suc n
+negative (suc n) = 2 ^ 64 - suc n
 
 abbrev pub routed-value : Routed → ℕ
 routed-value Routed.Hidden = negative hidden-number
@@ -44,7 +44,7 @@ for-c value o = answered (value (o .answer)) (o .exit)
 
 -- what C reads in such a number: a count where it is not below zero, else a number of the papers
 abbrev pub read-back : {A : Type 0} → (ℕ → A) → (ℕ → A) → ℕ → A
-read-back count numbered v = pick (ltb v 9223372036854775808) (count v) (numbered (18446744073709551616 - v))
+read-back count numbered v = pick (ltb v (2 ^ 63)) (count v) (numbered (2 ^ 64 - v))
 
 abbrev pub unseen : ℕ → Routed
 unseen n = pick (eqb n hidden-number) Routed.Hidden (Routed.Refused n)
@@ -60,4 +60,4 @@ written-of = read-back Written.Bytes Written.Refused
 
 -- a count that is not read as a number below zero; a list in memory has no more places
 abbrev pub CountFits : ℕ → Type 0
-CountFits n = n < 9223372036854775808
+CountFits n = n < 2 ^ 63

@@ -95,52 +95,61 @@ module _ (es links : List ℕ) (i c : ℕ) (own : chain (number-in (getD es i 0)
 pub linking-end : {es links : List ℕ} → Linking es links 0 → Chained es links
 linking-end l = record { few = l .few; long = l .long; first = l .first; next = λ i h. l .next i (omega arith) h }
 
--- a walk along the chain of a number stands at place i, where an entry of the chain is, if any; P is so of the entries before it
-pub record Walk (P : ℕ → Type 0) (es : List ℕ) (n i : ℕ) : Type 0 where
+-- what is so at a place of the table, of a state, stays so past an entry of another number
+abbrev pub Skips : {S : Type 0} → (S → ℕ → Type 0) → List ℕ → ℕ → Type 0
+Skips {S} P es n = (x : S) (i : ℕ) → i < length es → eqb (number-in (getD es i 0)) n ≡ false → P x i → P x (i + 1)
+
+-- a walk along the chain of a number is at place i, where an entry of the chain is, if any; P is so there of the state x
+pub record Along {S : Type 0} (P : S → ℕ → Type 0) (es links : List ℕ) (n : ℕ) (x : S) (i : ℕ) : Type 0 where
+  pub chained : Chained es links
+  pub skips : Skips P es n
   pub upto : i ≤ length es
   pub own : i < length es → chain (number-in (getD es i 0)) ≡ chain n
-  pub done : P i
+  pub done : P x i
 
--- where an entry of another number changes nothing, P is carried to the next place of the chain
-module _ (P : ℕ → Type 0) (es : List ℕ) (n : ℕ) (skip : (i : ℕ) → i < length es → eqb (number-in (getD es i 0)) n ≡ false → P i → P (i + 1)) where
-  carried : (k i : ℕ) → i + k ≡ length es → P i → Walk P es n (next-in es (chain n) i)
-  carried zero i e p =
+module _ {S : Type 0} {P : S → ℕ → Type 0} {es links : List ℕ} {n : ℕ} (c : Chained es links) (skips : Skips P es n) (x : S) where
+  -- from place i on, to the next place of the chain
+  along-from : (k i : ℕ) → i + k ≡ length es → P x i → Along P es links n x (next-in es (chain n) i)
+  along-from zero i e p =
       let s : i ≡ length es = omega arith in
-      subst (Walk P es n) (sym (rw s (next-end es (chain n)))) (record { upto = omega arith; own = λ l. absurd (omega arith); done = subst P s p })
-  carried (suc k) i e p = go (eqb (chain (number-in (getD es i 0))) (chain n)) refl (carried k (i + 1) (omega arith))
+      subst (Along P es links n x) (sym (rw s (next-end es (chain n))))
+      (record { chained = c; skips = skips; upto = omega arith; own = λ l. absurd (omega arith); done = subst (P x) s p })
+  along-from (suc k) i e p = go (eqb (chain (number-in (getD es i 0))) (chain n)) refl (along-from k (i + 1) (omega arith))
     where
       h : i < length es
       h = omega arith
 
-      go : (t : Bool) → eqb (chain (number-in (getD es i 0))) (chain n) ≡ t → (P (i + 1) → Walk P es n (next-in es (chain n) (i + 1)))
-          → Walk P es n (next-in es (chain n) i)
+      go : (t : Bool) → eqb (chain (number-in (getD es i 0))) (chain n) ≡ t → (P x (i + 1) → Along P es links n x (next-in es (chain n) (i + 1)))
+          → Along P es links n x (next-in es (chain n) i)
       go true q r =
-          let c = eqb-true (chain (number-in (getD es i 0))) (chain n) q in
-          subst (Walk P es n) (sym (next-here es (chain n) i h c)) (record { upto = omega arith; own = λ l. c; done = p })
+          let own = eqb-true (chain (number-in (getD es i 0))) (chain n) q in
+          subst (Along P es links n x) (sym (next-here es (chain n) i h own))
+          (record { chained = c; skips = skips; upto = omega arith; own = λ l. own; done = p })
       go false q r =
           let f = eqb-false (chain (number-in (getD es i 0))) (chain n) q in
-          subst (Walk P es n) (sym (next-past es (chain n) i h f)) (r (skip i h (ne-eqb (number-in (getD es i 0)) n (λ e. f (ap chain e))) p))
+          subst (Along P es links n x) (sym (next-past es (chain n) i h f)) (r (skips x i h (ne-eqb (number-in (getD es i 0)) n (λ e. f (ap chain e))) p))
 
-  module _ {links : List ℕ} (c : Chained es links) {j : ℕ} where
-    pub walk-start : P 0 → j ≡ getD links (chain n) 0 → Walk P es n j
-    walk-start p e = rw (e ∙ c .first (chain n) (omega arith)) (carried (length es) 0 (omega arith) p)
+  pub along-start : {j : ℕ} → P x 0 → j ≡ getD links (chain n) 0 → Along P es links n x j
+  along-start p e = rw (e ∙ c .first (chain n) (omega arith)) (along-from (length es) 0 (omega arith) p)
 
-    pub walk-next : {Q : ℕ → Type 0} {i : ℕ} → Walk Q es n i → i < length es → P (i + 1) → j ≡ getD links (chains + i) 0 → Walk P es n j
-    walk-next {i = i} w h p e =
-        rw (e ∙ c .next i h ∙ ap (λ (k : ℕ). next-in es k (i + 1)) (w .own h)) (carried (length es - (i + 1)) (i + 1) (omega arith) p)
+-- the entry at the walk's place has a link, to a place further on
+module _ {S : Type 0} {P : S → ℕ → Type 0} {es links : List ℕ} {n i : ℕ} {x : S} (w : Along P es links n x i) (h : i < length es) where
+  pub along-inside : chains + i < length links
+  along-inside = omega (arith, w .chained .few, w .chained .long)
+
+  module _ {j : ℕ} where
+    pub along-less : j ≡ getD links (chains + i) 0 → length es - j < length es - i
+    unfolding next-in
+    along-less e = omega (arith, e, w .chained .next i h)
+
+    pub along-next : {y : S} → P y (i + 1) → j ≡ getD links (chains + i) 0 → Along P es links n y j
+    along-next {y} p e =
+        rw (e ∙ w .chained .next i h ∙ ap (λ (k : ℕ). next-in es k (i + 1)) (w .own h))
+        (along-from (w .chained) (w .skips) y (length es - (i + 1)) (i + 1) (omega arith) p)
 
     -- past an entry of another number
-    pub walk-past : {i : ℕ} → Walk P es n i → i < length es → eqb (number-in (getD es i 0)) n ≡ false → j ≡ getD links (chains + i) 0 → Walk P es n j
-    walk-past {i} w h q e = walk-next w h (skip i h q (w .done)) e
-
--- a place of the table has a link, which leads on
-module _ {es links : List ℕ} (c : Chained es links) {i : ℕ} (h : i < length es) where
-  pub link-inside : chains + i < length links
-  link-inside = omega (arith, c .few, c .long)
-
-  pub link-less : {j : ℕ} → j ≡ getD links (chains + i) 0 → length es - j < length es - i
-  unfolding next-in
-  link-less e = omega (arith, e, c .next i h)
+    pub along-past : (number-in (getD es i 0) ≡ n → ⊥) → j ≡ getD links (chains + i) 0 → Along P es links n x j
+    along-past f e = along-next (w .skips x i h (ne-eqb (number-in (getD es i 0)) n f) (w .done)) e
 
 pub starts-inside : {es links : List ℕ} → Chained es links → chains ≤ length links
 starts-inside c = omega (arith, c .long)

@@ -26,58 +26,70 @@ written-more xs entry x h =
     (set-at xs (getD entry (length xs) 0) (drop (suc (length xs)) entry) x (length xs) refl
     ∙ sym (append-snoc xs x (drop (suc (length xs)) entry)))
 
--- of the first i elements those that pass are written
-pub record Keeping (p : ℕ → Bool) (xs : List ℕ) (i n : ℕ) (entry out : List ℕ) : Type 0 where
+-- of the first i elements those that pass are written, by each test of a family
+pub record Keeping {T : Type 0} (p : T → ℕ → Bool) (xs : List ℕ) (i n : ℕ) (entry out : List ℕ) : Type 0 where
   pub upto : i ≤ length xs
   pub room : length xs ≤ length entry
   pub long : length out ≡ length entry
   pub few : n ≤ i
-  pub counted : n ≡ length (keep p (take i xs))
-  pub exit-is : out ≡ written (keep p (take i xs)) entry
+  pub counted : (t : T) → n ≡ length (keep (p t) (take i xs))
+  pub exit-is : (t : T) → out ≡ written (keep (p t) (take i xs)) entry
 
-module _ {p : ℕ → Bool} {xs : List ℕ} {entry : List ℕ} where
+module _ {T : Type 0} {p : T → ℕ → Bool} {xs : List ℕ} {entry : List ℕ} where
   pub keeping-start : length xs ≤ length entry → Keeping p xs 0 0 entry entry
-  keeping-start h = record { upto = omega arith; room = h; long = refl; few = omega arith; counted = refl; exit-is = refl }
+  keeping-start h = record { upto = omega arith; room = h; long = refl; few = omega arith; counted = λ t. refl; exit-is = λ t. refl }
 
-  module _ {i n : ℕ} {out : List ℕ} (k : Keeping p xs i n entry out) (l : i < length xs) where
-    pub keeping-took : p (getD xs i 0) ≡ true → Keeping p xs (i + 1) (n + 1) entry (set out n (getD xs i 0))
-    keeping-took t =
-        let e = keep-took p xs i 0 l t in
-        let m : length (keep p (take i xs)) < length entry = omega (arith, k .counted, k .few, k .room) in
-        record {
-          upto = omega arith;
-          room = k .room;
-          long = length-set out n (getD xs i 0) ∙ k .long;
-          few = omega (arith, k .few);
-          counted = rw (e, length-append (keep p (take i xs)) (getD xs i 0 ∷ [])) (ap (λ (j : ℕ). j + 1) (k .counted));
-          exit-is = rw (e, k .exit-is, k .counted) (written-more (keep p (take i xs)) entry (getD xs i 0) m);
-        }
+  module _ {i n : ℕ} {out : List ℕ} (k : Keeping p xs i n entry out) where
+    pub keeping-passed : i < length xs → ((t : T) → p t (getD xs i 0) ≡ true) → Keeping p xs (i + 1) (n + 1) entry (set out n (getD xs i 0))
+    keeping-passed l h = record {
+      upto = omega arith;
+      room = k .room;
+      long = length-set out n (getD xs i 0) ∙ k .long;
+      few = omega (arith, k .few);
+      counted = λ t.
+          rw (keep-took (p t) xs i 0 l (h t), length-append (keep (p t) (take i xs)) (getD xs i 0 ∷ [])) (ap (λ (j : ℕ). j + 1) (k .counted t));
+      exit-is = λ t.
+          rw (keep-took (p t) xs i 0 l (h t), k .exit-is t, k .counted t)
+          (written-more (keep (p t) (take i xs)) entry (getD xs i 0) (omega (arith, k .counted t, k .few, k .room)));
+    }
 
-    pub keeping-left : p (getD xs i 0) ≡ false → Keeping p xs (i + 1) n entry out
-    keeping-left t =
-        let e = keep-left p xs i 0 l t in
-        record { upto = omega arith; room = k .room; long = k .long; few = omega (arith, k .few); counted = rw e (k .counted); exit-is = rw e (k .exit-is) }
+    pub keeping-failed : i < length xs → ((t : T) → p t (getD xs i 0) ≡ false) → Keeping p xs (i + 1) n entry out
+    keeping-failed l h = record {
+      upto = omega arith;
+      room = k .room;
+      long = k .long;
+      few = omega (arith, k .few);
+      counted = λ t. rw (keep-left (p t) xs i 0 l (h t)) (k .counted t);
+      exit-is = λ t. rw (keep-left (p t) xs i 0 l (h t)) (k .exit-is t);
+    }
 
-  pub keeping-end : {i n : ℕ} {out : List ℕ} → Keeping p xs i n entry out → length xs ≤ i
-      → _≡_ {A = Outcome Kept} (kept (Wrote n) out) (kept-outcome (keep p xs) entry)
-  keeping-end {i} {n} {out} k h =
-      let e = take-all i xs h in
-      λ j. kept (Wrote ((k .counted ∙ ap (λ (t : List ℕ). length (keep p t)) e) j)) ((k .exit-is ∙ ap (λ (t : List ℕ). written (keep p t) entry) e) j)
+    pub keeping-end : length xs ≤ i → (t : T) → _≡_ {A = Outcome Kept} (kept (Wrote n) out) (kept-outcome (keep (p t) xs) entry)
+    keeping-end h t =
+        let e = take-all i xs h in
+        λ j. kept (Wrote ((k .counted t ∙ ap (λ (ys : List ℕ). length (keep (p t) ys)) e) j)) ((k .exit-is t ∙ ap (λ (ys : List ℕ). written (keep (p t) ys) entry) e) j)
 
 -- whether a region is in the set of those that pass a test
-pub has-by : (p : ℕ → Bool) (r : ℕ) {set : ℕ} {b : Bool} → set ≡ set-of p → r < regions → has set r ≡ b → p r ≡ b
-has-by p r e l t = sym (ap (λ (x : ℕ). has x r) e ∙ has-set p r ∙ rw (lt-ltb r regions l)) ∙ t
+pub has-by : (p : ℕ → Bool) (r : ℕ) {set : ℕ} {a b : Bool} → set ≡ set-of p → r < regions → a ≡ has set r → a ≡ b → p r ≡ b
+has-by p r e l h t = sym (h ∙ ap (λ (x : ℕ). has x r) e ∙ has-set p r ∙ rw (lt-ltb r regions l)) ∙ t
 
--- the listeners from the i-th on
-module _ (place : ℕ → Place) (xs : List ℕ) (i : ℕ) (h : i < length xs) (e : all-placed place xs ≡ all-placed place (drop i xs)) where
-  placed-next : all-placed place (drop i xs) ≡ (is-installed (place (getD xs i 0)) && all-placed place (drop (i + 1) xs))
-  placed-next = rw add-one (ap (all-placed place) (drop-cons xs i 0 h))
+-- each listener has a place where each from the i-th on has one
+pub record Placing (place : ℕ → Place) (xs : List ℕ) (i : ℕ) : Type 0 where
+  pub upto : i ≤ length xs
+  pub left : all-placed place xs ≡ all-placed place (drop i xs)
 
-  pub placed-stop : is-installed (place (getD xs i 0)) ≡ false → false ≡ all-placed place xs
-  placed-stop t = sym (e ∙ placed-next ∙ rw t)
+module _ {place : ℕ → Place} {xs : List ℕ} where
+  pub placing-start : Placing place xs 0
+  placing-start = record { upto = omega arith; left = refl }
 
-  pub placed-later : is-installed (place (getD xs i 0)) ≡ true → all-placed place xs ≡ all-placed place (drop (i + 1) xs)
-  placed-later t = e ∙ placed-next ∙ rw t
+  module _ {i : ℕ} (p : Placing place xs i) where
+    placing-by : i < length xs → (b : Bool) → is-installed (place (getD xs i 0)) ≡ b → all-placed place xs ≡ (b && all-placed place (drop (i + 1) xs))
+    placing-by h b e = p .left ∙ rw (add-one, drop-cons xs i 0 h, e)
 
-pub placed-end : (place : ℕ → Place) (xs : List ℕ) (i : ℕ) → all-placed place xs ≡ all-placed place (drop i xs) → length xs ≤ i → true ≡ all-placed place xs
-placed-end place xs i e h = sym (e ∙ rw (drop-of-length-le xs h))
+    pub placing-stop : i < length xs → is-installed (place (getD xs i 0)) ≡ false → false ≡ all-placed place xs
+    placing-stop h e = sym (placing-by h false e)
+
+    pub placing-next : i < length xs → is-installed (place (getD xs i 0)) ≡ true → Placing place xs (i + 1)
+    placing-next h e = record { upto = omega arith; left = placing-by h true e }
+
+    pub placing-end : length xs ≤ i → true ≡ all-placed place xs
+    placing-end h = sym (p .left ∙ rw (drop-of-length-le xs h))

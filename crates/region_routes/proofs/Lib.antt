@@ -7,5 +7,6 @@ pub mod Walking
 pub mod Judging
 pub mod TableLaws
 pub mod Chaining
+pub mod Lookups
 pub mod Keeping
 pub mod Answering

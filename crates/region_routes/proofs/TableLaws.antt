@@ -1,35 +1,36 @@
 -- Tables: how a loop fills one, what an entry says, and what a table says of the model whose table it is.
 use mathlib.Core.Path.{_≡_, refl, sym, ap, ap₂, _∙_}
-use mathlib.Core.Bool.{Bool, true, false, _&&_, _||_, and-true, and-false, or-true, or-false, or-assoc}
+use mathlib.Core.Bool.{Bool, true, false, _&&_, _||_, and-false, or-true}
 use mathlib.Core.List.{List, [], _∷_, _++_, map, append-assoc, append-nil}
 use Prim.Native.Nat.{ℕ, zero, suc, _+_, _*_, _-_, _≤_, _<_, _^_}
 use native.Mathlib.Numerals.{add-one}
+use native.Mathlib.Nat.{mul-le-mul-right}
 use native.Mathlib.Omega.{arith}
 use lib.Dec.{eqb}
-use lib.ListN.{length, getD, take, drop, set, replicate, length-append, length-map, drop-of-length-le}
-use lib.Seq.{take-suc, take-suc-set, length-take-le, drop-cons, take-at, take-all}
-use lib.Bits.{bitOr}
-use borrow.Author.Tests.{eq-eqb, ne-eqb}
-use Rattle.region_graph.specs.Size.{regions, most-bundles, most-connections, most-provided, most-listed}
-use Rattle.region_graph.specs.Lists.{pick, exists, All, member, concat-map}
-use Rattle.region_graph.specs.Sets.{singleton, set-of}
+use lib.ListN.{length, getD, take, set, replicate, length-append, length-map}
+use lib.Seq.{take-suc, take-suc-set, length-take-le, take-at, take-all}
+use borrow.Author.Tests.{ne-eqb}
+use Rattle.region_graph.specs.Size.{regions, most-bundles, most-connections, most-provided, most-listed, everything-sign}
+use Rattle.region_graph.specs.Lists.{exists, All, member, concat-map}
+use Rattle.region_graph.specs.Sets.{set-of}
 use Rattle.region_graph.specs.Model.{Model, Bundle, Filter, Part, Connection, Word, NumberedPart, Legal, LegalBundle, LegalFilter, LegalConnection}
 use Rattle.region_graph.specs.Items.{provided, part-of, part-passes, provides, passes, crosses}
-use Rattle.region_graph.specs.Record.{store-bundle, store-connection, bundle-in, connection-in, no-bundle, no-connection}
-use Rattle.region_graph.specs.Places.{ShortBundle, ShortConnection, BundleStored, ConnectionStored}
+use Rattle.region_graph.specs.Record.{places, store-bundle, store-connection, bundle-in, connection-in, no-bundle, no-connection}
+use Rattle.region_graph.specs.Places.{ShortBundle, ShortConnection, PartStored, BundleStored, ConnectionStored}
 use Rattle.region_graph.specs.Promise.{place-of, holder-set, predecessor-sets}
 use Rattle.region_graph.specs.declared.Place.{Place}
-use Rattle.region_graph.specs.declared.Place.the-variants.{Within, Nowhere}
+use Rattle.region_graph.specs.declared.numbers.Numbers.{Numbers}
 use Rattle.region_graph.specs.declared.bundles.StoredBundle.{StoredBundle}
 use Rattle.region_graph.specs.declared.connections.StoredConnection.{StoredConnection}
 use Rattle.region_graph.proofs.Lists.{exists-append, all-at, all-map, member-all, map-append, eqb-sym}
 use Rattle.region_graph.proofs.Bits.{set-below-lt, set-none}
-use Rattle.region_graph.proofs.Views.{exists-more, sets-more}
-use Rattle.region_graph.proofs.Arrays.{Filled, filled-at, filled-inside, filled-means}
-use Rattle.region_graph.proofs.Storing.{map-back, stored-as, bundle-back, connection-back, short-bundle, short-connection}
+use Rattle.region_graph.proofs.Arrays.{Filled, filled-length, filled-at, filled-inside, filled-means}
+use Rattle.region_graph.proofs.Storing.{map-back, stored-as, bundle-back, connection-back, bundles-each, connections-each}
+use Rattle.region_graph.proofs.Storing.{short-bundle, short-connection, short-connections}
+use Rattle.region_graph.proofs.Storing.{numbers-filled, provided-filled, packages-stored, services-stored, named-stored, listed-stored}
 use Rattle.region_routes.specs.Hooks.{item, is-installed, all-installed}
 use Rattle.region_routes.specs.Search.{RegionSets}
-use Rattle.region_routes.specs.Tables.{width, everything-number, packed, number-in, place-in, ends, source-in, target-in, most-entries, passed, offer, passage, offers, passages, Appended, Holding, held-in, leads-in, leads-also, led-by, place-at, all-placed, Tables}
+use Rattle.region_routes.specs.Tables.{width, everything-number, packed, number-in, place-in, ends, source-in, target-in, most-entries, passed, offer, passage, offers, passages, Appended, Holding, held-in, step-in, step-or, predecessors-by, place-at, all-placed, Tables}
 use Rattle.region_routes.proofs.SetLaws.{counted-sets}
 
 -- what is put at the end of what stands in a buffer
@@ -47,14 +48,49 @@ appended-then {before} {mid} {after} {at} {j} {k} {xs} {ys} a b = record {
   kept = b .kept ∙ ap (λ (l : List ℕ). l ++ ys) (a .kept) ∙ append-assoc (take at before) xs ys;
 }
 
--- the numbers of a list are put one by one
-module _ (f : ℕ → ℕ) (xs : List ℕ) (i : ℕ) (h : i < length xs) {before mid : List ℕ} {at j : ℕ} (a : Appended before at (map f (take i xs)) mid j) where
-  pub appended-room : at + length (map f xs) ≤ length before → length mid ≡ length before → j < length mid
-  appended-room r e = omega (arith, a .counted, length-map xs f, length-map (take i xs) f, length-take-le i xs (omega arith))
+-- a loop has put the entries of the first i numbers of a list
+pub record Appending (f : ℕ → ℕ) (xs before : List ℕ) (at i : ℕ) (out : List ℕ) (n : ℕ) : Type 0 where
+  pub upto : i ≤ length xs
+  pub long : length out ≡ length before
+  pub done : Appended before at (map f (take i xs)) out n
 
-  pub appended-next : {after : List ℕ} {k x : ℕ} → x ≡ f (getD xs i 0) → Appended mid j (x ∷ []) after k
-      → Appended before at (map f (take (i + 1) xs)) after k
-  appended-next {x = x} e b = rw (add-one, take-suc xs i 0 h, map-append, ← e) (appended-then a b)
+module _ {f : ℕ → ℕ} {xs before : List ℕ} {at : ℕ} where
+  pub appending-start : Appending f xs before at 0 before at
+  appending-start = record { upto = omega arith; long = refl; done = appended-none }
+
+  module _ {i n : ℕ} {out : List ℕ} (a : Appending f xs before at i out n) where
+    pub appending-room : i < length xs → at + length (map f xs) ≤ length before → n < length out
+    appending-room l r = omega (arith, a .long, a .done .counted, length-map xs f, length-map (take i xs) f, length-take-le i xs (omega arith))
+
+    pub appending-next : {after : List ℕ} {k x : ℕ} → i < length xs → x ≡ f (getD xs i 0) → length after ≡ length before → Appended out n (x ∷ []) after k
+        → Appending f xs before at (i + 1) after k
+    appending-next l e h b = record {
+      upto = omega arith;
+      long = h;
+      done = rw (add-one, take-suc xs i 0 l, map-append, ← e) (appended-then (a .done) b);
+    }
+
+    pub appending-end : length xs ≤ i → Appended before at (map f xs) out n
+    appending-end l = rw (take-all i xs l) at (a .done)
+
+-- the numbers of a list stand in its first places
+filled-within : {size count : ℕ} {items xs : List ℕ} → Filled (λ x. x) 0 size items count xs → count ≤ length items
+filled-within h = omega (arith, h .counted, h .room, filled-length h)
+
+pub packages-within : (b : StoredBundle) → BundleStored b → b .packages .count ≤ length (b .packages .items)
+packages-within b h = filled-within (provided-filled (b .packages) (packages-stored b h))
+
+pub services-within : (b : StoredBundle) → BundleStored b → b .services .count ≤ length (b .services .items)
+services-within b h = filled-within (provided-filled (b .services) (services-stored b h))
+
+pub named-within : (c : StoredConnection) → ConnectionStored c → c .bundles .count ≤ length (c .bundles .items)
+named-within c h = filled-within (numbers-filled (c .bundles) (named-stored c h))
+
+pub listed-within : (p : Numbers) → PartStored p → (p .count ≡ everything-sign → ⊥) → p .count ≤ length (p .items)
+listed-within p h e = filled-within (numbers-filled p (listed-stored p h e))
+
+pub within-long : (count : ℕ) (items : List ℕ) → count ≤ length items → count ≡ length (take count items)
+within-long count items h = sym (length-take-le count items h)
 
 -- the entries of each element
 
@@ -68,14 +104,8 @@ module _ {A : Type 0} (f : A → List ℕ) where
       rw (add-one, take-suc xs i d h)
       (concat-append (take i xs) (getD xs i d ∷ []) ∙ ap (λ (l : List ℕ). concat-map f (take i xs) ++ l) (append-nil (f (getD xs i d))))
 
-  -- the entries of one element more are put
-  pub gathered-next : (xs : List A) (i : ℕ) (d : A) {before mid after : List ℕ} {j k : ℕ} {ys : List ℕ} → i < length xs
-      → Appended before 0 (concat-map f (take i xs)) mid j → ys ≡ f (getD xs i d) → Appended mid j ys after k
-      → Appended before 0 (concat-map f (take (i + 1) xs)) after k
-  gathered-next xs i d h a e b = rw (concat-more xs i d h, ← e) (appended-then a b)
-
   -- with at most w entries of each element
-  pub concat-few : (w : ℕ) (xs : List A) → All (λ x. length (f x) ≤ w) xs → (i : ℕ) → length (concat-map f (take i xs)) ≤ i * w
+  concat-few : (w : ℕ) (xs : List A) → All (λ x. length (f x) ≤ w) xs → (i : ℕ) → length (concat-map f (take i xs)) ≤ i * w
   concat-few w xs h zero = omega arith
   concat-few w [] h (suc i) = omega arith
   concat-few w (x ∷ xs) h (suc i) = rw length-append (omega (arith, h .0, concat-few w xs (h .1) i))
@@ -89,34 +119,56 @@ module _ {A : Type 0} (f : A → List ℕ) where
   exists-each P p q e [] h = refl
   exists-each P p q e (x ∷ xs) h = ap₂ _||_ (e x (h .0)) (exists-each P p q e xs (h .1))
 
--- a loop over an array whose first places hold a list puts the entries of each element
-module _ {A B : Type 0} {store : A → B} {none : B} {size : ℕ} (out : B → A) (f : A → List ℕ)
-    {items : List B} {count : ℕ} {xs : List A} (back : All (λ x. out (store x) ≡ x) xs) (h : Filled store none size items count xs) where
-  filled-read : map out (take count items) ≡ xs
-  filled-read =
-      rw (h .shape, h .counted)
-      (ap (map out) (take-at (map store xs) (replicate (size - length xs) none) (length xs) (length-map xs store)) ∙ map-back store out xs back)
+-- the first places of an array hold the elements of a list, each of which has at most w entries; a table has room for those of all
+pub record Source {A B : Type 0} (store : A → B) (none : B) (size : ℕ) (out : B → A) (f : A → List ℕ) (w : ℕ) (places : List B) (count : ℕ) (xs : List A) : Type 0 where
+  pub filled : Filled store none size places count xs
+  pub back : All (λ x. out (store x) ≡ x) xs
+  pub few : All (λ x. length (f x) ≤ w) xs
+  pub fits : size * w ≤ most-entries
 
-  module _ {before mid : List ℕ} {j : ℕ} (i : ℕ) (l : i < count) (e : B) (d : A) (a : Appended before 0 (concat-map f (take i (map out (take count items)))) mid j) where
-    pub gathered-step : {after : List ℕ} {k : ℕ} → Appended mid j (f (out (getD items i e))) after k
-        → Appended before 0 (concat-map f (take (i + 1) (map out (take count items)))) after k
-    gathered-step b =
-        rw filled-read (gathered-next f xs i d (filled-inside h i l) (rw filled-read at a) (ap f (filled-means h out back i e d l)) b)
+-- a loop over them has put the entries of the first i elements
+pub record Gathering {A B : Type 0} (out : B → A) (f : A → List ℕ) (places : List B) (count : ℕ) (before : List ℕ) (i : ℕ) (items : List ℕ) (n : ℕ) : Type 0 where
+  pub upto : i ≤ count
+  pub long : length items ≡ most-entries
+  pub done : Appended before 0 (concat-map f (take i (map out (take count places)))) items n
 
-    -- with at most w entries of each element
-    pub gathered-room : (w : ℕ) → suc i * w ≤ length mid → All (λ x. length (f x) ≤ w) xs → j + length (f (out (getD items i e))) ≤ length mid
-    gathered-room w r g =
-        rw (filled-means h out back i e d l)
-        (omega (arith, (rw filled-read at a) .counted, concat-few f w xs g i, all-at (λ x. length (f x) ≤ w) xs i d (filled-inside h i l) g))
+pub gathering-start : {A B : Type 0} {out : B → A} {f : A → List ℕ} {places : List B} {count : ℕ} {before : List ℕ} → length before ≡ most-entries
+    → Gathering out f places count before 0 before 0
+gathering-start e = record { upto = omega arith; long = e; done = appended-none }
 
-  -- at the end
-  pub gathered-end : {before after : List ℕ} {i n : ℕ} (w : ℕ) → count ≤ i → i * w ≤ most-entries → length after ≡ most-entries
-      → All (λ x. length (f x) ≤ w) xs → Appended before 0 (concat-map f (take i (map out (take count items)))) after n → Holding (concat-map f xs) after n
-  gathered-end {i = i} w l r e g a = record {
-    few = omega (arith, (rw filled-read at a) .counted, concat-few f w xs g i);
-    room = omega (arith, e, (rw filled-read at a) .counted, concat-few f w xs g i);
-    table = (rw filled-read at a) .kept ∙ ap (concat-map f) (take-all i xs (omega (arith, h .counted)));
-  }
+module _ {A B : Type 0} {store : A → B} {none : B} {size w : ℕ} {out : B → A} {f : A → List ℕ} {places : List B} {count : ℕ} {xs : List A}
+    (s : Source store none size out f w places count xs) where
+  source-read : map out (take count places) ≡ xs
+  source-read =
+      rw (s .filled .shape, s .filled .counted)
+      (ap (map out) (take-at (map store xs) (replicate (size - length xs) none) (length xs) (length-map xs store)) ∙ map-back store out xs (s .back))
+
+  module _ {before items : List ℕ} {i n : ℕ} (g : Gathering out f places count before i items n) where
+    put : Appended before 0 (concat-map f (take i xs)) items n
+    put = rw source-read at (g .done)
+
+    module _ (e : B) (d : A) (l : i < count) where
+      pub gathering-room : n + length (f (out (getD places i e))) ≤ length items
+      gathering-room =
+          let here = filled-inside (s .filled) i l in
+          let within : suc i ≤ size = omega (arith, here, s .filled .room) in
+          rw (filled-means (s .filled) out (s .back) i e d l)
+          (omega (arith, put .counted, g .long, concat-few f w xs (s .few) i, all-at (λ x. length (f x) ≤ w) xs i d here (s .few), mul-le-mul-right w within, s .fits))
+
+      pub gathering-next : {after : List ℕ} {k : ℕ} → length after ≡ length items → Appended items n (f (out (getD places i e))) after k
+          → Gathering out f places count before (i + 1) after k
+      gathering-next h a = record {
+        upto = omega arith;
+        long = h ∙ g .long;
+        done =
+            rw (source-read, concat-more f xs i d (filled-inside (s .filled) i l), ← filled-means (s .filled) out (s .back) i e d l) (appended-then put a);
+      }
+
+    pub gathering-end : count ≤ i → Holding (concat-map f xs) items n
+    gathering-end l =
+        let within : i ≤ size = omega (arith, g .upto, s .filled .counted, s .filled .room) in
+        let m : n ≤ most-entries = omega (arith, put .counted, concat-few f w xs (s .few) i, mul-le-mul-right w within, s .fits) in
+        record { few = m; room = omega (arith, m, g .long); table = put .kept ∙ ap (concat-map f) (take-all i xs (omega (arith, s .filled .counted))) }
 
 -- the part of an array that holds a table
 module _ {xs items : List ℕ} {count : ℕ} (h : Holding xs items count) where
@@ -195,7 +247,7 @@ module _ (m : Model) (h : Legal m) where
   few-provided (suc (suc zero)) b l = l .services .few
   few-provided (suc (suc (suc k))) b l = omega arith
 
-  pub offers-few : (k : ℕ) → All (λ b. length (offer k b) ≤ most-provided) (m .bundles)
+  offers-few : (k : ℕ) → All (λ b. length (offer k b) ≤ most-provided) (m .bundles)
   offers-few k =
       all-map (LegalBundle (m .regions)) (λ b. length (offer k b) ≤ most-provided) (λ b l. rw length-map (few-provided k b l)) (m .bundles) (h .bundles-legal .each)
 
@@ -247,8 +299,8 @@ module _ (m : Model) (h : Legal m) where
       ∙ exists-fixed (eqb (c .source) r && eqb (c .target) s) (λ x. eqb x everything-number || eqb x n) xs
       ∙ ap (λ (t : Bool). (eqb (c .source) r && eqb (c .target) s) && t) (part-says n (part-of k (c .filter)) (part-legal k (c .filter) (l .filter)))
 
-  -- an entry for all or for the number leads where a connection that passes the item leads
-  crosses-passages : (k n r s : ℕ) → leads-also (leads-in (passages k (m .connections)) everything-number) (passages k (m .connections)) n r s ≡ crosses m (item k n) r s
+  -- an entry for all or for the number goes from and to where a connection that passes the item goes
+  crosses-passages : (k n r s : ℕ) → step-or (step-in (passages k (m .connections)) everything-number) (passages k (m .connections)) n r s ≡ crosses m (item k n) r s
   crosses-passages k n r s =
       let test : ℕ → Bool = λ e. (eqb (source-in e) r && eqb (target-in e) s) && (eqb (number-in e) everything-number || eqb (number-in e) n) in
       exists-either (λ e. eqb (source-in e) r && eqb (target-in e) s) (λ e. eqb (number-in e) everything-number) (λ e. eqb (number-in e) n) (passages k (m .connections))
@@ -256,21 +308,50 @@ module _ (m : Model) (h : Legal m) where
       ∙ exists-each (passage k) (LegalConnection (m .regions)) (λ c. exists test (passage k c))
       (λ c. (eqb (c .source) r && eqb (c .target) s) && passes (item k n) (c .filter)) (passage-says k n r s) (m .connections) (h .connections-legal .each)
 
-  led-passages : (k n : ℕ)
-      → led-by (leads-also (leads-in (passages k (m .connections)) everything-number) (passages k (m .connections)) n) ≡ predecessor-sets m (item k n)
-  unfolding led-by predecessor-sets
-  led-passages k n = ap led-by (λ j r s. crosses-passages k n r s j)
+  stepped-passages : (k n : ℕ)
+      → predecessors-by (step-or (step-in (passages k (m .connections)) everything-number) (passages k (m .connections)) n) ≡ predecessor-sets m (item k n)
+  unfolding predecessors-by predecessor-sets
+  stepped-passages k n = ap predecessors-by (λ j r s. crosses-passages k n r s j)
 
   few-passed : (p : Part) → NumberedPart p → length (passed p) ≤ most-listed
   few-passed (Part.listed xs) l = l .few
   few-passed Part.everything l = omega arith
 
-  pub passages-few : (k : ℕ) → All (λ c. length (passage k c) ≤ most-listed) (m .connections)
+  passages-few : (k : ℕ) → All (λ c. length (passage k c) ≤ most-listed) (m .connections)
   passages-few k =
       all-map (LegalConnection (m .regions)) (λ c. length (passage k c) ≤ most-listed)
       (λ c l. rw length-map (few-passed (part-of k (c .filter)) (part-legal k (c .filter) (l .filter)))) (m .connections) (h .connections-legal .each)
 
-  -- the places of the bundles and of the connections: each is stored in the one way, and a connection's ends are regions
+  -- the places of the bundles and of the connections: what each table is put together from
+  module _ (k : ℕ) where
+    abbrev pub OffersFrom : List StoredBundle → ℕ → Type 0
+    OffersFrom items count =
+        Source store-bundle (store-bundle no-bundle) most-bundles bundle-in (offer k) most-provided items count (m .bundles)
+
+    pub offers-from : {items : List StoredBundle} {count : ℕ} → items ≡ places store-bundle (store-bundle no-bundle) most-bundles (m .bundles)
+        → count ≡ length (m .bundles) → OffersFrom items count
+    offers-from s c = record {
+      filled = record { shape = s; counted = c; room = h .bundles-legal .few };
+      back = bundles-each (m .bundles);
+      few = offers-few k;
+      fits = omega arith;
+    }
+
+    abbrev pub PassagesFrom : List StoredConnection → ℕ → Type 0
+    PassagesFrom items count =
+        Source store-connection (store-connection no-connection) most-connections connection-in (passage k) most-listed items count (m .connections)
+
+    pub passages-from : {items : List StoredConnection} {count : ℕ}
+        → items ≡ places store-connection (store-connection no-connection) most-connections (m .connections) → count ≡ length (m .connections)
+        → PassagesFrom items count
+    passages-from s c = record {
+      filled = record { shape = s; counted = c; room = h .connections-legal .few };
+      back = connections-each (m .connections) (short-connections h);
+      few = passages-few k;
+      fits = omega arith;
+    }
+
+  -- each is stored in the one way, and a connection's ends are regions
   module _ {items : List StoredBundle} {count : ℕ} (f : Filled store-bundle (store-bundle no-bundle) most-bundles items count (m .bundles)) where
     pub bundle-placed : (i : ℕ) (e : StoredBundle) → i < count → BundleStored (getD items i e)
     bundle-placed i e l =
@@ -300,75 +381,22 @@ pub placed-installed : (m : Model) {place : ℕ → Place} → ((l : ℕ) → pl
 placed-installed m e [] = refl
 placed-installed m e (l ∷ ls) = ap₂ _&&_ (ap is-installed (e l)) (placed-installed m e ls)
 
--- the entries from the i-th on
-module _ (es : List ℕ) (l i : ℕ) (h : i < length es) (e : place-at es l ≡ place-at (drop i es) l) where
-  place-next : place-at (drop i es) l ≡ pick (eqb (number-in (getD es i 0)) l) (Within (place-in (getD es i 0))) (place-at (drop (i + 1) es) l)
-  place-next = rw add-one (ap (λ (t : List ℕ). place-at t l) (drop-cons es i 0 h))
-
-  pub place-here : eqb (number-in (getD es i 0)) l ≡ true → Within (place-in (getD es i 0)) ≡ place-at es l
-  place-here t = sym (e ∙ place-next ∙ rw t)
-
-  pub place-later : eqb (number-in (getD es i 0)) l ≡ false → place-at es l ≡ place-at (drop (i + 1) es) l
-  place-later t = e ∙ place-next ∙ rw t
-
-pub place-end : (es : List ℕ) (l i : ℕ) → place-at es l ≡ place-at (drop i es) l → length es ≤ i → Nowhere ≡ place-at es l
-place-end es l i e h = sym (e ∙ rw (drop-of-length-le es h))
-
 -- the sets that the tables of a model give are the model's
 module _ {m : Model} {kind : ℕ} {offered passing : List ℕ} (t : Tables m kind offered passing) (n : ℕ) where
   pub held-table : held-in offered n ≡ holder-set m (item kind n)
   held-table = ap (λ (es : List ℕ). held-in es n) (t .offered-is) ∙ held-offers m (t .legal) kind n
 
-  pub led-table : led-by (leads-also (leads-in passing everything-number) passing n) ≡ predecessor-sets m (item kind n)
-  led-table = ap (λ (es : List ℕ). led-by (leads-also (leads-in es everything-number) es n)) (t .passing-is) ∙ led-passages m (t .legal) kind n
+  pub preceding-table : predecessors-by (step-or (step-in passing everything-number) passing n) ≡ predecessor-sets m (item kind n)
+  preceding-table = ap (λ (es : List ℕ). predecessors-by (step-or (step-in es everything-number) es n)) (t .passing-is) ∙ stepped-passages m (t .legal) kind n
 
 pub held-small : (es : List ℕ) (n : ℕ) → held-in es n < 2 ^ regions
 held-small es n = set-below-lt regions (λ r. exists (λ e. eqb (place-in e) r && eqb (number-in e) n) es)
 
-pub led-sets : (leads : ℕ → ℕ → Bool) → RegionSets (led-by leads)
-unfolding led-by
-led-sets leads = counted-sets (λ s r. leads r s)
+pub preceding-sets : (step : ℕ → ℕ → Bool) → RegionSets (predecessors-by step)
+unfolding predecessors-by
+preceding-sets step = counted-sets (λ s r. step r s)
 
--- no region leads anywhere
-pub led-none : replicate regions 0 ≡ led-by (λ r s. false)
-unfolding led-by
-led-none = rw set-none
-
--- the sets of predecessors, of those that are given and as one entry more comes in
-pub led-start : (leads : ℕ → ℕ → Bool) (n : ℕ) → led-by leads ≡ led-by (leads-also leads [] n)
-led-start leads n = ap led-by (λ j r s. sym (or-false (leads r s)) j)
-
-module _ (leads : ℕ → ℕ → Bool) (es : List ℕ) (n i : ℕ) (h : i < length es) where
-  leads-more : (b : Bool) → eqb (number-in (getD es i 0)) n ≡ b → (r s : ℕ)
-      → leads-also leads (take (i + 1) es) n r s
-      ≡ (leads-also leads (take i es) n r s || ((eqb (source-in (getD es i 0)) r && eqb (target-in (getD es i 0)) s) && b))
-  leads-more b q r s =
-      ap (λ (t : Bool). leads r s || t) (exists-more (λ e. (eqb (source-in e) r && eqb (target-in e) s) && eqb (number-in e) n) es i 0 h)
-      ∙ rw q (sym (or-assoc (leads r s) (leads-in (take i es) n r s) ((eqb (source-in (getD es i 0)) r && eqb (target-in (getD es i 0)) s) && b)))
-
-  -- an entry of the number adds its source to those that lead to its target
-  pub led-entry : {sets : List ℕ} {x : ℕ} → eqb (number-in (getD es i 0)) n ≡ true → sets ≡ led-by (leads-also leads (take i es) n)
-      → x ≡ singleton (source-in (getD es i 0)) → (let s = target-in (getD es i 0) in
-      s < regions → set sets s (bitOr (getD sets s 0) x) ≡ led-by (leads-also leads (take (i + 1) es) n))
-  unfolding led-by
-  led-entry q p t l =
-      let e = getD es i 0 in
-      sets-more (leads-also leads (take i es) n) (leads-also leads (take (i + 1) es) n) (source-in e) p t l
-      (λ r.
-      leads-more true q r (target-in e)
-      ∙ ap (λ (b : Bool). leads-also leads (take i es) n r (target-in e) || b)
-      (rw (eq-eqb (target-in e) (target-in e) refl) (and-true (eqb (source-in e) r && true) ∙ and-true (eqb (source-in e) r))))
-      (λ r s k.
-      leads-more true q r s
-      ∙ ap (λ (b : Bool). leads-also leads (take i es) n r s || b) (rw (ne-eqb (target-in e) s (λ j. k (sym j)), and-false (eqb (source-in e) r)))
-      ∙ or-false (leads-also leads (take i es) n r s))
-
-  -- an entry of another number adds nothing
-  pub led-other : eqb (number-in (getD es i 0)) n ≡ false → led-by (leads-also leads (take i es) n) ≡ led-by (leads-also leads (take (i + 1) es) n)
-  led-other q = ap led-by (λ j r s. sym (nothing r s) j)
-    where
-      nothing : (r s : ℕ) → leads-also leads (take (i + 1) es) n r s ≡ leads-also leads (take i es) n r s
-      nothing r s =
-          leads-more false q r s
-          ∙ ap (λ (b : Bool). leads-also leads (take i es) n r s || b) (and-false (eqb (source-in (getD es i 0)) r && eqb (target-in (getD es i 0)) s))
-          ∙ or-false (leads-also leads (take i es) n r s)
+-- no step goes anywhere
+pub preceding-none : replicate regions 0 ≡ predecessors-by (λ r s. false)
+unfolding predecessors-by
+preceding-none = rw set-none

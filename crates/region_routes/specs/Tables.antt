@@ -2,7 +2,7 @@
 use mathlib.Core.Path.{_≡_}
 use mathlib.Core.Bool.{Bool, true, _&&_, _||_}
 use mathlib.Core.List.{List, [], _∷_, _++_, map}
-use Prim.Native.Nat.{ℕ, _+_, _*_, _/_, _%_, _≤_}
+use Prim.Native.Nat.{ℕ, _+_, _*_, _/_, _%_, _^_, _≤_}
 use lib.Dec.{eqb}
 use lib.ListN.{length, take}
 use Rattle.region_graph.specs.Size.{regions, most-connections, most-listed}
@@ -16,10 +16,10 @@ use Rattle.region_routes.specs.Hooks.{is-installed}
 
 -- an entry: a number of an item with the place that it goes with, below `width`; the number `everything-number`, which no item has, stands for all
 abbrev pub width : ℕ
-width = 65536
+width = 2 ^ 16
 
 abbrev pub everything-number : ℕ
-everything-number = 4294967296
+everything-number = 2 ^ 32
 
 abbrev pub packed : ℕ → ℕ → ℕ
 packed n place = n * width + place
@@ -74,19 +74,19 @@ pub record Holding (xs items : List ℕ) (count : ℕ) : Type 0 where
   pub room : count ≤ length items
   pub table : take count items ≡ xs
 
--- the regions that the entries of a number name, and whether one of them leads from a region to another
+-- the regions that the entries of a number name, and whether one of them goes from region r to region s
 abbrev pub held-in : List ℕ → ℕ → ℕ
 held-in es n = set-of (λ r. exists (λ e. eqb (place-in e) r && eqb (number-in e) n) es)
 
-abbrev pub leads-in : List ℕ → ℕ → ℕ → ℕ → Bool
-leads-in es n r s = exists (λ e. (eqb (source-in e) r && eqb (target-in e) s) && eqb (number-in e) n) es
+abbrev pub step-in : List ℕ → ℕ → ℕ → ℕ → Bool
+step-in es n r s = exists (λ e. (eqb (source-in e) r && eqb (target-in e) s) && eqb (number-in e) n) es
 
-abbrev pub leads-also : (ℕ → ℕ → Bool) → List ℕ → ℕ → ℕ → ℕ → Bool
-leads-also leads es n r s = leads r s || leads-in es n r s
+abbrev pub step-or : (ℕ → ℕ → Bool) → List ℕ → ℕ → ℕ → ℕ → Bool
+step-or step es n r s = step r s || step-in es n r s
 
--- for each region the set of the regions from which one is led to it
-unfoldable pub led-by : (ℕ → ℕ → Bool) → List ℕ
-led-by leads = map (λ s. set-of (λ r. leads r s)) (count-from 0 regions)
+-- for each region the set of the regions from which a step goes to it
+unfoldable pub predecessors-by : (ℕ → ℕ → Bool) → List ℕ
+predecessors-by step = map (λ s. set-of (λ r. step r s)) (count-from 0 regions)
 
 -- the place of the first entry that has the number
 abbrev pub place-at : List ℕ → ℕ → Place

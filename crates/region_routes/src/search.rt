@@ -8,7 +8,7 @@ ghost use Rattle.region_graph.specs.Record.{Valid, meaning};
 ghost use Rattle.region_graph.specs.Sets.{«set-of»};
 ghost use Rattle.region_routes.specs.Chosen.{sees};
 ghost use Rattle.region_routes.specs.Hooks.{item};
-ghost use Rattle.region_routes.specs.Tables.{Tables, everything-number, «leads-in», «led-by»};
+ghost use Rattle.region_routes.specs.Tables.{Tables, everything-number, «step-in», «predecessors-by»};
 ghost use Rattle.region_routes.specs.Chains.{Chained};
 ghost use Rattle.region_routes.specs.Search.{RegionSets, SetOfRegions, Layer, Searched, Reached, InLayer};
 use crate::tables::holders;
@@ -125,7 +125,7 @@ pub fn regions_seeing_by(
 ) -> u64
     requires { ⌜ Chained (now offered) (now «offer_links») ⌝ }
     requires { ⌜ Chained (now passing) (now «pass_links») ⌝ }
-    requires { ⌜ always ≡ led-by (leads-in (now passing) everything-number) ⌝ }
+    requires { ⌜ always ≡ predecessors-by (step-in (now passing) everything-number) ⌝ }
     ensures { λ r. ⌜ ((m : Model) (kind : ℕ) → Tables m kind (now (offered .entry)) (now (passing .entry)) → r ≡ set-of (sees m (item kind number))) ⌝ }
 {
     let sought = wide(number);

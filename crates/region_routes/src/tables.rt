@@ -5,8 +5,8 @@ ghost use mathlib.Core.List.{[], _∷_, map};
 ghost use Prim.Native.Nat.{ℕ, _+_, _<_, _≤_};
 ghost use lib.ListN.{length, getD};
 ghost use Rattle.region_graph.specs.Size.{regions};
-ghost use Rattle.region_graph.specs.Record.{Valid, meaning, «numbers-of», «provided-of», «bundle-in», «connection-in», «part-in»};
-ghost use Rattle.region_graph.specs.Places.{NumbersStored, ProvidedStored, BundleStored, PartStored, ConnectionStored};
+ghost use Rattle.region_graph.specs.Record.{Valid, meaning, «bundle-in», «connection-in», «part-in»};
+ghost use Rattle.region_graph.specs.Places.{BundleStored, PartStored, ConnectionStored};
 ghost use Rattle.region_routes.specs.Hooks.{«kind-number»};
 ghost use Rattle.region_routes.specs.Tables;
 ghost use Rattle.region_routes.specs.Chains;
@@ -14,7 +14,6 @@ use crate::Kind;
 use region_graph::Graph;
 use region_graph::Numbers;
 use region_graph::Place;
-use region_graph::Provided;
 use region_graph::StoredBundle;
 use region_graph::StoredConnection;
 use region_graph::region_set::singleton;
@@ -60,32 +59,14 @@ fn append_one(out: &mut [u64], at: usize, number: u64, place: u32) -> usize
 }
 
 // Puts an entry for each number of a list.
-fn append(out: &mut [u64], at: usize, list: Numbers, place: u32) -> usize
-    requires { ⌜ NumbersStored list ⌝ }
-    requires { ⌜ at + length (map (λ n. Tables.packed n place) (numbers-of list)) ≤ length (now out) ⌝ }
-    ensures { λ r. ⌜ Tables.Appended (now (out .entry)) at (map (λ n. Tables.packed n place) (numbers-of list)) (now (out .exit)) r ⌝ }
+fn append(out: &mut [u64], at: usize, place: u32, numbers: &[u32]) -> usize
+    requires { ⌜ at + length (map (λ n. Tables.packed n place) (now numbers)) ≤ length (now out) ⌝ }
+    ensures { λ r. ⌜ Tables.Appended (now (out .entry)) at (map (λ n. Tables.packed n place) (now (numbers .entry))) (now (out .exit)) r ⌝ }
 {
-    let count = list.count;
     let mut n = at;
     let mut i: usize = 0;
-    while i < count {
-        let number = wide(list.items[i]);
-        n = append_one(out, n, number, place);
-        i += 1;
-    }
-    n
-}
-
-fn append_provided(out: &mut [u64], at: usize, list: Provided, place: u32) -> usize
-    requires { ⌜ ProvidedStored list ⌝ }
-    requires { ⌜ at + length (map (λ n. Tables.packed n place) (provided-of list)) ≤ length (now out) ⌝ }
-    ensures { λ r. ⌜ Tables.Appended (now (out .entry)) at (map (λ n. Tables.packed n place) (provided-of list)) (now (out .exit)) r ⌝ }
-{
-    let count = list.count;
-    let mut n = at;
-    let mut i: usize = 0;
-    while i < count {
-        let number = wide(list.items[i]);
+    while i < numbers.len() {
+        let number = wide(numbers[i]);
         n = append_one(out, n, number, place);
         i += 1;
     }
@@ -101,12 +82,14 @@ fn append_offer(out: &mut [u64], at: usize, b: StoredBundle, kind: Kind) -> usiz
     match kind {
         Kind::Bundle => append_one(out, at, wide(b.location), b.region),
         Kind::Package => {
-            let packages = b.packages;
-            append_provided(out, at, packages, b.region)
+            let count = b.packages.count;
+            let items = b.packages.items;
+            append(out, at, b.region, &items[..count])
         }
         Kind::Service => {
-            let services = b.services;
-            append_provided(out, at, services, b.region)
+            let count = b.services.count;
+            let items = b.services.items;
+            append(out, at, b.region, &items[..count])
         }
     }
 }
@@ -117,10 +100,12 @@ fn append_part(out: &mut [u64], at: usize, part: Numbers, ends: u32) -> usize
     requires { ⌜ at + length (map (λ n. Tables.packed n ends) (Tables.passed (part-in part))) ≤ length (now out) ⌝ }
     ensures { λ r. ⌜ Tables.Appended (now (out .entry)) at (map (λ n. Tables.packed n ends) (Tables.passed (part-in part))) (now (out .exit)) r ⌝ }
 {
-    if part.count == EVERYTHING {
+    let count = part.count;
+    if count == EVERYTHING {
         return append_one(out, at, EVERYTHING_NUMBER, ends);
     }
-    append(out, at, part, ends)
+    let items = part.items;
+    append(out, at, ends, &items[..count])
 }
 
 // Puts what a connection passes, with its two ends.
@@ -133,8 +118,9 @@ fn append_passage(out: &mut [u64], at: usize, c: StoredConnection, kind: Kind) -
     let ends = c.source * (REGIONS as u32) + c.target;
     match kind {
         Kind::Bundle => {
-            let bundles = c.bundles;
-            append(out, at, bundles, ends)
+            let count = c.bundles.count;
+            let items = c.bundles.items;
+            append(out, at, ends, &items[..count])
         }
         Kind::Package => {
             let packages = c.packages;
@@ -245,7 +231,7 @@ pub fn holders(table: &[u64], links: &[u16], number: u64) -> u64
     set
 }
 
-// For each region, beside those given, the regions from which the entries that have a number lead to it.
+// For each region, beside those given, the regions from which the entries that have a number go to it.
 pub fn predecessors(
     table: &[u64],
     links: &[u16],
@@ -253,7 +239,7 @@ pub fn predecessors(
     given: [u64; REGIONS],
 ) -> [u64; REGIONS]
     requires { ⌜ Chains.Chained (now table) (now links) ⌝ }
-    ensures { λ r. ⌜ ((leads : ℕ → ℕ → Bool) → given ≡ Tables.led-by leads → r ≡ Tables.led-by (Tables.leads-also leads (now (table .entry)) number)) ⌝ }
+    ensures { λ r. ⌜ ((step : ℕ → ℕ → Bool) → given ≡ Tables.predecessors-by step → r ≡ Tables.predecessors-by (Tables.step-or step (now (table .entry)) number)) ⌝ }
 {
     let mut sets = given;
     let mut i = first_of(links, number);

@@ -2,7 +2,7 @@
 use Rattle.region_graph.proofs.Graph.empty as g
 use Rattle.region_graph.proofs.Graph.empty.Symbol as g-def
 use Rattle.region_graph.proofs.Graph.empty.Met as g-thm
-use Rattle.region_host.proofs.Names.{refl, [], graph}
+use Rattle.region_host.proofs.Names.{refl, graph}
 use Rattle.region_host.proofs.Storing.{spec}
 use Rattle.region_host.proofs.changes.region_empty.Key as key
 use Rattle.region_host.proofs.changes.region_empty.Statement as stated
@@ -11,6 +11,6 @@ use Rattle.region_host.proofs.changes.region_empty.Code as code
 pub region-empty-spec : {M : Type 1} → stated.statement M
 unfolding code.routine
 region-empty-spec 𝓤 H 𝓜 𝓖 𝓡 =
-    spec graph 0 [] 𝓤 H 𝓜 𝓖 𝓡 (g.clauses 𝓤 H (𝓖 .A) (𝓜 .mem) (𝓡 .run))
+    spec graph 𝓤 H 𝓜 𝓖 𝓡 (g.clauses 𝓤 H (𝓖 .A) (𝓜 .mem) (𝓡 .run))
     code.env key.name code.function (code.unfolded 𝓤 H 𝓜 𝓡)
-    g-def.name (λ κs. (refl, refl)) g-def.routine code.calls-region-graph·Graph·empty (g-thm.met 𝓤 H 𝓜 𝓖 𝓡)
+    g-def.name (refl, refl) g-def.routine code.calls-region-graph·Graph·empty (g-thm.met 𝓤 H 𝓜 𝓖 𝓡)

@@ -1,12 +1,10 @@
 -- `region_host::queries::resolve_by_value` meets its contract. Assumes nothing.
-use borrow.Author.Needs.{needs}
-use Rattle.region_host.specs.CNumbers.{kept-value}
-use Rattle.region_host.proofs.Outcomes.{handed-on}
+use Rattle.region_host.proofs.Names.{needs, kept-value, handed-on}
 use Rattle.region_host.proofs.queries.resolve_by_value.Statement.{statement}
 use Rattle.region_host.proofs.queries.resolve_by_value.Tie as tie
 
-returns : tie.Need-returns
-returns c = handed-on kept-value (c .kept-value .ensures) (c .before .before .before .resolve .ensures)
-
 pub resolve-by-value-spec : {M : Type 1} → statement M
-resolve-by-value-spec = tie.close (tie.spec (λ c κs. search needs) (λ c κs. search needs) (λ c. search needs) returns)
+resolve-by-value-spec =
+    tie.close
+    (tie.spec (λ c κs. search needs) (λ c κs. search needs) (λ c. search needs)
+    (λ c. handed-on kept-value (c .kept-value .ensures) (c .before .before .before .resolve .ensures)))

@@ -1,12 +1,10 @@
 -- `region_host::queries::route_by_value` meets its contract. Assumes nothing.
-use borrow.Author.Needs.{needs}
-use Rattle.region_host.specs.CNumbers.{routed-value}
-use Rattle.region_host.proofs.Outcomes.{handed-on}
+use Rattle.region_host.proofs.Names.{needs, routed-value, handed-on}
 use Rattle.region_host.proofs.queries.route_by_value.Statement.{statement}
 use Rattle.region_host.proofs.queries.route_by_value.Tie as tie
 
-returns : tie.Need-returns
-returns c = handed-on routed-value (c .routed-value .ensures) (c .before .before .before .route .ensures)
-
 pub route-by-value-spec : {M : Type 1} → statement M
-route-by-value-spec = tie.close (tie.spec (λ c κs. search needs) (λ c κs. search needs) (λ c. search needs) returns)
+route-by-value-spec =
+    tie.close
+    (tie.spec (λ c κs. search needs) (λ c κs. search needs) (λ c. search needs)
+    (λ c. handed-on routed-value (c .routed-value .ensures) (c .before .before .before .route .ensures)))

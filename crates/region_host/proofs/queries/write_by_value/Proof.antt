@@ -1,12 +1,10 @@
 -- `region_host::queries::write_by_value` meets its contract. Assumes nothing.
-use borrow.Author.Needs.{needs}
-use Rattle.region_host.specs.CNumbers.{written-value}
-use Rattle.region_host.proofs.Outcomes.{handed-on}
+use Rattle.region_host.proofs.Names.{needs, written-value, handed-on}
 use Rattle.region_host.proofs.queries.write_by_value.Statement.{statement}
 use Rattle.region_host.proofs.queries.write_by_value.Tie as tie
 
-returns : tie.Need-returns
-returns c = handed-on written-value (c .written-value .ensures) (c .before .before .before .write .ensures)
-
 pub write-by-value-spec : {M : Type 1} → statement M
-write-by-value-spec = tie.close (tie.spec (λ c κs. search needs) (λ c κs. search needs) (λ c. search needs) returns)
+write-by-value-spec =
+    tie.close
+    (tie.spec (λ c κs. search needs) (λ c κs. search needs) (λ c. search needs)
+    (λ c. handed-on written-value (c .written-value .ensures) (c .before .before .before .write .ensures)))

@@ -1,5 +1,6 @@
 use borrow.Author.Needs.{needs}
 use mathlib.Core.Path.{_≡_, refl, sym, ap, _∙_}
+use mathlib.Core.Bool.{true}
 use mathlib.Core.List.{List}
 use Prim.Native.Nat.{ℕ}
 use borrow.Author.Tests.{not-true, not-false}
@@ -14,20 +15,15 @@ use Rattle.region_routes.proofs.hooks.event.Statement.{statement}
 use Rattle.region_routes.proofs.hooks.event.Tie as tie
 
 -- whether every listener is installed
-asked : (c : tie.After-all-installed) → (let s = c .before .before .before .before .before .before .before .before .before .before .args in
-    all-installed (meaning (s .graph)) (s .listeners .now) ≡ c .all-installed .result)
+asked : (c : tie.After-all-installed) → (let s = c .before .before .before .before .before .before .before .before .before .before .args in all-installed (meaning (s .graph)) (s .listeners .now) ≡ c .all-installed .result)
 asked c =
-    let b = c .before .before .before .before .before .before in
-    let s = b .before .before .before .before in
+    let s = c .before .before .before .before .before .before .before .before .before .before in
     sym
     (c .all-installed .ensures
-    ∙ placed-installed (meaning (s .args .graph)) (place-table (s .pre .good) (b .offers .ensures .table)) (s .args .listeners .now))
+    ∙ placed-installed (meaning (s .args .graph)) (place-table (s .pre .good) (c .before .before .before .before .before .before .offers .ensures .table)) (s .args .listeners .now))
 
-chained-requires : tie.Need-chained-requires
-chained-requires c κs = holding-few (c .before .before .offers .ensures)
-
-all-installed-requires : tie.Need-all-installed-requires
-all-installed-requires c κs = c .before .before .chained .ensures
+installed : (c : tie.Else1) → (let s = c .before .before .before .before .before .before .before .before .before .before .before .args in all-installed (meaning (s .graph)) (s .listeners .now) ≡ true)
+installed c = asked (c .before) ∙ not-false _ (c .if1 .left)
 
 returns : tie.Need-returns
 returns c =
@@ -37,29 +33,21 @@ returns c =
 returns-2 : tie.Need-returns-2
 returns-2 c =
     let s = c .before .before .before .before .before .before .before .before .before .before .before .before .args in
-    event-cramped (meaning (s .graph)) (s .kind) (s .listeners .now) (s .number) (s .out .now)
-    (asked (c .before .before) ∙ not-false _ (c .before .if1 .left)) (c .if2 .taken)
-
-keep-standing-requires : tie.Need-keep-standing-requires
-keep-standing-requires c κs =
-    let a = c .before .before .before .before .before in
-    (a .before .before .before .before .before .chained .ensures, a .if2 .left)
+    event-cramped (meaning (s .graph)) (s .kind) (s .listeners .now) (s .number) (s .out .now) (installed (c .before)) (c .if2 .taken)
 
 returns-3 : tie.Need-returns-3
 returns-3 c =
     let d = c .before .before .before .before .before .before in
-    let a = d .before .before in
-    let b = a .before .before .before .before .before .before .before .before in
-    let s = b .before .before .before .before in
+    let q = d .before .before in
+    let s = q .before .before .before .before .before .before .before .before .before .before .before .before in
     let m = meaning (s .args .graph) in
     let n = s .args .number in
-    event-answers m (s .args .kind) (s .args .listeners .now) n (s .args .out .now)
-    (asked (a .before .before) ∙ not-false _ (a .before .if1 .left)) (a .if2 .left)
+    event-answers m (s .args .kind) (s .args .listeners .now) n (s .args .out .now) (installed (q .before)) (q .if2 .left)
     (c .before .before .keep-standing .ensures
     ∙ ap (λ (ls : List ℕ). kept-outcome ls (s .args .out .now))
     (keep-stands m (item (kind-number (s .args .kind)) n) (s .pre .good)
     (d .regions-seeing .ensures ∙ ap (λ (k : ℕ). set-of (sees m (item k n))) (d .before .kind-number .ensures))
-    (place-table (s .pre .good) (b .offers .ensures .table)) (s .args .listeners .now)))
+    (place-table (s .pre .good) (q .before .before .before .before .before .before .before .before .offers .ensures .table)) (s .args .listeners .now)))
 
 pub event-spec : {M : Type 1} → statement M
 event-spec =
@@ -69,11 +57,11 @@ event-spec =
     (λ c κs. (c .before .before .before .pre, refl))
     (λ c. c .before .offers .ensures .room)
     (λ c. holding-long (c .before .before .offers .ensures))
-    chained-requires
+    (λ c κs. holding-few (c .before .before .offers .ensures))
     (λ c. c .before .before .before .offers .ensures .room)
     (λ c. holding-long (c .before .before .before .before .offers .ensures))
     (λ c. search needs)
-    all-installed-requires
+    (λ c κs. c .before .before .chained .ensures)
     returns
     returns-2
     (λ c κs. search needs)
@@ -81,6 +69,6 @@ event-spec =
     (λ c. c .before .before .before .before .before .before .before .before .before .before .offers .ensures .room)
     (λ c. holding-long (c .before .before .before .before .before .before .before .before .before .before .before .offers .ensures))
     (λ c. search needs)
-    keep-standing-requires
+    (λ c κs. (c .before .before .before .before .before .before .before .before .before .before .chained .ensures, c .before .before .before .before .before .if2 .left))
     (λ c. search needs)
     returns-3)

@@ -22,53 +22,22 @@ inside : (c : tie.After-lowest Inv-loop μ-loop) → In (c .before .before .loop
 inside c = lowest-in (c .before .before .loop .inv .word) (above-none _ (c .before .loop-test .taken)) (c .lowest .ensures)
 
 low : (c : tie.After-lowest Inv-loop μ-loop) → c .lowest .result < regions
-low c = let a = c .before .before in a .before .before .pre .1 .small _ (a .loop .inv .within _ (inside c))
+low c = c .before .before .before .before .pre .1 .small _ (c .before .before .loop .inv .within _ (inside c))
 
 -- what a turn takes out of `left`
-turn : (c : tie.After-difference Inv-loop μ-loop)
-    → Taken (c .before .before .before .before .before .before .before .loop .left) (c .before .before .before .before .before .lowest .result) (c .difference .result)
+turn : (c : tie.After-difference Inv-loop μ-loop) → Taken (c .before .before .before .before .before .before .before .loop .left) (c .before .before .before .before .before .lowest .result) (c .difference .result)
 turn c =
     let a = c .before .before .before .before .before .before .before in
     taken (λ n h. a .before .before .pre .1 .small n (a .loop .inv .within n h)) (a .loop .inv .word) (above-none _ (c .before .before .before .before .before .before .loop-test .taken))
     (c .before .before .before .before .before .lowest .ensures) (c .before .singleton .ensures) (c .difference .ensures)
 
-loop-holds : tie.Need-loop-holds Inv-loop μ-loop
-loop-holds c = looking (search needs)
-
-lowest-requires : tie.Need-lowest-requires Inv-loop μ-loop
-lowest-requires c κs = tt
-
-cast-at : tie.Need-cast-at Inv-loop μ-loop
-cast-at c = omega (arith, low c)
-
-mul-has : tie.Need-mul-has Inv-loop μ-loop
-mul-has c = omega (arith, low c)
-
-shared-slice-read-has : tie.Need-shared-slice-read-has Inv-loop μ-loop
-shared-slice-read-has c = omega (arith, low (c .before), c .before .before .before .before .before .pre .0)
-
-has-requires : tie.Need-has-requires Inv-loop μ-loop
-has-requires c κs = tt
-
 returns : tie.Need-returns Inv-loop μ-loop
 returns c =
     next-here (c .before .before .before .before .before .loop .inv) (c .before .before .before .lowest .ensures) (inside (c .before .before .before)) (has-in _ _ (sym (c .before .has .ensures) ∙ c .if1 .taken))
 
-singleton-requires : tie.Need-singleton-requires Inv-loop μ-loop
-singleton-requires c κs = tt
-
-difference-requires : tie.Need-difference-requires Inv-loop μ-loop
-difference-requires c κs = tt
-
-loop-less : tie.Need-loop-less Inv-loop μ-loop
-loop-less c = turn c .less
-
 loop-again : tie.Need-loop-again Inv-loop μ-loop
 loop-again c =
     next-later (c .before .before .before .before .before .before .before .loop .inv) (turn c) (has-not _ _ (c .before .before .before .before .before .before .before .before .before .pre .1 .inside) (sym (c .before .before .before .has .ensures) ∙ c .before .before .if1 .left))
-
-returns-2 : tie.Need-returns-2 Inv-loop μ-loop
-returns-2 c = absurd (next-found (c .before .before .before .pre .1) (rw (c .loop-test .left) at (c .before .loop .inv)))
 
 pub next-to-spec : {M : Type 1} → statement M
 next-to-spec =
@@ -76,15 +45,15 @@ next-to-spec =
     (tie.spec
     Inv-loop
     μ-loop
-    loop-holds
-    lowest-requires
-    cast-at
-    mul-has
-    shared-slice-read-has
-    has-requires
+    (λ c. looking (search needs))
+    (λ c κs. tt)
+    (λ c. omega (arith, low c))
+    (λ c. omega (arith, low c))
+    (λ c. omega (arith, low (c .before), c .before .before .before .before .before .pre .0))
+    (λ c κs. tt)
     returns
-    singleton-requires
-    difference-requires
-    loop-less
+    (λ c κs. tt)
+    (λ c κs. tt)
+    (λ c. turn c .less)
     loop-again
-    returns-2)
+    (λ c. absurd (next-found (c .before .before .before .pre .1) (rw (c .loop-test .left) at (c .before .loop .inv)))))

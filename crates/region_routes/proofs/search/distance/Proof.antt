@@ -15,18 +15,6 @@ Inv-loop region found d₀ d = (j : ℕ) × (d ≤ j) × (j ≤ found .deep) × 
 abbrev μ-loop : tie.MeasureT-loop
 μ-loop region found d₀ d = regions - d
 
--- layer `d` does not have the region
-passed : (c : tie.Else1 Inv-loop μ-loop)
-    → At (c .before .before .before .before .before .args .t1 .sets) (c .before .before .before .before .loop .d)
-    (c .before .before .before .before .before .args .region) → ⊥
-passed c = has-not _ _ (c .before .before .before .before .before .pre .inside) (sym (c .before .has .ensures) ∙ c .if1 .left)
-
-loop-holds : tie.Need-loop-holds Inv-loop μ-loop
-loop-holds c = let r = c .pre .some-layer in (r .0, search needs, r .1, r .2)
-
-has-requires : tie.Need-has-requires Inv-loop μ-loop
-has-requires c κs = tt
-
 returns : tie.Need-returns Inv-loop μ-loop
 returns c =
     let v = c .before .before .before .before .loop .inv in
@@ -35,7 +23,7 @@ returns c =
 loop-again : tie.Need-loop-again Inv-loop μ-loop
 loop-again c =
     let v = c .before .before .before .before .loop .inv in
-    let other : c .before .before .before .before .loop .d ≡ v .0 → ⊥ = λ e. passed c (rw e (v .3)) in
+    let other : c .before .before .before .before .loop .d ≡ v .0 → ⊥ = λ e. has-not _ _ (c .before .before .before .before .before .pre .inside) (sym (c .before .has .ensures) ∙ c .if1 .left) (rw e (v .3)) in
     (v .0, omega (arith, v .1), v .2, v .3)
 
 returns-2 : tie.Need-returns-2 Inv-loop μ-loop
@@ -47,10 +35,10 @@ distance-spec =
     (tie.spec
     Inv-loop
     μ-loop
-    loop-holds
+    (λ c. let r = c .pre .some-layer in (r .0, search needs, r .1, r .2))
     (λ c. search needs)
     (λ c. search needs)
-    has-requires
+    (λ c κs. tt)
     returns
     (λ c. search needs)
     (λ c. search needs)

@@ -5,9 +5,9 @@ use Prim.Native.Nat.{ℕ}
 use Rattle.region_graph.specs.Promise.{holder-set}
 use Rattle.region_graph.specs.Model.{Model}
 use Rattle.region_routes.specs.Hooks.{item}
-use Rattle.region_routes.specs.Tables.{Tables, everything-number, held-in, leads-in, leads-also, led-by}
+use Rattle.region_routes.specs.Tables.{Tables, everything-number, held-in, step-in, step-or, predecessors-by}
 use Rattle.region_routes.proofs.Judging.{reached-sees, none-sees}
-use Rattle.region_routes.proofs.TableLaws.{held-table, led-table, held-small, led-sets}
+use Rattle.region_routes.proofs.TableLaws.{held-table, preceding-table, held-small, preceding-sets}
 use Rattle.region_routes.proofs.search.regions_seeing_by.Statement.{statement}
 use Rattle.region_routes.proofs.search.regions_seeing_by.Tie as tie
 
@@ -19,11 +19,11 @@ held c m k t =
     c .holders .ensures ∙ ap (held-in (s .offered .now)) (c .before .wide .ensures .0) ∙ held-table t (s .number)
 
 -- the sets that the entries for all numbers and those of the number give
-led : (c : tie.After-predecessors) → (let p = c .before .before .before .before .before .before .before .before .args .passing .now in
-    c .predecessors .result ≡ led-by (leads-also (leads-in p everything-number) p (c .before .before .before .wide .result)))
-led c =
+preceding : (c : tie.After-predecessors) → (let p = c .before .before .before .before .before .before .before .before .args .passing .now in
+    c .predecessors .result ≡ predecessors-by (step-or (step-in p everything-number) p (c .before .before .before .wide .result)))
+preceding c =
     let s = c .before .before .before .before .before .before .before .before in
-    c .predecessors .ensures (leads-in (s .args .passing .now) everything-number) (s .pre .1 .1)
+    c .predecessors .ensures (step-in (s .args .passing .now) everything-number) (s .pre .1 .1)
 
 holders-requires : tie.Need-holders-requires
 holders-requires c κs = c .before .before .before .before .before .pre .0
@@ -42,17 +42,17 @@ search-requires c κs =
     let s = a .before .before .before .before .before .before .args in
     let p = s .passing .now in
     let n = a .before .wide .result in
-    (rw (led (c .before)) (led-sets (leads-also (leads-in p everything-number) p n)), rw (a .holders .ensures) (held-small (s .offered .now) n))
+    (rw (preceding (c .before)) (preceding-sets (step-or (step-in p everything-number) p n)), rw (a .holders .ensures) (held-small (s .offered .now) n))
 
 returns-2 : tie.Need-returns-2
 returns-2 c =
     let a = c .before .before .before .before in
     let s = a .before .before .before .before .before .before .args in
     let p = s .passing .now in
-    let led-for : ℕ → List ℕ = λ n. led-by (leads-also (leads-in p everything-number) p n) in
+    let preceding-for : ℕ → List ℕ = λ n. predecessors-by (step-or (step-in p everything-number) p n) in
     λ m k t.
     reached-sees m (item k (s .number)) (t .legal)
-    (rw (held a m k t) at (rw (led (c .before .before) ∙ ap led-for (a .before .wide .ensures .0) ∙ led-table t (s .number)) at (c .search .ensures)))
+    (rw (held a m k t) at (rw (preceding (c .before .before) ∙ ap preceding-for (a .before .wide .ensures .0) ∙ preceding-table t (s .number)) at (c .search .ensures)))
 
 pub regions-seeing-by-spec : {M : Type 1} → statement M
 regions-seeing-by-spec =

@@ -19,27 +19,6 @@ abbrev μ-loop : tie.MeasureT-loop
 fits : (c : tie.Else1 Inv-loop μ-loop) → suc (c .before .before .loop .deep) < regions
 fits c = room (c .before .before .loop .inv) (c .before .layer .ensures) (omega arith)
 
-loop-holds : tie.Need-loop-holds Inv-loop μ-loop
-loop-holds c = begin (search needs) refl refl
-
-layer-requires : tie.Need-layer-requires Inv-loop μ-loop
-layer-requires c κs = (c .before .before .pre .0, last-regions (c .loop .inv))
-
-returns : tie.Need-returns Inv-loop μ-loop
-returns c = whole (c .before .before .loop .inv) (c .before .layer .ensures) (c .if1 .taken)
-
-mul-sets : tie.Need-mul-sets Inv-loop μ-loop
-mul-sets c = omega (arith, fits c)
-
-array-write-sets-2 : tie.Need-array-write-sets-2 Inv-loop μ-loop
-array-write-sets-2 c = omega (arith, fits c)
-
-loop-less : tie.Need-loop-less Inv-loop μ-loop
-loop-less c = omega (arith, fits c)
-
-loop-again : tie.Need-loop-again Inv-loop μ-loop
-loop-again c = rw add-one (turn (c .before .before .loop .inv) (c .before .layer .ensures) (omega arith))
-
 pub search-spec : {M : Type 1} → statement M
 search-spec =
     tie.close
@@ -47,11 +26,11 @@ search-spec =
     Inv-loop
     μ-loop
     (λ c. search needs)
-    loop-holds
-    layer-requires
-    returns
+    (λ c. begin (search needs) refl refl)
+    (λ c κs. (c .before .before .pre .0, last-regions (c .loop .inv)))
+    (λ c. whole (c .before .before .loop .inv) (c .before .layer .ensures) (c .if1 .taken))
     (λ c. search needs)
-    mul-sets
-    array-write-sets-2
-    loop-less
-    loop-again)
+    (λ c. omega (arith, fits c))
+    (λ c. omega (arith, fits c))
+    (λ c. omega (arith, fits c))
+    (λ c. rw add-one (turn (c .before .before .loop .inv) (c .before .layer .ensures) (omega arith))))

@@ -1,80 +1,38 @@
-use mathlib.Core.Path.{_≡_, sym, _∙_}
-use mathlib.Core.List.{map}
-use Prim.Native.Nat.{_-_, _≤_}
+use mathlib.Core.Path.{sym, _∙_}
+use Prim.Native.Nat.{_-_}
 use native.Mathlib.Omega.{arith}
 use borrow.Author.Needs.{needs}
-use lib.ListN.{length, take}
-use Rattle.region_graph.specs.Size.{most-bundles, most-provided}
-use Rattle.region_graph.specs.Lists.{All, concat-map}
-use Rattle.region_graph.specs.Record.{meaning, store-bundle, bundle-in, no-bundle}
-use Rattle.region_graph.proofs.Arrays.{Filled}
-use Rattle.region_graph.proofs.Storing.{bundles-each}
+use Rattle.region_graph.specs.Record.{meaning, bundle-in, no-bundle}
 use Rattle.region_routes.specs.Hooks.{kind-number}
-use Rattle.region_routes.specs.Tables.{most-entries, offer, Appended}
-use Rattle.region_routes.proofs.TableLaws.{appended-none, gathered-step, gathered-room, gathered-end, offers-few, bundle-placed}
+use Rattle.region_routes.specs.Tables.{offer}
+use Rattle.region_routes.proofs.TableLaws.{Gathering, gathering-start, gathering-room, gathering-next, gathering-end}
+use Rattle.region_routes.proofs.TableLaws.{OffersFrom, offers-from, bundle-placed}
 use Rattle.region_routes.proofs.tables.offers.Statement.{statement}
 use Rattle.region_routes.proofs.tables.offers.Tie as tie
 
 abbrev Inv-loop : tie.InvT-loop
-Inv-loop items₀ kind bundles count n₀ i₀ items n i =
-    (i ≤ count) × (count ≤ most-bundles) × (length items ≡ most-entries)
-    × Appended items₀ 0 (concat-map (offer (kind-number kind)) (take i (map bundle-in (take count bundles)))) items n
+Inv-loop items₀ kind bundles count n₀ i₀ items n i = Gathering bundle-in (offer (kind-number kind)) bundles count items₀ i items n
 
 abbrev μ-loop : tie.MeasureT-loop
 μ-loop items₀ kind bundles count n₀ i₀ items n i = count - i
 
--- the places hold the model's bundles, each as it is stored
-filled : (c : tie.After-bundle-count Inv-loop μ-loop) → (let m = meaning (c .before .before .before .args .graph) in
-    Filled store-bundle (store-bundle no-bundle) most-bundles (c .before .bundle-places .result) (c .bundle-count .result) (m .bundles))
-filled c = record {
-  shape = c .before .bundle-places .ensures;
-  counted = c .bundle-count .ensures;
-  room = c .before .before .before .pre .0 .good .bundles-legal .few;
-}
-
-each : (s : tie.Start Inv-loop μ-loop) → All (λ b. bundle-in (store-bundle b) ≡ b) (meaning (s .args .graph) .bundles)
-each s = bundles-each (meaning (s .args .graph) .bundles)
-
-loop-holds : tie.Need-loop-holds Inv-loop μ-loop
-loop-holds c =
-    let h = filled c in
-    (omega arith, omega (arith, h .counted, h .room), c .before .before .before .pre .1, appended-none)
+from : (c : tie.After-bundle-count Inv-loop μ-loop) → (let s = c .before .before .before in
+    OffersFrom (meaning (s .args .graph)) (s .pre .0 .good) (kind-number (s .args .kind)) (c .before .bundle-places .result) (c .bundle-count .result))
+from c = let s = c .before .before .before in offers-from (meaning (s .args .graph)) (s .pre .0 .good) (kind-number (s .args .kind)) (c .before .bundle-places .ensures) (c .bundle-count .ensures)
 
 append-offer-requires : tie.Need-append-offer-requires Inv-loop μ-loop
 append-offer-requires c κs =
-    let a = c .before .before .before in
-    let s = a .before .before .before .before in
-    let m = meaning (s .args .graph) in
-    let g = s .pre .0 .good in
-    let h = filled (a .before) in
-    let k = kind-number (s .args .kind) in (
-      bundle-placed m g h (a .loop .i) _ (omega arith),
-      gathered-room bundle-in (offer k) (each s) h (a .loop .i) (omega arith) _ no-bundle (a .loop .inv .3)
-          most-provided (omega (arith, a .loop .inv .2)) (offers-few m g k),
+    let t = c .before .before in
+    let s = t .before .before .before .before .before in
+    let f = from (t .before .before) in (
+      bundle-placed (meaning (s .args .graph)) (s .pre .0 .good) (f .filled) (t .before .loop .i) _ (t .loop-test .taken),
+      gathering-room f (t .before .loop .inv) _ no-bundle (t .loop-test .taken),
     )
 
 loop-again : tie.Need-loop-again Inv-loop μ-loop
 loop-again c =
-    let a = c .before .before .before .before .before .before in
-    let s = a .before .before .before .before in (
-      omega arith,
-      a .loop .inv .1,
-      search needs,
-      gathered-step bundle-in (offer (kind-number (s .args .kind))) (each s) (filled (a .before)) (a .loop .i) (omega arith) _ no-bundle
-          (a .loop .inv .3) (c .before .before .append-offer .ensures),
-    )
-
-same-length : tie.Need-same-length Inv-loop μ-loop
-same-length c = c .before .loop .inv .2 ∙ sym (c .before .before .before .before .before .pre .1)
-
-returns : tie.Need-returns Inv-loop μ-loop
-returns c =
-    let a = c .before in
-    let s = a .before .before .before .before in
-    let k = kind-number (s .args .kind) in
-    let l : a .before .bundle-count .result ≤ a .loop .i = omega arith in
-    gathered-end bundle-in (offer k) (each s) (filled (a .before)) most-provided l (omega arith) (a .loop .inv .2)
-    (offers-few (meaning (s .args .graph)) (s .pre .0 .good) k) (a .loop .inv .3)
+    let t = c .before .before .before .before .before in
+    gathering-next (from (t .before .before)) (t .before .loop .inv) _ no-bundle (t .loop-test .taken) (search needs) (c .before .before .append-offer .ensures)
 
 pub offers-spec : {M : Type 1} → statement M
 offers-spec =
@@ -84,12 +42,12 @@ offers-spec =
     μ-loop
     (λ c κs. c .before .pre .0)
     (λ c κs. c .before .before .pre .0)
-    loop-holds
+    (λ c. gathering-start (c .before .before .before .pre .1))
     (λ c. search needs)
     (λ c. search needs)
     (λ c. search needs)
     append-offer-requires
     (λ c. search needs)
     loop-again
-    same-length
-    returns)
+    (λ c. c .before .loop .inv .long ∙ sym (c .before .before .before .before .before .pre .1))
+    (λ c. gathering-end (from (c .before .before)) (c .before .loop .inv) (omega arith)))

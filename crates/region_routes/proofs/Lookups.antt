@@ -1,0 +1,105 @@
+-- What a walk along a chain looks up: the regions that the entries of a number name, the sets of predecessors, the place of the first entry.
+use mathlib.Core.Path.{_≡_, refl, sym, ap, ap₂, _∙_}
+use mathlib.Core.Bool.{Bool, true, false, _&&_, _||_, and-true, and-false, or-false, or-assoc}
+use mathlib.Core.List.{List}
+use Prim.Native.Nat.{ℕ, _+_, _≤_, _<_}
+use native.Mathlib.Numerals.{add-one}
+use native.Mathlib.Omega.{arith}
+use lib.Bits.{bitOr}
+use lib.Dec.{eqb}
+use lib.ListN.{length, getD, take, drop, set, drop-of-length-le}
+use lib.Seq.{drop-cons, take-all}
+use borrow.Author.Tests.{eq-eqb, ne-eqb}
+use Rattle.region_graph.specs.Lists.{pick}
+use Rattle.region_graph.specs.Sets.{singleton}
+use Rattle.region_graph.specs.declared.Place.the-variants.{Within, Nowhere}
+use Rattle.region_graph.proofs.Views.{exists-more, sets-more, held, held-none, held-took, held-left}
+use Rattle.region_routes.specs.Tables.{number-in, place-in, source-in, target-in, held-in, step-in, step-or, predecessors-by, place-at}
+use Rattle.region_routes.proofs.Chaining.{Skips}
+
+-- the entries of the number before place i name the regions of the set
+pub record Named (es : List ℕ) (n set i : ℕ) : Type 0 where
+  pub named : set ≡ held place-in (λ e. eqb (number-in e) n) (take i es)
+
+module _ {es : List ℕ} {n : ℕ} where
+  pub named-start : Named es n 0 0
+  named-start = record { named = held-none place-in (λ e. eqb (number-in e) n) }
+
+  pub named-skips : Skips (Named es n) es n
+  named-skips set i h q p = record { named = p .named ∙ held-left place-in (λ e. eqb (number-in e) n) es i 0 h q }
+
+  module _ {set i : ℕ} (p : Named es n set i) where
+    pub named-more : {x : ℕ} → i < length es → number-in (getD es i 0) ≡ n → x ≡ singleton (place-in (getD es i 0)) → Named es n (bitOr set x) (i + 1)
+    named-more h q e = record {
+      named = ap₂ bitOr (p .named) e ∙ held-took place-in (λ e. eqb (number-in e) n) es i 0 h (eq-eqb (number-in (getD es i 0)) n q);
+    }
+
+    pub named-end : length es ≤ i → set ≡ held-in es n
+    unfolding held
+    named-end l = p .named ∙ ap (held place-in (λ e. eqb (number-in e) n)) (take-all i es l)
+
+-- the place of the number is that of an entry from place i on; the walk has no state
+pub record Later (es : List ℕ) (n : ℕ) (x : Unit {0}) (i : ℕ) : Type 0 where
+  pub later : place-at es n ≡ place-at (drop i es) n
+
+module _ {es : List ℕ} {n : ℕ} where
+  later-by : (i : ℕ) → i < length es → Later es n tt i
+      → place-at es n ≡ pick (eqb (number-in (getD es i 0)) n) (Within (place-in (getD es i 0))) (place-at (drop (i + 1) es) n)
+  later-by i h p = p .later ∙ rw add-one (ap (λ (t : List ℕ). place-at t n) (drop-cons es i 0 h))
+
+  pub later-skips : Skips (Later es n) es n
+  later-skips x i h q p = record { later = later-by i h p ∙ rw q }
+
+  module _ {i : ℕ} (p : Later es n tt i) where
+    pub later-here : i < length es → number-in (getD es i 0) ≡ n → Within (place-in (getD es i 0)) ≡ place-at es n
+    later-here h q = sym (later-by i h p ∙ rw (eq-eqb (number-in (getD es i 0)) n q))
+
+    pub later-end : length es ≤ i → Nowhere ≡ place-at es n
+    later-end l = sym (p .later ∙ rw (drop-of-length-le es l))
+
+-- the sets are those given, with the sources of the entries of the number before place i
+pub record Preceding (es : List ℕ) (n : ℕ) (given sets : List ℕ) (i : ℕ) : Type 0 where
+  pub preceding : (step : ℕ → ℕ → Bool) → given ≡ predecessors-by step → sets ≡ predecessors-by (step-or step (take i es) n)
+
+-- a step by the entries up to and with the one at place i, where b says whether this has the number
+module _ (step : ℕ → ℕ → Bool) (es : List ℕ) (n i : ℕ) (h : i < length es) (b : Bool) (q : eqb (number-in (getD es i 0)) n ≡ b) (r s : ℕ) where
+  step-more : step-or step (take (i + 1) es) n r s
+      ≡ (step-or step (take i es) n r s || ((eqb (source-in (getD es i 0)) r && eqb (target-in (getD es i 0)) s) && b))
+  step-more =
+      ap (λ (t : Bool). step r s || t) (exists-more (λ e. (eqb (source-in e) r && eqb (target-in e) s) && eqb (number-in e) n) es i 0 h)
+      ∙ rw q (sym (or-assoc (step r s) (step-in (take i es) n r s) ((eqb (source-in (getD es i 0)) r && eqb (target-in (getD es i 0)) s) && b)))
+
+  step-same : ((eqb (source-in (getD es i 0)) r && eqb (target-in (getD es i 0)) s) && b) ≡ false
+      → step-or step (take (i + 1) es) n r s ≡ step-or step (take i es) n r s
+  step-same e = step-more ∙ ap (λ (t : Bool). step-or step (take i es) n r s || t) e ∙ or-false (step-or step (take i es) n r s)
+
+module _ {es : List ℕ} {n : ℕ} {given : List ℕ} where
+  pub preceding-start : Preceding es n given given 0
+  preceding-start = record { preceding = λ step g. g ∙ ap predecessors-by (λ j r s. sym (or-false (step r s)) j) }
+
+  pub preceding-skips : Skips (Preceding es n given) es n
+  preceding-skips sets i h q p = record {
+    preceding = λ step g. p .preceding step g
+        ∙ ap predecessors-by (λ j r s. sym (step-same step es n i h false q r s (and-false (eqb (source-in (getD es i 0)) r && eqb (target-in (getD es i 0)) s))) j);
+  }
+
+  module _ {sets : List ℕ} {i : ℕ} (p : Preceding es n given sets i) where
+    -- an entry of the number adds its source to the predecessors of its target
+    pub preceding-more : {x : ℕ} → i < length es → number-in (getD es i 0) ≡ n → x ≡ singleton (source-in (getD es i 0)) → (let s = target-in (getD es i 0) in
+        Preceding es n given (set sets s (bitOr (getD sets s 0) x)) (i + 1))
+    unfolding predecessors-by
+    preceding-more h q t =
+        let e = getD es i 0 in
+        let own = eq-eqb (number-in e) n q in
+        record {
+          preceding = λ step g.
+              sets-more (step-or step (take i es) n) (step-or step (take (i + 1) es) n) (source-in e) (p .preceding step g) t (omega arith)
+              (λ r.
+              step-more step es n i h true own r (target-in e)
+              ∙ ap (λ (b : Bool). step-or step (take i es) n r (target-in e) || b)
+              (rw (eq-eqb (target-in e) (target-in e) refl) (and-true (eqb (source-in e) r && true) ∙ and-true (eqb (source-in e) r))))
+              (λ r s k. step-same step es n i h true own r s (rw (ne-eqb (target-in e) s (λ j. k (sym j)), and-false (eqb (source-in e) r))));
+        }
+
+    pub preceding-end : length es ≤ i → (step : ℕ → ℕ → Bool) → given ≡ predecessors-by step → sets ≡ predecessors-by (step-or step es n)
+    preceding-end l step g = p .preceding step g ∙ ap (λ (t : List ℕ). predecessors-by (step-or step t n)) (take-all i es l)

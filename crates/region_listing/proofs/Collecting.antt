@@ -26,7 +26,7 @@ use Rattle.region_routes.specs.Hooks.{kind-number}
 use Rattle.region_routes.specs.declared.Kind.{Kind}
 use Rattle.region_routes.specs.declared.Kind.the-variants as Kind
 use Rattle.region_archive.proofs.Pieces.{concat-next, concat-within, concat-most}
-use Rattle.region_archive.proofs.Answers.{take-set}
+use Rattle.region_archive.proofs.CountedReads.{take-set}
 use Rattle.region_listing.specs.Listing.{joined, joined-all, different, held}
 use Rattle.region_listing.specs.Counts.{most-different, numbers-in, Collected}
 use Rattle.region_listing.specs.declared.collection.Collection.{Collection}

@@ -1,13 +1,13 @@
--- Arrays whose first places hold a list: filling one, putting an element in the middle, and reading, for any element, store and size.
+-- Arrays whose first places hold a list: filling one, and reading, for any element, store and size.
 use mathlib.Core.Path.{_≡_, refl, sym, ap, _∙_}
 use mathlib.Core.Bool.{Bool, true, false, not}
-use mathlib.Core.List.{List, [], _∷_, _++_, map, append-assoc}
+use mathlib.Core.List.{List, [], _∷_, _++_, map}
 use Prim.Native.Nat.{ℕ, zero, suc, _+_, _-_, _≤_, _<_}
 use native.Mathlib.Numerals.{add-one}
 use native.Mathlib.Nat.{sub-zero}
 use native.Mathlib.Omega.{arith}
-use lib.ListN.{length, getD, take, drop, set, replicate, length-append, length-replicate, length-map, length-set, length-drop, List·getD-append}
-use lib.Seq.{take-suc, drop-cons, set-at, append-snoc, take-at, drop-at, take-length, drop-length, take-take, take-set-le, set-split, getD-take, length-take-le}
+use lib.ListN.{length, getD, take, drop, set, replicate, length-append, length-replicate, length-map, length-set, List·getD-append}
+use lib.Seq.{take-suc, drop-cons, set-at, append-snoc, take-length, length-take-le}
 use Rattle.region_graph.specs.Lists.{All, keep, exists, position}
 use Rattle.region_graph.specs.Record.{places}
 use Rattle.region_graph.proofs.Lists.{all-at, keep-took, keep-left, map-append, exists-found, exists-missed, exists-fewer, exists-as-many}
@@ -137,57 +137,3 @@ drop-replicate x zero (suc k) h = absurd (omega arith)
 drop-replicate x (suc n) (suc k) h =
     let e : n - k ≡ suc n - suc k = omega arith in
     drop-replicate x n k (omega arith) ∙ ap (λ (j : ℕ). replicate j x) e
-
--- the places from i on have moved up by one, and what stands at i does not count
-pub record Opened {A B : Type 0} (store : A → B) (none : B) (size : ℕ) (items : List B) (i : ℕ) (xs : List A) : Type 0 where
-  pub low : take i items ≡ map store (take i xs)
-  pub high : drop (suc i) items ≡ map store (drop i xs) ++ replicate (size - suc (length xs)) none
-  pub long : length items ≡ size
-
-module _ {A B : Type 0} {store : A → B} {none : B} {size : ℕ} where
-  -- nothing has moved yet
-  pub opened-start : {items : List B} {count : ℕ} {xs : List A} → Filled store none size items count xs → count < size → Opened store none size items count xs
-  opened-start {items} {count} {xs} h r =
-      let n = size - suc (length xs) in
-      let e : size - length xs ≡ suc n = omega (arith, h .counted) in
-      let s : items ≡ map store xs ++ (none ∷ replicate n none) = rw (h .shape, e) in
-      record {
-        low = rw (s, h .counted, take-length) (take-at (map store xs) (none ∷ replicate n none) (length xs) (length-map xs store));
-        high =
-            rw (s, h .counted, drop-length)
-            (ap (λ (k : ℕ). drop (suc k) (map store xs ++ (none ∷ replicate n none))) (sym (length-map xs store))
-            ∙ drop-past (map store xs) none (replicate n none));
-        long = filled-length h;
-      }
-
-  -- one element moves up
-  pub opened-step : {items : List B} {xs : List A} (i j : ℕ) (e : B) (d : A) → i ≡ suc j → i ≤ length xs → length xs < size
-      → Opened store none size items i xs → Opened store none size (set items i (getD items j e)) j xs
-  opened-step {items} {xs} i j e d q l r h =
-      let k : i < length items = omega (arith, h .long) in
-      let m : j < length xs = omega arith in
-      let v : getD items j e ≡ store (getD xs j d)
-      = sym (getD-take i items j e (omega arith)) ∙ ap (λ (t : List B). getD t j e) (h .low)
-      ∙ getD-map-in store (take i xs) j e d (rw (length-take-le i xs l) (omega arith)) ∙ ap store (getD-take i xs j d (omega arith)) in
-      record {
-        low =
-            take-set-le j items i (getD items j e) (omega arith) ∙ sym (take-take j i items (omega arith)) ∙ ap (take j) (h .low)
-            ∙ sym (map-take store j (take i xs)) ∙ ap (map store) (take-take j i xs (omega arith));
-        high =
-            rw (set-split items i (getD items j e) k, drop-cons xs j d m, ← q)
-            (drop-at (take i items) (getD items j e ∷ drop (suc i) items) i (length-take-le i items (omega arith)) ∙ rw (v, h .high, q));
-        long = length-set items i (getD items j e) ∙ h .long;
-      }
-
-  -- the free place takes the new element
-  pub opened-end : {items : List B} {count : ℕ} {xs : List A} {b : B} (i : ℕ) (x : A) → count ≡ length xs → i ≤ length xs → length xs < size
-      → b ≡ store x → Opened store none size items i xs → Filled store none size (set items i b) (count + 1) (take i xs ++ (x ∷ drop i xs))
-  opened-end {items} {count} {xs} {b} i x c l r e h =
-      let n : length (take i xs ++ (x ∷ drop i xs)) ≡ suc (length xs)
-      = length-append (take i xs) (x ∷ drop i xs) ∙ rw (length-take-le i xs l, length-drop) (omega arith) in
-      record {
-        shape =
-            rw (set-split items i b (omega (arith, h .long)), e, h .low, h .high, n, map-append store (take i xs) (x ∷ drop i xs), append-assoc);
-        counted = rw (n, c) (add-one (length xs));
-        room = rw n r;
-      }

@@ -1,18 +1,16 @@
--- Arrays whose first places hold a list: filling one, putting an element in the middle, and reading, for any element, store and size.
+-- Arrays whose first places hold a list: filling one, and reading, for any element, store and size.
 use mathlib.Core.Path.{_≡_, refl, sym, ap, _∙_}
 use mathlib.Core.Bool.{Bool, true, false, not}
-use mathlib.Core.List.{List, [], _∷_, _++_, map, append-assoc}
+use mathlib.Core.List.{List, [], _∷_, _++_, map}
 use Prim.Native.Nat.{ℕ, zero, suc, _+_, _-_, _≤_, _<_}
 use native.Mathlib.Numerals.{add-one}
 use native.Mathlib.Nat.{sub-zero}
 use native.Mathlib.Omega.{arith}
-use borrow.Author.Tests.{eq-eqb, ne-eqb}
-use lib.Dec.{eqb}
-use lib.ListN.{length, getD, take, drop, set, replicate, length-append, length-replicate, length-map, length-set, length-drop, List·getD-append}
-use lib.Seq.{take-suc, drop-cons, set-at, append-snoc, take-at, drop-at, take-length, drop-length, take-take, take-set-le, set-split, getD-take, length-take-le}
-use Rattle.region_graph.specs.Lists.{All, keep, exists, member, position}
+use lib.ListN.{length, getD, take, drop, set, replicate, length-append, length-replicate, length-map, length-set, List·getD-append}
+use lib.Seq.{take-suc, drop-cons, set-at, append-snoc, take-length, length-take-le}
+use Rattle.region_graph.specs.Lists.{All, keep, exists, position}
 use Rattle.region_graph.specs.Record.{places}
-use Rattle.region_graph.proofs.Lists.{all-at, exists-here, exists-later, exists-end, keep-took, keep-left, map-append, exists-found, exists-missed, exists-fewer, exists-as-many}
+use Rattle.region_graph.proofs.Lists.{all-at, keep-took, keep-left, map-append, exists-found, exists-missed, exists-fewer, exists-as-many}
 
 module _ {A B : Type 0} (f : A → B) where
   pub map-take : (n : ℕ) (xs : List A) → map f (take n xs) ≡ take n (map f xs)
@@ -42,6 +40,13 @@ module _ {A B : Type 0} {store : A → B} {none : B} {size : ℕ} where
   module _ {items : List B} {count : ℕ} {xs : List A} (h : Filled store none size items count xs) where
     pub filled-length : length items ≡ size
     filled-length = rw (h .shape, length-append, length-replicate, length-map) (omega (arith, h .room))
+
+    -- the used places as a part of the array
+    pub filled-within : count ≤ length items
+    filled-within = omega (arith, h .counted, h .room, filled-length)
+
+    pub filled-part : count ≡ length (take count items)
+    filled-part = sym (length-take-le count items filled-within)
 
     -- what stands at a place
     pub filled-at : (i : ℕ) (e : B) (d : A) → i < count → getD items i e ≡ store (getD xs i d)
@@ -98,68 +103,37 @@ module _ {A B : Type 0} {store : A → B} {none : B} {size : ℕ} where
       → Filled store none size (set items i (store (getD xs i d))) (i + 1) (take (i + 1) xs)
   filled-next xs i d l h r = rw (add-one i, take-suc xs i d l, ← add-one i) (filled-more h (getD xs i d) r)
 
--- a search for a number in the places of a list, however many they are
-module _ {size : ℕ} {items : List ℕ} {count : ℕ} {xs : List ℕ} (h : Filled (λ x. x) 0 size items count xs) (n i : ℕ)
-    (e : member n xs ≡ exists (eqb n) (drop i xs)) where
-  pub number-here : (d : ℕ) → i < count → getD items i d ≡ n → true ≡ member n xs
-  number-here d l q = exists-here (eqb n) xs i 0 (filled-inside h i l) e (eq-eqb n (getD xs i 0) (sym (sym (filled-at h i d 0 l) ∙ q)))
+-- a list is put into places one element after the other, up to i
+pub record Putting {A : Type 0} (xs old new : List A) (i : ℕ) : Type 0 where
+  pub inside : i ≤ length xs
+  pub room : length xs ≤ length old
+  pub long : length new ≡ length old
+  pub shape : new ≡ take i xs ++ drop i old
 
-  pub number-later : (d : ℕ) → i < count → (getD items i d ≡ n → ⊥) → member n xs ≡ exists (eqb n) (drop (i + 1) xs)
-  number-later d l q = exists-later (eqb n) xs i 0 (filled-inside h i l) e (ne-eqb n (getD xs i 0) (λ f. q (filled-at h i d 0 l ∙ sym f)))
+module _ {A : Type 0} {xs old : List A} where
+  pub putting-none : length xs ≤ length old → Putting xs old old 0
+  putting-none h = record { inside = omega arith; room = h; long = refl; shape = refl }
 
-  pub number-end : count ≤ i → false ≡ member n xs
-  number-end l = exists-end (eqb n) xs i e (omega (arith, h .counted))
+  module _ {new : List A} {i : ℕ} (s : Putting xs old new i) where
+    pub putting-next : (d : A) → i < length xs → Putting xs old (set new i (getD xs i d)) (i + 1)
+    putting-next d l = record {
+      inside = omega arith;
+      room = s .room;
+      long = length-set new i (getD xs i d) ∙ s .long;
+      shape =
+          rw (s .shape, drop-cons old i d (omega (arith, s .room)), add-one i, take-suc xs i d l)
+          (set-at (take i xs) (getD old i d) (drop (suc i) old) (getD xs i d) i (length-take-le i xs (omega arith))
+          ∙ sym (append-snoc (take i xs) (getD xs i d) (drop (suc i) old)));
+    }
 
--- the places from i on have moved up by one, and what stands at i does not count
-pub record Opened {A B : Type 0} (store : A → B) (none : B) (size : ℕ) (items : List B) (i : ℕ) (xs : List A) : Type 0 where
-  pub low : take i items ≡ map store (take i xs)
-  pub high : drop (suc i) items ≡ map store (drop i xs) ++ replicate (size - suc (length xs)) none
-  pub long : length items ≡ size
+    pub putting-end : length xs ≤ i → new ≡ xs ++ drop (length xs) old
+    putting-end l =
+        let e : i ≡ length xs = omega (arith, s .inside) in
+        rw (e, take-length) at (s .shape)
 
-module _ {A B : Type 0} {store : A → B} {none : B} {size : ℕ} where
-  -- nothing has moved yet
-  pub opened-start : {items : List B} {count : ℕ} {xs : List A} → Filled store none size items count xs → count < size → Opened store none size items count xs
-  opened-start {items} {count} {xs} h r =
-      let n = size - suc (length xs) in
-      let e : size - length xs ≡ suc n = omega (arith, h .counted) in
-      let s : items ≡ map store xs ++ (none ∷ replicate n none) = rw (h .shape, e) in
-      record {
-        low = rw (s, h .counted, take-length) (take-at (map store xs) (none ∷ replicate n none) (length xs) (length-map xs store));
-        high =
-            rw (s, h .counted, drop-length)
-            (ap (λ (k : ℕ). drop (suc k) (map store xs ++ (none ∷ replicate n none))) (sym (length-map xs store))
-            ∙ drop-past (map store xs) none (replicate n none));
-        long = filled-length h;
-      }
-
-  -- one element moves up
-  pub opened-step : {items : List B} {xs : List A} (i j : ℕ) (e : B) (d : A) → i ≡ suc j → i ≤ length xs → length xs < size
-      → Opened store none size items i xs → Opened store none size (set items i (getD items j e)) j xs
-  opened-step {items} {xs} i j e d q l r h =
-      let k : i < length items = omega (arith, h .long) in
-      let m : j < length xs = omega arith in
-      let v : getD items j e ≡ store (getD xs j d)
-      = sym (getD-take i items j e (omega arith)) ∙ ap (λ (t : List B). getD t j e) (h .low)
-      ∙ getD-map-in store (take i xs) j e d (rw (length-take-le i xs l) (omega arith)) ∙ ap store (getD-take i xs j d (omega arith)) in
-      record {
-        low =
-            take-set-le j items i (getD items j e) (omega arith) ∙ sym (take-take j i items (omega arith)) ∙ ap (take j) (h .low)
-            ∙ sym (map-take store j (take i xs)) ∙ ap (map store) (take-take j i xs (omega arith));
-        high =
-            rw (set-split items i (getD items j e) k, drop-cons xs j d m, ← q)
-            (drop-at (take i items) (getD items j e ∷ drop (suc i) items) i (length-take-le i items (omega arith)) ∙ rw (v, h .high, q));
-        long = length-set items i (getD items j e) ∙ h .long;
-      }
-
-  -- the free place takes the new element
-  pub opened-end : {items : List B} {count : ℕ} {xs : List A} {b : B} (i : ℕ) (x : A) → count ≡ length xs → i ≤ length xs → length xs < size
-      → b ≡ store x → Opened store none size items i xs → Filled store none size (set items i b) (count + 1) (take i xs ++ (x ∷ drop i xs))
-  opened-end {items} {count} {xs} {b} i x c l r e h =
-      let n : length (take i xs ++ (x ∷ drop i xs)) ≡ suc (length xs)
-      = length-append (take i xs) (x ∷ drop i xs) ∙ rw (length-take-le i xs l, length-drop) (omega arith) in
-      record {
-        shape =
-            rw (set-split items i b (omega (arith, h .long)), e, h .low, h .high, n, map-append store (take i xs) (x ∷ drop i xs), append-assoc);
-        counted = rw (n, c) (add-one (length xs));
-        room = rw n r;
-      }
+pub drop-replicate : {A : Type 0} (x : A) (n k : ℕ) → k ≤ n → drop k (replicate n x) ≡ replicate (n - k) x
+drop-replicate x n zero h = rw sub-zero
+drop-replicate x zero (suc k) h = absurd (omega arith)
+drop-replicate x (suc n) (suc k) h =
+    let e : n - k ≡ suc n - suc k = omega arith in
+    drop-replicate x n k (omega arith) ∙ ap (λ (j : ℕ). replicate j x) e

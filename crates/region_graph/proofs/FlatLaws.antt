@@ -5,7 +5,7 @@ use mathlib.Core.List.{List}
 use Prim.Native.Nat.{ℕ, _+_, _-_, _*_, _≤_, _<_}
 use native.Mathlib.Omega.{arith}
 use lib.Dec.{eqb, ltb}
-use lib.ListN.{length, getD, take, drop, length-drop}
+use lib.ListN.{length, getD, take, drop, replicate, length-drop}
 use lib.Seq.{length-take-le, getD-take, getD-drop}
 use borrow.Author.Tests.{eqb-true, eq-eqb}
 use Rattle.region_graph.specs.Size.{regions, most-provided, most-listed, everything-sign}
@@ -14,11 +14,12 @@ use Rattle.region_graph.specs.Sets.{has, members}
 use Rattle.region_graph.specs.Model.{Bundle, Part, Connection, Word, Numbered, NumberedPart, LegalBundle, LegalConnection}
 use Rattle.region_graph.specs.Record.{store-numbers, store-provided, store-part, store-bundle, store-connection}
 use Rattle.region_graph.specs.Flat.{FlatPart}
-use Rattle.region_graph.specs.Decoded.{Decoded, FlatList, FlatBundle, FlatConnection}
+use Rattle.region_graph.specs.Decoded.{Decoded, FlatList, FlatBundle, FlatConnection, Lent, lent, put-list, put-part, ListDecoded, PartDecoded}
+use Rattle.region_graph.specs.Places.{put-into}
 use Rattle.region_graph.specs.declared.numbers.Numbers.{Numbers}
 use Rattle.region_graph.specs.declared.numbers.Provided.{Provided}
 use Rattle.region_graph.proofs.Lists.{false-true, all-of, all-kept}
-use Rattle.region_graph.proofs.Storing.{all-counted, has-member}
+use Rattle.region_graph.proofs.Storing.{all-counted, has-member, filled-put, filled-numbers, filled-provided}
 
 -- a list at a place, and its numbers as a part of the row
 
@@ -34,48 +35,43 @@ module _ (row : List ℕ) (at : ℕ) where
   pub list-same : (xs ys : List ℕ) → FlatList row at xs → FlatList row at ys → xs ≡ ys
   list-same xs ys h k = sym (h .1) ∙ ap (λ (n : ℕ). take n (drop (at + 1) row)) (sym (h .0) ∙ k .0) ∙ k .1
 
-  module _ (most count : ℕ) (c : count ≡ getD row at 0) where
+  module _ (old : List ℕ) (c : ℕ) (e : c ≡ getD row at 0) where
     -- a count past the limit
-    pub list-long : most < count → Decoded length (Numbered most) (FlatList row at) false 0
+    pub list-long : {p : Lent} → length old < c → ListDecoded old row at false p
     list-long l = Decoded.none (λ ns g h. omega (arith, g .few, h .0)) refl
 
     -- the numbers that the count says
-    pub list-found : {ok : Bool} → count ≤ most → at + (most + 1) ≤ length row → ((i : ℕ) → Word (getD row i 0))
-        → ok ≡ ascends ltb (span row at count) → Decoded length (Numbered most) (FlatList row at) ok count
-    list-found {ok} l room words e = go ok (e ∙ ap (ascends ltb) (span-take row at count))
+    pub list-found : {ok : Bool} {new : List ℕ} → c ≤ length old → at + (length old + 1) ≤ length row → ((i : ℕ) → Word (getD row i 0))
+        → new ≡ put-into old (span row at c) → ok ≡ ascends ltb (span row at c) → ListDecoded old row at ok (lent c new)
+    list-found {ok} {new} l room words f a = go ok (a ∙ ap (ascends ltb) (span-take row at c))
       where
         ns : List ℕ
-        ns = take count (drop (at + 1) row)
+        ns = take c (drop (at + 1) row)
 
-        long : length ns ≡ count
-        long = length-take-le count (drop (at + 1) row) (rw length-drop (omega arith))
+        long : length ns ≡ c
+        long = length-take-le c (drop (at + 1) row) (rw length-drop (omega arith))
 
         is : FlatList row at ns
-        is = (sym (long ∙ c), ap (λ (n : ℕ). take n (drop (at + 1) row)) long)
+        is = (sym (long ∙ e), ap (λ (n : ℕ). take n (drop (at + 1) row)) long)
 
         each : All Word ns
         each =
             all-of Word 0 ns (λ i h.
-            subst Word (sym (getD-take count (drop (at + 1) row) i 0 (omega (arith, long)) ∙ getD-drop (at + 1) row i 0)) (words (at + 1 + i)))
+            subst Word (sym (getD-take c (drop (at + 1) row) i 0 (omega (arith, long)) ∙ getD-drop (at + 1) row i 0)) (words (at + 1 + i)))
 
-        go : (b : Bool) → b ≡ ascends ltb ns → Decoded length (Numbered most) (FlatList row at) b count
-        go true t = Decoded.found ns (record { few = omega (arith, long); each = each; ascend = sym t }) is refl (sym long)
+        go : (b : Bool) → b ≡ ascends ltb ns → ListDecoded old row at b (lent c new)
+        go true t =
+            Decoded.found ns (record { few = omega (arith, long); each = each; ascend = sym t }) is refl
+            (λ i. lent (sym long i) ((f ∙ ap (put-into old) (span-take row at c)) i))
         go false t = Decoded.none (λ ys g h. false-true (t ∙ ap (ascends ltb) (list-same ns ys is h) ∙ g .ascend)) refl
-
-  -- and what is stored of them
-  pub list-stored : {B : Type 0} {put : List ℕ → B} {Good : List ℕ → Type 0} {ok : Bool} {b : B} {count : ℕ} → b ≡ put (span row at count)
-      → Decoded length Good (FlatList row at) ok count → Decoded put Good (FlatList row at) ok b
-  list-stored {put = put} {count = count} e (Decoded.found ns g h t f) =
-      Decoded.found ns g h t (e ∙ ap put (span-take row at count) ∙ ap (λ (n : ℕ). put (take n (drop (at + 1) row))) f ∙ ap put (h .1))
-  list-stored e (Decoded.none f t) = Decoded.none f t
 
   -- a part at a place
 
-  pub part-all : {b : Numbers} → getD row at 0 ≡ everything-sign → b ≡ store-part Part.everything → Decoded store-part NumberedPart (FlatPart row at) true b
-  part-all e f = Decoded.found Part.everything tt e refl f
+  pub part-all : {old : List ℕ} → getD row at 0 ≡ everything-sign → PartDecoded old row at true (lent everything-sign old)
+  part-all e = Decoded.found Part.everything tt e refl refl
 
-  pub part-listed : {ok : Bool} {b : Numbers} → (getD row at 0 ≡ everything-sign → ⊥) → Decoded store-numbers (Numbered most-listed) (FlatList row at) ok b
-      → Decoded store-part NumberedPart (FlatPart row at) ok b
+  pub part-listed : {ok : Bool} {old : List ℕ} {p : Lent} → (getD row at 0 ≡ everything-sign → ⊥)
+      → Decoded (put-list old) (Numbered most-listed) (FlatList row at) ok p → PartDecoded old row at ok p
   part-listed n (Decoded.found ns g h t f) = Decoded.found (Part.listed ns) g h t f
   part-listed n (Decoded.none f t) = Decoded.none none t
     where
@@ -88,6 +84,36 @@ module _ (row : List ℕ) (at : ℕ) where
   part-same (Part.listed xs) Part.everything g l h k = absurd (omega (arith, g .few, h .0))
   part-same Part.everything (Part.listed ys) g l h k = absurd (omega (arith, l .few, k .0))
   part-same Part.everything Part.everything g l h k = refl
+
+-- what was put into cleared places is what stores it
+
+abbrev as-numbers : Lent → Numbers
+as-numbers p = record { count = p .count; items = p .items }
+
+abbrev as-provided : Lent → Provided
+as-provided p = record { count = p .count; items = p .items }
+
+module _ {A B : Type 0} {store : A → B} {Good Is : A → Type 0} {ok : Bool} {from : A → Lent} {p : Lent} where
+  decoded-as : (f : Lent → B) → ((x : A) → Good x → f (from x) ≡ store x) → Decoded from Good Is ok p → Decoded store Good Is ok (f p)
+  decoded-as f e (Decoded.found x g h t q) = Decoded.found x g h t (ap f q ∙ e x g)
+  decoded-as f e (Decoded.none n t) = Decoded.none n t
+
+module _ {Is : List ℕ → Type 0} {ok : Bool} {p : Lent} where
+  pub provided-decoded : Decoded (put-list (replicate most-provided 0)) (Numbered most-provided) Is ok p
+      → Decoded store-provided (Numbered most-provided) Is ok (as-provided p)
+  provided-decoded d = decoded-as as-provided (λ xs g. filled-provided (filled-put refl (g .few))) d
+
+  pub numbers-decoded : Decoded (put-list (replicate most-listed 0)) (Numbered most-listed) Is ok p
+      → Decoded store-numbers (Numbered most-listed) Is ok (as-numbers p)
+  numbers-decoded d = decoded-as as-numbers (λ xs g. filled-numbers (filled-put refl (g .few))) d
+
+pub part-decoded : {Is : Part → Type 0} {ok : Bool} {p : Lent} → Decoded (put-part (replicate most-listed 0)) NumberedPart Is ok p
+    → Decoded store-part NumberedPart Is ok (as-numbers p)
+part-decoded d = decoded-as as-numbers stored d
+  where
+    stored : (q : Part) → NumberedPart q → as-numbers (put-part (replicate most-listed 0) q) ≡ store-part q
+    stored (Part.listed xs) g = filled-numbers (filled-put refl (g .few))
+    stored Part.everything g = refl
 
 -- the members of a set as a list
 

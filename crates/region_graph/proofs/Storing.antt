@@ -16,8 +16,12 @@ use Rattle.region_graph.specs.Sets.{bit, has, singleton, members, set-of
 use Rattle.region_graph.specs.Model.{Model, Bundle, Part, Connection, Sorted, Legal, LegalBundle, LegalConnection, NumberedPart, nothing}
 use Rattle.region_graph.specs.Calls.{Call, number, accepted, Words}
 use Rattle.region_graph.specs.Record
-use Rattle.region_graph.specs.Record.{number-places, Stored, Valid, store, meaning, store-numbers, numbers-of, store-provided, provided-of, store-part, part-in, store-bundle, bundle-in, store-bundles, bundles-of, store-connection, connection-in, store-connections, connections-of, no-bundle, no-connection}
-use Rattle.region_graph.specs.Places.{ShortPart, ShortBundle, ShortConnection, NumbersStored, ProvidedStored, PartStored, BundleStored, BundlesStored, ConnectionStored, ConnectionsStored}
+use Rattle.region_graph.specs.Record.{number-places, Stored, Valid, store, meaning, no-bundle, no-connection}
+use Rattle.region_graph.specs.Record.{store-numbers, numbers-of, store-provided, provided-of, store-part, part-in}
+use Rattle.region_graph.specs.Record.{store-bundle, bundle-in, store-bundles, bundles-of}
+use Rattle.region_graph.specs.Record.{store-connection, connection-in, store-connections, connections-of}
+use Rattle.region_graph.specs.Places.{put-into, ShortPart, ShortBundle, ShortConnection}
+use Rattle.region_graph.specs.Places.{NumbersStored, ProvidedStored, PartStored, BundleStored, BundlesStored, ConnectionStored, ConnectionsStored}
 use Rattle.region_graph.specs.declared.numbers.Numbers.{Numbers}
 use Rattle.region_graph.specs.declared.numbers.Provided.{Provided}
 use Rattle.region_graph.specs.declared.bundles.StoredBundle.{StoredBundle}
@@ -31,7 +35,7 @@ use Rattle.region_graph.proofs.Lists.{pick-yes, pick-no, all-map, all-a
 use Rattle.region_graph.proofs.Ascending.{members-back}
 use Rattle.region_graph.proofs.Bits.{has-set, set-ext, set-join, set-leave}
 use Rattle.region_graph.proofs.Legal.{legal-accepted, legal-nothing}
-use Rattle.region_graph.proofs.Arrays.{Filled, filled-none, filled-at, filled-inside}
+use Rattle.region_graph.proofs.Arrays.{Filled, filled-none, filled-at, filled-inside, drop-replicate}
 
 -- the used places hold the list
 took : {A B : Type 0} (f : A → B) (none : B) (n : ℕ) (xs : List A) → take (length xs) (map f xs ++ replicate n none) ≡ map f xs
@@ -168,14 +172,6 @@ listed-stored p s e =
     record { stored = rw f at (s .stored); good = rw f at (s .good) }
 
 -- an empty array of places
-pub no-numbers : {n : Numbers} → n ≡ store-numbers [] → Filled (λ x. x) 0 most-listed (n .items) 0 []
-unfolding store-numbers
-no-numbers e = rw e filled-none
-
-pub none-provided : {n : Provided} → n ≡ store-provided [] → Filled (λ x. x) 0 most-provided (n .items) 0 []
-unfolding store-provided
-none-provided e = rw e filled-none
-
 pub no-bundles : {bs : Bundles} → bs ≡ store-bundles [] → Filled store-bundle (store-bundle no-bundle) most-bundles (bs .items) 0 []
 unfolding store-bundles
 no-bundles e = rw e filled-none
@@ -184,6 +180,11 @@ pub no-connections : {cs : Connections} → cs ≡ store-connections []
     → Filled store-connection (store-connection no-connection) most-connections (cs .items) 0 []
 unfolding store-connections
 no-connections e = rw e filled-none
+
+-- a list that was put into cleared places
+pub filled-put : {size : ℕ} {items xs : List ℕ} → items ≡ put-into (replicate size 0) xs → length xs ≤ size
+    → Filled (λ x. x) 0 size items (length xs) xs
+filled-put {size} {items} {xs} e h = record { shape = rw (e, map-id, drop-replicate {A = ℕ} 0 size (length xs) h); counted = refl; room = h }
 
 -- and an array that holds a list is what stores it
 pub filled-numbers : {items : List ℕ} {count : ℕ} {xs : List ℕ} → Filled (λ x. x) 0 most-listed items count xs
@@ -250,7 +251,11 @@ short-connections {m} h = all-map (LegalConnection (m .regions)) ShortConnection
 
 pub meaning-back : (m : Model) → Legal m → meaning (store m) ≡ m
 unfolding meaning store
-meaning-back m h = λ i. record { regions = regions-back (m .regions) (h .regions-legal) i; bundles = bundles-back (m .bundles) i; connections = connections-back (m .connections) (short-connections h) i }
+meaning-back m h = λ i. record {
+  regions = regions-back (m .regions) (h .regions-legal) i;
+  bundles = bundles-back (m .bundles) i;
+  connections = connections-back (m .connections) (short-connections h) i;
+}
 
 -- two valid records with one meaning are equal
 pub meaning-injective : (g h : Graph) → Valid g → Valid h → meaning g ≡ meaning h → g ≡ h

@@ -25,6 +25,7 @@ use Rattle.region_graph.proofs.Lists.{exists-append, all-at, member-all
 use Rattle.region_graph.proofs.Bits.{set-ext, set-none, set-join}
 use Rattle.region_graph.proofs.Arrays.{filled-at, filled-inside}
 use Rattle.region_graph.proofs.Storing.{connections-stored, connections-filled}
+use Rattle.region_graph.proofs.Walks.{Row, walk-inside, walk-means, walk-test, Gathering, gathering-next}
 
 -- lists
 
@@ -159,6 +160,20 @@ module _ {A : Type 0} (region : A → ℕ) (provides : A → Bool) where
         set-left brings xs i d h
         (λ n. ap (λ (t : Bool). eqb (region (getD xs i d)) n && t) e ∙ and-false (eqb (region (getD xs i d)) n))
 
+-- the holders that stand in the places of an array
+module _ {A B : Type 0} {r : Row A B} (region : A → ℕ) (provides : A → Bool) {items : List B} {count : ℕ} {xs : List A} {x i : ℕ}
+    (g : Gathering r (held region provides) items count xs x i) (l : i < count) (e : B) {b : Bool} (f : b ≡ provides (r .means (getD items i e))) where
+  pub holding-took : {y : ℕ} → b ≡ true → y ≡ singleton (region (r .means (getD items i e)))
+      → Gathering r (held region provides) items count xs (bitOr x y) (i + 1)
+  holding-took t q =
+      gathering-next g l
+      (ap₂ bitOr (g .those) (q ∙ ap (λ (a : A). singleton (region a)) (walk-means (g .walk) l e))
+      ∙ held-took region provides xs i (r .none) (walk-inside (g .walk) l) (walk-test (g .walk) l provides e f t))
+
+  pub holding-left : b ≡ false → Gathering r (held region provides) items count xs x (i + 1)
+  holding-left t =
+      gathering-next g l (g .those ∙ held-left region provides xs i (r .none) (walk-inside (g .walk) l) (walk-test (g .walk) l provides e f t))
+
 -- predecessors: elements that lead from a region to a region each, and a test
 
 module _ {A : Type 0} (source target : A → ℕ) (passes : A → Bool) where
@@ -202,6 +217,22 @@ module _ {A : Type 0} (source target : A → ℕ) (passes : A → Bool) where
         let c = getD xs i d in
         counted-same (before (take i xs)) (before (take (i + 1) xs)) 0 regions
         (λ s l. set-left (leads s) xs i d h (λ n. rw e (and-false (eqb (source c) n && eqb (target c) s))))
+
+-- the elements that lead, in the places of an array
+module _ {A B : Type 0} {r : Row A B} (source target : A → ℕ) (passes : A → Bool) {items : List B} {count : ℕ} {xs : List A} {sets : List ℕ} {i : ℕ}
+    (g : Gathering r (led source target passes) items count xs sets i) (l : i < count) (e : B) {b : Bool} (f : b ≡ passes (r .means (getD items i e))) where
+  pub leading-took : {y : ℕ} → b ≡ true → y ≡ singleton (source (r .means (getD items i e))) → target (r .means (getD items i e)) < regions
+      → (let s = target (r .means (getD items i e)) in
+      Gathering r (led source target passes) items count xs (set sets s (bitOr (getD sets s 0) y)) (i + 1))
+  leading-took t q k =
+      let m = walk-means (g .walk) l e in
+      gathering-next g l
+      (led-took source target passes xs i (r .none) (walk-inside (g .walk) l) (g .those) (ap target m)
+      (q ∙ ap (λ (a : A). singleton (source a)) m) k (walk-test (g .walk) l passes e f t))
+
+  pub leading-left : b ≡ false → Gathering r (led source target passes) items count xs sets (i + 1)
+  leading-left t =
+      gathering-next g l (g .those ∙ led-left source target passes xs i (r .none) (walk-inside (g .walk) l) (walk-test (g .walk) l passes e f t))
 
 -- the target of a valid record's connection is a region
 pub target-region : (g : Graph) → Valid g → (i : ℕ) (e : StoredConnection) → i < g .connections .count

@@ -1,14 +1,16 @@
 -- What the functions of the record ask of its parts, and the tests by which they search and filter them.
 use mathlib.Core.Bool.{Bool, _&&_, _||_}
-use mathlib.Core.List.{List}
+use mathlib.Core.List.{List, _++_}
 use Prim.Native.Nat.{ℕ, _≤_}
 use lib.Dec.{eqb, ltb}
-use lib.ListN.{length}
+use lib.ListN.{length, drop}
 use Rattle.region_graph.specs.Size.{most-bundles, most-connections, most-listed, most-provided}
 use Rattle.region_graph.specs.Lists.{All}
 use Rattle.region_graph.specs.Model.{Bundle, Part, Connection}
 use Rattle.region_graph.specs.Calls.{at-location, in-region, joins, touches, names}
-use Rattle.region_graph.specs.Record.{Stored, store-numbers, numbers-of, store-provided, provided-of, store-part, part-in, store-bundle, bundle-in, store-bundles, bundles-of, store-connection, connection-in, store-connections, connections-of}
+use Rattle.region_graph.specs.Record.{Stored, store-numbers, numbers-of, store-provided, provided-of, store-part, part-in}
+use Rattle.region_graph.specs.Record.{store-bundle, bundle-in, store-bundles, bundles-of}
+use Rattle.region_graph.specs.Record.{store-connection, connection-in, store-connections, connections-of}
 use Rattle.region_graph.specs.declared.numbers.Numbers.{Numbers}
 use Rattle.region_graph.specs.declared.numbers.Provided.{Provided}
 use Rattle.region_graph.specs.declared.bundles.StoredBundle.{StoredBundle}
@@ -19,6 +21,10 @@ use Rattle.region_graph.specs.declared.connections.StoredConnection.{Sto
 use Rattle.region_graph.specs.declared.connections.Connections.{Connections}
 use Rattle.region_graph.specs.declared.connections.ConnectionTest.{ConnectionTest}
 use Rattle.region_graph.specs.declared.connections.ConnectionTest.the-variants as ConnectionTest
+
+-- the places in which a list was put: it stands first, and each other place is as it was
+abbrev pub put-into : List ℕ → List ℕ → List ℕ
+put-into places xs = xs ++ drop (length xs) places
 
 -- a list that so many places take
 abbrev pub Short : ℕ → List ℕ → Type 0

@@ -12,7 +12,6 @@ ghost use Rattle.region_graph.specs.Record.{«store-bundle», «bundle-i
 ghost use Rattle.region_graph.specs.Places.{BundleStored, BundlesStored, «bundle-meets»};
 use crate::numbers::Provided;
 use crate::numbers::ascending;
-use crate::numbers::none_provided;
 use crate::size::MOST_BUNDLES;
 use crate::size::MOST_PROVIDED;
 
@@ -41,7 +40,10 @@ pub enum BundleTest {
 pub fn no_bundle() -> StoredBundle
     ensures { λ r. ⌜ r ≡ store-bundle no-bundle ⌝ }
 {
-    let none = none_provided();
+    let none = Provided {
+        count: 0,
+        items: [0u32; MOST_PROVIDED],
+    };
     StoredBundle {
         location: 0,
         region: 0,

@@ -14,8 +14,7 @@ ghost use Rattle.region_graph.specs.Promise.{part, «new-filter»};
 use crate::numbers::Numbers;
 use crate::numbers::ascending;
 use crate::numbers::copied;
-use crate::numbers::lists;
-use crate::numbers::no_numbers;
+use crate::numbers::has_number;
 use crate::size::EVERYTHING;
 use crate::size::MOST_CONNECTIONS;
 use crate::size::MOST_LISTED;
@@ -123,7 +122,10 @@ pub fn part_copied(all: bool, list: &[u32]) -> Numbers
 pub fn no_connection() -> StoredConnection
     ensures { λ r. ⌜ r ≡ store-connection no-connection ⌝ }
 {
-    let none = no_numbers();
+    let none = Numbers {
+        count: 0,
+        items: [0u32; MOST_LISTED],
+    };
     StoredConnection {
         source: 0,
         target: 0,
@@ -152,8 +154,9 @@ pub fn connection_meets(c: StoredConnection, test: ConnectionTest) -> bool
         }
         ConnectionTest::Naming(region, location) => {
             if c.source == region {
-                let named = c.bundles;
-                return lists(named, location);
+                let count = c.bundles.count;
+                let items = c.bundles.items;
+                return has_number(&items[..count], location);
             }
             false
         }

@@ -3,25 +3,24 @@
 ghost use mathlib.Core.Path.{_≡_};
 ghost use Prim.Native.Nat.{_+_, _≤_};
 ghost use lib.ListN.{length};
-ghost use Rattle.region_graph.specs.Size.{«most-listed», «most-provided»};
+ghost use Rattle.region_graph.specs.Size.{«most-listed»};
 ghost use Rattle.region_graph.specs.Lists.{member};
 ghost use Rattle.region_graph.specs.Sets.{«set-of», members};
-ghost use Rattle.region_graph.specs.Model.{Numbered, NumberedPart, LegalBundle, LegalConnection};
-ghost use Rattle.region_graph.specs.Record.{«store-numbers», «store-provided», «store-part», «store-bundle», «store-bundles», «store-connection», «store-connections»};
-ghost use Rattle.region_graph.specs.Flat.{FlatPart, Made, «bundle-width», «connection-width»};
-ghost use Rattle.region_graph.specs.Decoded.{Decoded, FlatList, FlatBundle, FlatConnection, GoodRegions, GoodBundles, GoodConnections, FlatBundles, FlatConnections};
+ghost use Rattle.region_graph.specs.Model.{LegalBundle, LegalConnection};
+ghost use Rattle.region_graph.specs.Record.{«store-bundle», «store-bundles», «store-connection», «store-connections»};
+ghost use Rattle.region_graph.specs.Flat.{Made, «bundle-width», «connection-width»};
+ghost use Rattle.region_graph.specs.Decoded.{Decoded, lent, ListDecoded, PartDecoded, FlatBundle, FlatConnection};
+ghost use Rattle.region_graph.specs.Decoded.{GoodRegions, GoodBundles, GoodConnections, FlatBundles, FlatConnections};
 use crate::Changed;
 use crate::Graph;
 use crate::bundles::Bundles;
 use crate::bundles::StoredBundle;
 use crate::connections::Connections;
 use crate::connections::StoredConnection;
-use crate::connections::everything;
 use crate::numbers::Numbers;
 use crate::numbers::Provided;
 use crate::numbers::ascending;
-use crate::numbers::copied;
-use crate::numbers::provided_copied;
+use crate::numbers::put_numbers;
 use crate::refusals::BROKEN_LAYOUT;
 use crate::refusals::NOT_REFUSED;
 use crate::region_set::has;
@@ -43,16 +42,6 @@ pub const CONNECTION_WIDTH: usize = 2 + 3 * (MOST_LISTED + 1);
 struct ListAt {
     ok: bool,
     count: usize,
-}
-
-struct NumbersAt {
-    ok: bool,
-    numbers: Numbers,
-}
-
-struct ProvidedAt {
-    ok: bool,
-    provided: Provided,
 }
 
 struct BundleOf {
@@ -80,13 +69,13 @@ struct ConnectionList {
     connections: Connections,
 }
 
-// How many numbers the list at a place has: within the limit, whether it counts or not.
-fn list_at(row: &[u32], at: usize, most: usize) -> ListAt
-    requires { ⌜ at + (most + 1) ≤ length (now row) ⌝ }
-    ensures { λ r. ⌜ (r .count ≤ most) × Decoded length (Numbered most) (FlatList (now (row .entry)) at) (r .ok) (r .count) ⌝ }
+// Puts the list at a place of the row into lent places, as many as it may have numbers.
+fn list_at(places: &mut [u32], row: &[u32], at: usize) -> ListAt
+    requires { ⌜ at + (length (now places) + 1) ≤ length (now row) ⌝ }
+    ensures { λ r. ⌜ ListDecoded (now (places .entry)) (now (row .entry)) at (r .ok) (lent (r .count) (now (places .exit))) ⌝ }
 {
     let count = row[at] as usize;
-    if most < count {
+    if places.len() < count {
         return ListAt {
             ok: false,
             count: 0,
@@ -94,57 +83,35 @@ fn list_at(row: &[u32], at: usize, most: usize) -> ListAt
     }
     let from = at + 1;
     let to = from + count;
-    let ok = ascending(&row[from..to]);
+    let list = &row[from..to];
+    put_numbers(places, list);
+    let ok = ascending(list);
     ListAt { ok, count }
 }
 
-fn provided_at(row: &[u32], at: usize) -> ProvidedAt
-    requires { ⌜ at + (most-provided + 1) ≤ length (now row) ⌝ }
-    ensures { λ r. ⌜ Decoded store-provided (Numbered most-provided) (FlatList (now (row .entry)) at) (r .ok) (r .provided) ⌝ }
-{
-    let list = list_at(row, at, MOST_PROVIDED);
-    let from = at + 1;
-    let to = from + list.count;
-    let provided = provided_copied(&row[from..to]);
-    ProvidedAt {
-        ok: list.ok,
-        provided,
-    }
-}
-
-fn numbers_at(row: &[u32], at: usize) -> NumbersAt
-    requires { ⌜ at + (most-listed + 1) ≤ length (now row) ⌝ }
-    ensures { λ r. ⌜ Decoded store-numbers (Numbered most-listed) (FlatList (now (row .entry)) at) (r .ok) (r .numbers) ⌝ }
-{
-    let list = list_at(row, at, MOST_LISTED);
-    let from = at + 1;
-    let to = from + list.count;
-    let numbers = copied(&row[from..to]);
-    NumbersAt {
-        ok: list.ok,
-        numbers,
-    }
-}
-
-fn part_at(row: &[u32], at: usize) -> NumbersAt
-    requires { ⌜ at + (most-listed + 1) ≤ length (now row) ⌝ }
-    ensures { λ r. ⌜ Decoded store-part NumberedPart (FlatPart (now (row .entry)) at) (r .ok) (r .numbers) ⌝ }
+// Puts the part at a place; one that is everything leaves the places as they are.
+fn part_at(places: &mut [u32], row: &[u32], at: usize) -> ListAt
+    requires { ⌜ at + (length (now places) + 1) ≤ length (now row) ⌝ }
+    requires { ⌜ length (now places) ≡ most-listed ⌝ }
+    ensures { λ r. ⌜ PartDecoded (now (places .entry)) (now (row .entry)) at (r .ok) (lent (r .count) (now (places .exit))) ⌝ }
 {
     if row[at] as usize == EVERYTHING {
-        let numbers = everything();
-        return NumbersAt { ok: true, numbers };
+        return ListAt {
+            ok: true,
+            count: EVERYTHING,
+        };
     }
-    numbers_at(row, at)
+    list_at(places, row, at)
 }
 
 fn bundle_of(row: &[u32], regions: u64) -> BundleOf
     requires { ⌜ length (now row) ≡ bundle-width ⌝ }
     ensures { λ r. ⌜ Decoded store-bundle (LegalBundle (members regions)) (FlatBundle (now (row .entry))) (r .ok) (r .bundle) ⌝ }
 {
-    let packages = provided_at(row, 2);
-    let services = provided_at(row, 2 + (MOST_PROVIDED + 1));
-    let provided = packages.provided;
-    let published = services.provided;
+    let mut provided = [0u32; MOST_PROVIDED];
+    let mut published = [0u32; MOST_PROVIDED];
+    let packages = list_at(&mut provided, row, 2);
+    let services = list_at(&mut published, row, 2 + (MOST_PROVIDED + 1));
     let region = row[1];
     let within = has(regions, region);
     BundleOf {
@@ -152,8 +119,14 @@ fn bundle_of(row: &[u32], regions: u64) -> BundleOf
         bundle: StoredBundle {
             location: row[0],
             region,
-            packages: provided,
-            services: published,
+            packages: Provided {
+                count: packages.count,
+                items: provided,
+            },
+            services: Provided {
+                count: services.count,
+                items: published,
+            },
         },
     }
 }
@@ -162,12 +135,12 @@ fn connection_of(row: &[u32], regions: u64) -> ConnectionOf
     requires { ⌜ length (now row) ≡ connection-width ⌝ }
     ensures { λ r. ⌜ Decoded store-connection (LegalConnection (members regions)) (FlatConnection (now (row .entry))) (r .ok) (r .connection) ⌝ }
 {
-    let bundles = numbers_at(row, 2);
-    let packages = part_at(row, 2 + (MOST_LISTED + 1));
-    let services = part_at(row, 2 + 2 * (MOST_LISTED + 1));
-    let named = bundles.numbers;
-    let passed = packages.numbers;
-    let offered = services.numbers;
+    let mut named = [0u32; MOST_LISTED];
+    let mut passed = [0u32; MOST_LISTED];
+    let mut offered = [0u32; MOST_LISTED];
+    let bundles = list_at(&mut named, row, 2);
+    let packages = part_at(&mut passed, row, 2 + (MOST_LISTED + 1));
+    let services = part_at(&mut offered, row, 2 + 2 * (MOST_LISTED + 1));
     let source = row[0];
     let target = row[1];
     let from = has(regions, source);
@@ -179,9 +152,18 @@ fn connection_of(row: &[u32], regions: u64) -> ConnectionOf
         connection: StoredConnection {
             source,
             target,
-            bundles: named,
-            packages: passed,
-            services: offered,
+            bundles: Numbers {
+                count: bundles.count,
+                items: named,
+            },
+            packages: Numbers {
+                count: packages.count,
+                items: passed,
+            },
+            services: Numbers {
+                count: services.count,
+                items: offered,
+            },
         },
     }
 }

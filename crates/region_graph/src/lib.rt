@@ -16,6 +16,7 @@ use connections::Connections;
 pub use connections::StoredConnection;
 pub use numbers::Numbers;
 pub use numbers::Provided;
+pub use numbers::has_number;
 
 // R as a set, B and F in ascending order in the first places of their arrays.
 #[repr(C)]

@@ -6,7 +6,8 @@ ghost use Rattle.region_graph.specs.Sets.{«set-of»};
 ghost use Rattle.region_graph.specs.Items.{provides, passes, «part-passes»};
 ghost use Rattle.region_graph.specs.Record.{Valid, meaning, «store-bundle», «store-connection», «bundle-in», «connection-in», «part-in»};
 ghost use Rattle.region_graph.specs.Places.{BundleStored, ConnectionStored, PartStored};
-ghost use Rattle.region_graph.specs.Promise.{«place-of», «holder-set», «predecessor-sets», «bundle-places», «connection-places», «bundle-at», «connection-at»};
+ghost use Rattle.region_graph.specs.Promise.{«place-of», «holder-set», «predecessor-sets»};
+ghost use Rattle.region_graph.specs.Promise.{«bundle-places», «connection-places», «bundle-at», «connection-at»};
 use crate::Graph;
 use crate::Item;
 use crate::Place;
@@ -16,8 +17,7 @@ use crate::bundles::no_bundle;
 use crate::connections::StoredConnection;
 use crate::connections::no_connection;
 use crate::numbers::Numbers;
-use crate::numbers::lists;
-use crate::numbers::provided_lists;
+use crate::numbers::has_number;
 use crate::region_set::singleton;
 use crate::size::EVERYTHING;
 use crate::size::MOST_BUNDLES;
@@ -33,12 +33,14 @@ fn bundle_provides(b: StoredBundle, item: Item) -> bool
     match kind {
         0 => b.location == item.number,
         1 => {
-            let packages = b.packages;
-            provided_lists(packages, item.number)
+            let count = b.packages.count;
+            let items = b.packages.items;
+            has_number(&items[..count], item.number)
         }
         2 => {
-            let services = b.services;
-            provided_lists(services, item.number)
+            let count = b.services.count;
+            let items = b.services.items;
+            has_number(&items[..count], item.number)
         }
         _ => false,
     }
@@ -48,10 +50,12 @@ fn part_passes(part: Numbers, number: u32) -> bool
     requires { ⌜ PartStored part ⌝ }
     ensures { λ r. ⌜ r ≡ part-passes number (part-in part) ⌝ }
 {
-    if part.count == EVERYTHING {
+    let count = part.count;
+    if count == EVERYTHING {
         return true;
     }
-    lists(part, number)
+    let items = part.items;
+    has_number(&items[..count], number)
 }
 
 // Whether a connection's filter passes an item.
@@ -62,8 +66,9 @@ fn connection_passes(c: StoredConnection, item: Item) -> bool
     let kind = item.kind;
     match kind {
         0 => {
-            let bundles = c.bundles;
-            lists(bundles, item.number)
+            let count = c.bundles.count;
+            let items = c.bundles.items;
+            has_number(&items[..count], item.number)
         }
         1 => {
             let packages = c.packages;

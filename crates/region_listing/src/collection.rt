@@ -2,7 +2,6 @@
 ghost use mathlib.Core.Path.{_≡_};
 ghost use Prim.Native.Nat.{_+_, _≤_};
 ghost use lib.ListN.{length};
-ghost use Rattle.region_graph.specs.Lists.{member};
 ghost use Rattle.region_graph.specs.Items.{provided};
 ghost use Rattle.region_graph.specs.Places.{ProvidedStored, BundleStored};
 ghost use Rattle.region_graph.specs.Record.{Valid, meaning, «provided-of», «bundle-in»};
@@ -12,6 +11,7 @@ ghost use Rattle.region_listing.specs.Counts.{Collected, «numbers-in»,
 use region_graph::Graph;
 use region_graph::Provided;
 use region_graph::StoredBundle;
+use region_graph::has_number;
 use region_graph::size::MOST_BUNDLES;
 use region_graph::size::MOST_PROVIDED;
 use region_routes::Kind;
@@ -21,20 +21,6 @@ pub const MOST_DIFFERENT: usize = MOST_BUNDLES * MOST_PROVIDED;
 pub struct Collection {
     pub count: usize,
     pub items: [u32; MOST_DIFFERENT],
-}
-
-// Whether a number is in a list.
-fn is_in(list: &[u32], number: u32) -> bool
-    ensures { λ r. ⌜ r ≡ member number (now (list .entry)) ⌝ }
-{
-    let mut i: usize = 0;
-    while i < list.len() {
-        if list[i] == number {
-            return true;
-        }
-        i += 1;
-    }
-    false
 }
 
 // A list's numbers join a collection, each unless it is there.
@@ -51,7 +37,7 @@ fn join(collection: Collection, list: Provided) -> Collection
     while i < count {
         let number = list.items[i];
         i += 1;
-        if !is_in(&items[..n], number) {
+        if !has_number(&items[..n], number) {
             items[n] = number;
             n += 1;
         }

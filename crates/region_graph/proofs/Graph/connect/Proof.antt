@@ -1,7 +1,5 @@
 use mathlib.Core.Path.{_≡_, refl, sym, ap, _∙_}
 use mathlib.Core.Logic.{⊎-elim}
-use mathlib.Core.List.{_∷_, _++_}
-use lib.ListN.{take, drop}
 use borrow.Author.Needs.{needs}
 use Rattle.region_graph.specs.Model.{Connection, Word, connection-before}
 use Rattle.region_graph.specs.Calls.{Call, number, accepted, end-questions, connection-questions}
@@ -9,7 +7,7 @@ use Rattle.region_graph.specs.Record.{meaning, store-connection, store-c
 use Rattle.region_graph.specs.Places.{ShortConnection, connection-meets}
 use Rattle.region_graph.specs.Promise.{connection}
 use Rattle.region_graph.specs.declared.connections.ConnectionTest.the-variants.{After}
-use Rattle.region_graph.proofs.Lists.{all-of, position-le, insert-at}
+use Rattle.region_graph.proofs.Lists.{all-of, position-le, inserted}
 use Rattle.region_graph.proofs.Legal.{first-step, second-step, Connectable, connectable, part-words, part-short}
 use Rattle.region_graph.proofs.Storing.{stored-as, connection-back, regions-stored, bundles-stored, connections-stored, stored-graph, refused, accepts}
 use Rattle.region_graph.proofs.Graph.connect.Statement.{statement}
@@ -120,10 +118,8 @@ returns c =
     (c .before .before .before .before .before .if2 .taken)
     (stored-graph (accepted (meaning g) (Call.connect x)) (regions-stored g (s .pre)) (bundles-stored g (s .pre) .stored)
     (c .with .ensures
-    ∙ ap store-connections ((λ i. take (c .before .first .ensures i) (meaning g .connections)
-    ++ ((ap connection-in (stores (c .before .before)) ∙ connection-back x (short (c .before .before .before .before .before))) i
-    ∷ drop (c .before .first .ensures i) (meaning g .connections)))
-    ∙ sym (insert-at connection-before x (meaning g .connections)))))
+    ∙ ap store-connections (inserted store-connection connection-in connection-before x (meaning g .connections) (stores (c .before .before))
+    (connection-back x (short (c .before .before .before .before .before))) (c .before .first .ensures))))
 
 returns-2 : tie.Need-returns-2
 returns-2 c = let s = start (c .before) in refused (s .args .self) (Call.connect (given s)) (s .pre) (asked (c .before)) (c .if2 .left) refl
@@ -131,13 +127,5 @@ returns-2 c = let s = start (c .before) in refused (s .args .self) (Call.connect
 pub connect-spec : {M : Type 1} → statement M
 connect-spec =
     tie.close
-    (tie.spec
-    (λ c κs. search needs)
-    connect-number-requires
-    copied-requires
-    part-copied-requires
-    part-copied-requires-2
-    first-requires
-    with-requires
-    returns
-    returns-2)
+    (tie.spec (λ c κs. search needs) connect-number-requires copied-requires part-copied-requires part-copied-requires-2 first-requires with-requires
+    returns returns-2)

@@ -1,7 +1,5 @@
 use mathlib.Core.Path.{_≡_, refl, sym, ap, _∙_}
 use mathlib.Core.Logic.{⊎-elim}
-use mathlib.Core.List.{_∷_, _++_}
-use lib.ListN.{take, drop}
 use borrow.Author.Needs.{needs}
 use Rattle.region_graph.specs.Model.{Bundle, Word, bundle-before}
 use Rattle.region_graph.specs.Calls.{Call, number, accepted, provided-questions, bundle-questions}
@@ -9,7 +7,7 @@ use Rattle.region_graph.specs.Record.{meaning, store-bundle, store-bundl
 use Rattle.region_graph.specs.Places.{ShortBundle, bundle-meets}
 use Rattle.region_graph.specs.Promise.{bundle}
 use Rattle.region_graph.specs.declared.bundles.BundleTest.the-variants.{After}
-use Rattle.region_graph.proofs.Lists.{all-of, position-le, insert-at}
+use Rattle.region_graph.proofs.Lists.{all-of, position-le, inserted}
 use Rattle.region_graph.proofs.Legal.{first-step, second-step, Installable, installable}
 use Rattle.region_graph.proofs.Storing.{stored-as, bundle-back, regions-stored, bundles-stored, connections-stored, stored-graph, refused, accepts}
 use Rattle.region_graph.proofs.Graph.install.Statement.{statement}
@@ -90,9 +88,8 @@ returns c =
     (c .before .before .before .before .if2 .taken)
     (stored-graph (accepted (meaning g) (Call.install b)) (regions-stored g (s .pre))
     (c .with .ensures
-    ∙ ap store-bundles ((λ i. take (c .before .first .ensures i) (meaning g .bundles)
-    ++ ((ap bundle-in (stores (c .before .before)) ∙ bundle-back b) i ∷ drop (c .before .first .ensures i) (meaning g .bundles)))
-    ∙ sym (insert-at bundle-before b (meaning g .bundles))))
+    ∙ ap store-bundles (inserted store-bundle bundle-in bundle-before b (meaning g .bundles)
+    (stores (c .before .before)) (bundle-back b) (c .before .first .ensures)))
     (connections-stored g (s .pre) .stored))
 
 returns-2 : tie.Need-returns-2
@@ -101,12 +98,5 @@ returns-2 c = let s = start (c .before) in refused (s .args .self) (Call.install
 pub install-spec : {M : Type 1} → statement M
 install-spec =
     tie.close
-    (tie.spec
-    (λ c κs. search needs)
-    install-number-requires
-    provided-copied-requires
-    provided-copied-requires-2
-    first-requires
-    with-requires
-    returns
+    (tie.spec (λ c κs. search needs) install-number-requires provided-copied-requires provided-copied-requires-2 first-requires with-requires returns
     returns-2)

@@ -3,7 +3,9 @@ use mathlib.Core.Path.{sym}
 use mathlib.Core.Bool.{or-false}
 use native.Mathlib.Omega.{arith}
 use borrow.Author.Tests.{eq-eqb, ne-eqb, le-ltb}
-use Rattle.region_graph.proofs.Storing.{named-stored}
+use Rattle.region_graph.specs.Record.{numbers-of}
+use Rattle.region_graph.proofs.Arrays.{filled-within, filled-part}
+use Rattle.region_graph.proofs.Storing.{named-stored, numbers-filled}
 use Rattle.region_graph.proofs.connections.connection_meets.Statement.{statement}
 use Rattle.region_graph.proofs.connections.connection_meets.Tie as tie
 
@@ -13,11 +15,18 @@ returns c = rw (c .before .before .before .before .test .given .1, eq-eqb _ _ (c
 returns-2 : tie.Need-returns-2
 returns-2 c = rw (c .before .before .before .test2 .given .1, eq-eqb _ _ (c .if2 .taken))
 
-lists-requires : tie.Need-lists-requires
-lists-requires c κs = named-stored (c .before .before .before .before .before .before .args .c) (c .before .before .before .before .before .before .pre)
+array-share-prefix-items : tie.Need-array-share-prefix-items
+array-share-prefix-items c =
+    let s = c .before .before .before .before .before .before in filled-within (numbers-filled (s .args .c .bundles) (named-stored (s .args .c) (s .pre)))
+
+slice-aggregate-has-number : tie.Need-slice-aggregate-has-number
+slice-aggregate-has-number c =
+    let s = c .before .before .before .before .before .before .before in filled-part (numbers-filled (s .args .c .bundles) (named-stored (s .args .c) (s .pre)))
 
 returns-3 : tie.Need-returns-3
-returns-3 c = rw (c .before .before .before .before .before .test3 .given .1, eq-eqb _ _ (c .before .before .if3 .taken)) (c .lists .ensures)
+unfolding numbers-of
+returns-3 c =
+    rw (c .before .before .before .before .before .before .test3 .given .1, eq-eqb _ _ (c .before .before .before .if3 .taken)) (c .has-number .ensures)
 
 returns-4 : tie.Need-returns-4
 returns-4 c =
@@ -46,7 +55,9 @@ connection-meets-spec =
     (λ c. search needs)
     returns-2
     (λ c. search needs)
-    lists-requires
+    array-share-prefix-items
+    slice-aggregate-has-number
+    (λ c κs. search needs)
     returns-3
     (λ c. search needs)
     returns-4

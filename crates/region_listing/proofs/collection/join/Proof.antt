@@ -31,8 +31,9 @@ loop-holds c =
 array-share-prefix-items : tie.Need-array-share-prefix-items Inv-loop μ-loop
 array-share-prefix-items c = let j = c .before .before .loop .inv .1 in omega (arith, j .size, j .few)
 
-slice-aggregate-is-in : tie.Need-slice-aggregate-is-in Inv-loop μ-loop
-slice-aggregate-is-in c = let l = c .before .before .before .loop in sym (length-take-le (l .n) (l .items) (omega (arith, l .inv .1 .size, l .inv .1 .few)))
+slice-aggregate-has-number : tie.Need-slice-aggregate-has-number Inv-loop μ-loop
+slice-aggregate-has-number c =
+    let l = c .before .before .before .loop in sym (length-take-le (l .n) (l .items) (omega (arith, l .inv .1 .size, l .inv .1 .few)))
 
 mul-items : tie.Need-mul-items Inv-loop μ-loop
 mul-items c = let l = c .before .before .before .before .before .loop in omega (arith, l .inv .1 .few)
@@ -50,7 +51,7 @@ loop-again c =
     let s = c .before .before .before .before .before .before .before .args .t2 in (
       l .inv .0,
       joining-took (l .inv .1) (omega (arith, l .inv .0)) (sym (getD-take (s .count) (s .items) (l .i) 0 (omega arith)))
-          (sym (c .before .is-in .ensures) ∙ not-true _ (c .if1 .taken)),
+          (sym (c .before .has-number .ensures) ∙ not-true _ (c .if1 .taken)),
     )
 
 loop-again-2 : tie.Need-loop-again-2 Inv-loop μ-loop
@@ -60,7 +61,7 @@ loop-again-2 c =
     let s = c .before .before .before .before .before .before .before .args .t2 in (
       l .inv .0,
       joining-left (l .inv .1) (omega (arith, l .inv .0)) (sym (getD-take (s .count) (s .items) (l .i) 0 (omega arith)))
-          (sym (c .before .is-in .ensures) ∙ not-false _ (c .if1 .left)),
+          (sym (c .before .has-number .ensures) ∙ not-false _ (c .if1 .left)),
     )
 
 returns : tie.Need-returns Inv-loop μ-loop
@@ -82,7 +83,7 @@ join-spec =
     (λ c. search needs)
     (λ c. search needs)
     array-share-prefix-items
-    slice-aggregate-is-in
+    slice-aggregate-has-number
     (λ c κs. search needs)
     mul-items
     array-write-items

@@ -1,20 +1,13 @@
-use mathlib.Core.Path.{_≡_}
-use Prim.Native.Nat.{_-_, _≤_, _<_}
 use native.Mathlib.Omega.{arith}
 use borrow.Author.Needs.{needs}
-use Rattle.region_graph.specs.Size.{most-connections}
-use Rattle.region_graph.specs.Record.{connections-of, connection-in, store-connection, no-connection}
-use Rattle.region_graph.proofs.Arrays.{Opened, opened-start, opened-step, opened-end}
+use Rattle.region_graph.specs.Record.{connections-of, connection-in}
 use Rattle.region_graph.proofs.Storing.{connections-filled, filled-connections}
+use Rattle.region_graph.proofs.Walks.{connection-row, Moving, moving-start, moving-next, moving-end}
 use Rattle.region_graph.proofs.connections.Connections.with.Statement.{statement}
 use Rattle.region_graph.proofs.connections.Connections.with.Tie as tie
 
 abbrev Inv-loop : tie.InvT-loop
-Inv-loop place c items₀ count i₀ items i =
-    (place ≤ i)
-    × (i ≤ count)
-    × (count < most-connections)
-    × Opened store-connection (store-connection no-connection) most-connections items i (connections-of (record { count = count; items = items₀ }))
+Inv-loop place c items₀ count i₀ items i = Moving connection-row place count (connections-of (record { count = count; items = items₀ })) items i
 
 abbrev μ-loop : tie.MeasureT-loop
 μ-loop place c items₀ count i₀ items i = i
@@ -22,42 +15,16 @@ abbrev μ-loop : tie.MeasureT-loop
 loop-holds : tie.Need-loop-holds Inv-loop μ-loop
 loop-holds c =
     let s = c .before in
-    let h = connections-filled (s .args .self) (s .pre .0) in
-    let r : s .args .self .count < most-connections = omega (arith, h .counted, s .pre .1 .1 .1) in
-    (omega (arith, h .counted, s .pre .1 .1 .0), omega arith, r, opened-start h r)
-
-loop-again : tie.Need-loop-again Inv-loop μ-loop
-loop-again c =
-    let a = c .before .before in
-    let s = a .before .before in
-    let h = connections-filled (s .args .self) (s .pre .0) in
-    (omega arith, omega arith, a .loop .inv .2, opened-step (a .loop .i) (a .loop .i - 1) _ no-connection (omega arith) (omega (arith, h .counted)) (s .pre .1 .1 .1) (a .loop .inv .3))
+    moving-start (connections-filled (s .args .self) (s .pre .0)) (s .pre .1 .1 .0) (s .pre .1 .1 .1)
 
 returns : tie.Need-returns Inv-loop μ-loop
 returns c =
-    let a = c .before in
-    let s = a .before .before in
-    let h = connections-filled (s .args .self) (s .pre .0) in
-    let e : a .loop .i ≡ s .args .place = omega arith in
-    filled-connections (opened-end (s .args .place) (connection-in (s .args .c)) (h .counted) (s .pre .1 .1 .0) (s .pre .1 .1 .1) (s .pre .1 .0 .stored)
-    (rw e at (a .loop .inv .3)))
+    let s = c .before .before .before in
+    filled-connections (moving-end (c .before .loop .inv) (omega arith) (connection-in (s .args .c)) (s .pre .1 .0 .stored))
 
 pub with-spec : {M : Type 1} → statement M
 with-spec =
     tie.close
-    (tie.spec
-    Inv-loop
-    μ-loop
-    loop-holds
-    (λ c. search needs)
-    (λ c. search needs)
-    (λ c. search needs)
-    (λ c. search needs)
-    (λ c. search needs)
-    (λ c. search needs)
-    (λ c. search needs)
-    loop-again
-    (λ c. search needs)
-    (λ c. search needs)
-    (λ c. search needs)
-    returns)
+    (tie.spec Inv-loop μ-loop loop-holds (λ c. search needs) (λ c. search needs) (λ c. search needs) (λ c. search needs) (λ c. search needs)
+    (λ c. search needs) (λ c. search needs) (λ c. moving-next (c .before .before .loop .inv) (omega arith) _) (λ c. search needs) (λ c. search needs)
+    (λ c. search needs) returns)

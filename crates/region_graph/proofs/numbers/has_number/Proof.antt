@@ -5,10 +5,10 @@ use native.Mathlib.Omega.{arith}
 use borrow.Author.Tests.{eq-eqb, ne-eqb}
 use lib.Dec.{eqb}
 use lib.ListN.{length, drop}
 use Rattle.region_graph.specs.Lists.{exists, member}
 use Rattle.region_graph.proofs.Lists.{exists-here, exists-later, exists-end}
-use Rattle.region_listing.proofs.collection.is_in.Statement.{statement}
-use Rattle.region_listing.proofs.collection.is_in.Tie as tie
+use Rattle.region_graph.proofs.numbers.has_number.Statement.{statement}
+use Rattle.region_graph.proofs.numbers.has_number.Tie as tie
 
 abbrev Inv-loop : tie.InvT-loop
 Inv-loop list number i₀ i = (i ≤ length list) × (member number list ≡ exists (eqb number) (drop i list))
@@ -32,10 +32,12 @@ loop-again c =
     (omega arith, exists-later (eqb (s .number)) (s .list .now) (l .i) 0 (omega arith) (l .inv .1) (ne-eqb _ _ (λ e. c .if1 .left (sym e))))
 
 returns-2 : tie.Need-returns-2 Inv-loop μ-loop
-returns-2 c = exists-end (eqb (c .before .before .args .number)) (c .before .before .args .list .now) (c .before .loop .i) (c .before .loop .inv .1) (omega arith)
+returns-2 c =
+    let a = c .before .before .args in
+    exists-end (eqb (a .number)) (a .list .now) (c .before .loop .i) (c .before .loop .inv .1) (omega arith)
 
-pub is-in-spec : {M : Type 1} → statement M
-is-in-spec =
+pub has-number-spec : {M : Type 1} → statement M
+has-number-spec =
     tie.close
     (tie.spec
     Inv-loop

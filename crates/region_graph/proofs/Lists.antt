@@ -1,16 +1,16 @@
--- Laws of tests, `keep`, `exists`, `position`, `insert-by`, `All` and lists without repetitions, for any element and test.
+-- Laws of tests, `keep`, `exists`, `position`, `insert-by`, `All`, `concat-map` and lists without repetitions, for any element and test.
 use mathlib.Core.Path.{_≡_, refl, sym, ap, _∙_, subst}
 use mathlib.Core.Bool.{Bool, true, false, not, _&&_, _||_, and-false}
-use mathlib.Core.List.{List, [], _∷_, _++_, map, append-nil}
-use Prim.Native.Nat.{ℕ, zero, suc, _+_, _≤_, _<_}
+use mathlib.Core.List.{List, [], _∷_, _++_, map, append-nil, append-assoc}
+use Prim.Native.Nat.{ℕ, zero, suc, _+_, _*_, _≤_, _<_}
 use native.Mathlib.Numerals.{add-one}
-use native.Mathlib.Nat.{add-zero}
+use native.Mathlib.Nat.{add-zero, zero-mul, suc-mul}
 use native.Mathlib.Omega.{arith}
 use lib.Dec.{ltb, eqb}
-use lib.ListN.{length, getD, take, drop, drop-of-length-le}
+use lib.ListN.{length, getD, take, drop, length-append, drop-of-length-le}
 use lib.Seq.{take-suc, drop-cons}
 use borrow.Author.Tests.{lt-ltb, le-ltb, eqb-true, eqb-false, eq-eqb, ne-eqb}
-use Rattle.region_graph.specs.Lists.{pick, exists, All, keep, position, insert-by, member, count-from}
+use Rattle.region_graph.specs.Lists.{pick, exists, All, keep, position, insert-by, member, concat-map, count-from}
 
 -- tests
 
@@ -276,6 +276,50 @@ module _ {A : Type 0} (p : A → Bool) where
 pub map-append : {A B : Type 0} (f : A → B) (xs ys : List A) → map f (xs ++ ys) ≡ map f xs ++ map f ys
 map-append f [] ys = refl
 map-append f (x ∷ xs) ys = ap (λ t. f x ∷ t) (map-append f xs ys)
+
+-- what a function makes of each element, one after the other
+
+module _ {A B : Type 0} (f : A → List B) where
+  pub concat-append : (xs ys : List A) → concat-map f (xs ++ ys) ≡ concat-map f xs ++ concat-map f ys
+  concat-append [] ys = refl
+  concat-append (x ∷ xs) ys = ap (λ (l : List B). f x ++ l) (concat-append xs ys) ∙ sym (append-assoc (f x) (concat-map f xs) (concat-map f ys))
+
+  pub concat-snoc : (xs : List A) (x : A) → concat-map f (xs ++ (x ∷ [])) ≡ concat-map f xs ++ f x
+  concat-snoc xs x = concat-append xs (x ∷ []) ∙ ap (λ (l : List B). concat-map f xs ++ l) (append-nil (f x))
+
+  -- one element more
+  pub concat-next : (xs : List A) (i : ℕ) (d : A) → i < length xs → concat-map f (take (i + 1) xs) ≡ concat-map f (take i xs) ++ f (getD xs i d)
+  concat-next xs i d h = rw (add-one, take-suc xs i d h) (concat-snoc (take i xs) (getD xs i d))
+
+  -- w of each element
+  pub concat-length : (w : ℕ) → ((x : A) → length (f x) ≡ w) → (xs : List A) → length (concat-map f xs) ≡ length xs * w
+  concat-length w h [] = sym (zero-mul w)
+  concat-length w h (x ∷ xs) = rw (length-append, h, concat-length w h xs, suc-mul) (omega arith)
+
+  -- what is made of an element below n is within what is made of the first n
+  pub concat-within : (xs : List A) (i n : ℕ) (d : A) → i < n → n ≤ length xs
+      → length (concat-map f (take i xs)) + length (f (getD xs i d)) ≤ length (concat-map f (take n xs))
+  concat-within [] i n d h k = absurd (omega arith)
+  concat-within (x ∷ xs) i zero d h k = absurd (omega arith)
+  concat-within (x ∷ xs) zero (suc n) d h k = rw length-append (omega arith)
+  concat-within (x ∷ xs) (suc i) (suc n) d h k =
+      omega (
+        arith,
+        concat-within xs i n d (omega arith) (omega arith),
+        length-append (f x) (concat-map f (take i xs)),
+        length-append (f x) (concat-map f (take n xs)),
+      )
+
+  -- at most w of each element: of the first i elements, and of all
+  pub concat-few : (w : ℕ) (xs : List A) → All (λ x. length (f x) ≤ w) xs → (i : ℕ) → length (concat-map f (take i xs)) ≤ i * w
+  concat-few w xs h zero = omega arith
+  concat-few w [] h (suc i) = omega arith
+  concat-few w (x ∷ xs) h (suc i) = rw length-append (omega (arith, h .0, concat-few w xs (h .1) i))
+
+pub concat-most : {A B : Type 0} (P : A → Type 0) (f : A → List B) (w : ℕ) → ((x : A) → P x → length (f x) ≤ w) → (xs : List A) → All P xs
+    → length (concat-map f xs) ≤ length xs * w
+concat-most P f w h [] a = omega arith
+concat-most P f w h (x ∷ xs) a = rw (length-append, suc-mul) (omega (arith, h x (a .0), concat-most P f w h xs (a .1)))
 
 -- a property of each number of a list holds of its members
 pub member-all : (P : ℕ → Type 0) (n : ℕ) (xs : List ℕ) → All P xs → member n xs ≡ true → P n

@@ -18,7 +18,7 @@ use Rattle.region_archive.specs.Bytes.{big, counted}
 use Rattle.region_archive.specs.Image.{part-bytes, body, image}
 use Rattle.region_archive.specs.File.{length-field, front-questions}
 use Rattle.region_archive.specs.Parsing.{by-key}
-use Rattle.region_archive.specs.RecordFields.{Elem, key, most, LegalElem, elements, record-bytes, section-bytes}
+use Rattle.region_archive.specs.RecordFields.{Elem, key, most-records, LegalElem, elements, record-bytes, section-bytes}
 use Rattle.region_archive.specs.declared.record_fields.Section.{Section}
 use Rattle.region_archive.specs.declared.record_fields.Section.the-variants as Section
 use Rattle.region_archive.proofs.Pieces.{big-length, concat-length, concat-most}
@@ -34,7 +34,7 @@ abbrev pub RegionRow : List ℕ → Type 0
 RegionRow rs = Sorted (by-key (λ n. n)) (λ n. n < regions) regions rs
 
 abbrev pub SectionRow : (k : Section) → List ℕ → List (Elem k) → Type 0
-SectionRow k rs xs = Sorted (by-key (key k)) (LegalElem k rs) (most k) xs
+SectionRow k rs xs = Sorted (by-key (key k)) (LegalElem k rs) (most-records k) xs
 
 -- bytes tell the regions
 pub regions-same : Delimits RegionRow (counted (big 1)) _≡_
@@ -92,7 +92,7 @@ record-most Section.Connections rs c h =
     )
 
 -- nor does a section than its records
-section-most : (k : Section) (m : Model) → Legal m → length (section-bytes k m) ≤ 1 + most k * record-limit k
+section-most : (k : Section) (m : Model) → Legal m → length (section-bytes k m) ≤ 1 + most-records k * record-limit k
 section-most k m h =
     let r = legal-rows m h .1 k in
     omega (arith, concat-most (LegalElem k (m .regions)) (record-bytes k) (record-limit k) (record-most k (m .regions)) (elements k m) (r .each), mul-le-mul-right (record-limit k) (r .few))

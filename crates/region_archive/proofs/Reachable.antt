@@ -15,7 +15,7 @@ use Rattle.region_graph.proofs.Lists.{all-map}
 use Rattle.region_graph.proofs.Legal.{legal-nothing, legal-run}
 use Rattle.region_graph.proofs.Storing.{stores-valid}
 use Rattle.region_archive.specs.Parsing.{by-key}
-use Rattle.region_archive.specs.RecordFields.{Elem, key, most, LegalElem, elements}
+use Rattle.region_archive.specs.RecordFields.{Elem, key, most-records, LegalElem, elements}
 use Rattle.region_archive.specs.declared.record_fields.Section.{Section}
 use Rattle.region_archive.specs.declared.record_fields.Section.the-variants as Section
 use Rattle.region_archive.proofs.Pieces.{Ascends, ascends-keys, keys-ascend, floor-of, all-append, all-front, all-back, ascends-back}
@@ -78,7 +78,7 @@ regions-fill rs r = fills (λ n. n < regions) (λ n. n) regions only Call.add-re
         region-joined xs x (region-taken xs x (l .is-good) (l .rises) a) (l .rises) a
 
 -- a row in a section of a legal model
-filled-legal : (k : Section) (m : Model) (xs : List (Elem k)) → Legal (filled k m []) → Sorted (by-key (key k)) (LegalElem k (m .regions)) (most k) xs → Legal (filled k m xs)
+filled-legal : (k : Section) (m : Model) (xs : List (Elem k)) → Legal (filled k m []) → Sorted (by-key (key k)) (LegalElem k (m .regions)) (most-records k) xs → Legal (filled k m xs)
 filled-legal Section.Bundles m xs l r =
     let h = legal-rows (filled Section.Bundles m []) l in
     rows-legal (filled Section.Bundles m xs) (h .0) (λ k. elim k [ Section.Bundles ↦ r | Section.Connections ↦ h .1 Section.Connections ])
@@ -87,11 +87,11 @@ filled-legal Section.Connections m xs l r =
     rows-legal (filled Section.Connections m xs) (h .0) (λ k. elim k [ Section.Bundles ↦ h .1 Section.Bundles | Section.Connections ↦ r ])
 
 -- the elements of a section, handed to its call in order
-section-fill : (k : Section) (m : Model) (xs : List (Elem k)) → Legal (filled k m []) → Sorted (by-key (key k)) (LegalElem k (m .regions)) (most k) xs
+section-fill : (k : Section) (m : Model) (xs : List (Elem k)) → Legal (filled k m []) → Sorted (by-key (key k)) (LegalElem k (m .regions)) (most-records k) xs
     → run (filled k m []) (map (call k) xs) ≡ filled k m xs
-section-fill k m xs l r = fills (LegalElem k (m .regions)) (key k) (most k) (filled k m) (call k) step [] xs r
+section-fill k m xs l r = fills (LegalElem k (m .regions)) (key k) (most-records k) (filled k m) (call k) step [] xs r
   where
-    step : (xs : List (Elem k)) (x : Elem k) → Last (LegalElem k (m .regions)) (key k) (most k) xs x → after (filled k m xs) (call k x) ≡ filled k m (xs ++ (x ∷ []))
+    step : (xs : List (Elem k)) (x : Elem k) → Last (LegalElem k (m .regions)) (key k) (most-records k) xs x → after (filled k m xs) (call k x) ≡ filled k m (xs ++ (x ∷ []))
     step xs x h =
         let g : Legal (filled k m xs) = filled-legal k m xs l (h .front) in
         let a = ascends-keys (key k) xs (h .front .ascend) in
@@ -129,7 +129,7 @@ legal-reached m l =
           ∙ section-fill Section.Connections m (m .connections) (filled-legal Section.Bundles m (m .bundles) none (rows .1 Section.Bundles)) (rows .1 Section.Connections);
     }
   where
-    rows : Sorted (by-key (λ n. n)) (λ n. n < regions) regions (m .regions) × ((k : Section) → Sorted (by-key (key k)) (LegalElem k (m .regions)) (most k) (elements k m))
+    rows : Sorted (by-key (λ n. n)) (λ n. n < regions) regions (m .regions) × ((k : Section) → Sorted (by-key (key k)) (LegalElem k (m .regions)) (most-records k) (elements k m))
     rows = legal-rows m l
 
     adds : List Call

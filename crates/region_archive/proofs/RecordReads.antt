@@ -13,7 +13,7 @@ use Rattle.region_graph.specs.Lists.{All}
 use Rattle.region_graph.specs.Flat.{Fields}
 use Rattle.region_archive.specs.Bytes.{big}
 use Rattle.region_archive.specs.Parsing.{Parsed, Unparsed, ParsedInto, AnswerInto}
-use Rattle.region_archive.specs.RecordFields.{bytes-to, SameTo, GoodTo, field-count, most-in, FieldGood, field-bytes, fields-bytes, FieldSame, FlatField, Elem, SameFields, fields-of, record-bytes, key, most, LegalElem}
+use Rattle.region_archive.specs.RecordFields.{bytes-to, SameTo, GoodTo, field-count, most-in, FieldGood, field-bytes, fields-bytes, FieldSame, FlatField, Elem, SameFields, fields-of, record-bytes, key, most-records, LegalElem}
 use Rattle.region_archive.specs.Sections.{FieldRead, LengthStands}
 use Rattle.region_archive.specs.declared.record_fields.Section.{Section}
 use Rattle.region_archive.specs.declared.sections.FieldAt.{FieldAt}
@@ -74,7 +74,7 @@ module _ (s : List ℕ) (mid stop : ℕ) (h : mid ≤ stop) (l : stop ≤ length
 module _ (k : Section) (rs : List ℕ) (small : All (λ r. r < regions) rs) (s : List ℕ) (at : ℕ) where
   -- no record of a legal element with such a key stands here
   abbrev pub NoRecord : ℕ → Type 0
-  NoRecord floor = NoNext (LegalElem k rs) (record-bytes k) (element-same rs small k) (key k) (most k) s at floor
+  NoRecord floor = NoNext (LegalElem k rs) (record-bytes k) (element-same rs small k) (key k) (most-records k) s at floor
 
   abbrev all-fields : Elem k → List ℕ
   all-fields z = fields-bytes k (fields-of k z)

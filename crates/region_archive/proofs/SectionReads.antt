@@ -18,7 +18,7 @@ use Rattle.region_graph.specs.Flat.{Flat}
 use Rattle.region_graph.proofs.Lists.{member-all}
 use Rattle.region_archive.specs.Bytes.{big, counted}
 use Rattle.region_archive.specs.Parsing.{Parsed, Unparsed, Answer, ParsedInto, AnswerInto, by-key}
-use Rattle.region_archive.specs.RecordFields.{field-count, row-width, field-key, FlatElem, Elem, fields-of, record-bytes, key, most, LegalElem}
+use Rattle.region_archive.specs.RecordFields.{field-count, row-width, field-key, FlatElem, Elem, fields-of, record-bytes, key, most-records, LegalElem}
 use Rattle.region_archive.specs.Sections.{LengthStands, SectionRead}
 use Rattle.region_archive.specs.declared.numbers.NumberAt.{NumberAt}
 use Rattle.region_archive.specs.declared.record_fields.Section.{Section}
@@ -57,11 +57,11 @@ pub mid-at : (a k i : ℕ) (xs : List ℕ) → i < k → getD (midOf a k xs) i 0
 mid-at a k i xs h = getD-take k (drop a xs) i 0 h ∙ getD-drop a xs i 0
 
 -- sizes
-pub most-small : (k : Section) → most k < 256
+pub most-small : (k : Section) → most-records k < 256
 most-small Section.Bundles = omega arith
 most-small Section.Connections = omega arith
 
-pub rows-small : (k : Section) → most k * row-width k ≤ 2544
+pub rows-small : (k : Section) → most-records k * row-width k ≤ 2544
 rows-small Section.Bundles = omega arith
 rows-small Section.Connections = omega arith
 
@@ -70,9 +70,9 @@ pub row-next : (w base n : ℕ) → base ≡ n * w → base + w ≡ (n + 1) * w
 row-next w base n e = omega (arith, ap (λ (m : ℕ). m * w) (add-one n) ∙ suc-mul n w)
 
 -- the next row is within the rows
-pub row-room : (k : Section) {base n : ℕ} → base ≡ n * row-width k → n < most k → base + row-width k ≤ most k * row-width k
+pub row-room : (k : Section) {base n : ℕ} → base ≡ n * row-width k → n < most-records k → base + row-width k ≤ most-records k * row-width k
 row-room k {base} {n} e h =
-    let up : suc n ≤ most k = omega arith in
+    let up : suc n ≤ most-records k = omega arith in
     omega (arith, mul-le-mul-right (row-width k) up, suc-mul n (row-width k))
 
 module _ (k : Section) (rs : List ℕ) (small : All (λ r. r < regions) rs) where
@@ -87,7 +87,7 @@ module _ (k : Section) (rs : List ℕ) (small : All (λ r. r < regions) rs) wher
   -- n elements were read from `mid` to `at`; their rows end at `base`
   pub record Recording (s : List ℕ) (mid : ℕ) (rows : List ℕ) (at least base n : ℕ) : Type 0 where
     pub elems : List (Elem k)
-    pub going : Going (LegalElem k rs) (record-bytes k) (element-same rs small k) (key k) (most k) s mid elems at least
+    pub going : Going (LegalElem k rs) (record-bytes k) (element-same rs small k) (key k) (most-records k) s mid elems at least
     pub count : n ≡ length elems
     pub base-is : base ≡ n * row-width k
     pub flat : Flat (row-width k) (FlatElem k) (take base rows) elems
@@ -95,7 +95,7 @@ module _ (k : Section) (rs : List ℕ) (small : All (λ r. r < regions) rs) wher
   pub recording-start : (s : List ℕ) (mid : ℕ) → mid ≤ length s → (rows : List ℕ) → Recording s mid rows mid 0 0 0
   recording-start s mid h rows = record {
     elems = [];
-    going = going-none (LegalElem k rs) (record-bytes k) (element-same rs small k) (key k) (most k) s mid h;
+    going = going-none (LegalElem k rs) (record-bytes k) (element-same rs small k) (key k) (most-records k) s mid h;
     count = refl;
     base-is = omega arith;
     flat = refl;
@@ -133,8 +133,8 @@ module _ (k : Section) (rs : List ℕ) (small : All (λ r. r < regions) rs) wher
         record {
           elems = w .elems ++ (x ∷ []);
           going =
-              subst (λ (m : ℕ). Going (LegalElem k rs) (record-bytes k) (element-same rs small k) (key k) (most k) s mid (w .elems ++ (x ∷ [])) to (m + 1)) (sym o)
-              (going-more (LegalElem k rs) (record-bytes k) (element-same rs small k) (key k) (most k) s mid (w .going) stands (read-element .high));
+              subst (λ (m : ℕ). Going (LegalElem k rs) (record-bytes k) (element-same rs small k) (key k) (most-records k) s mid (w .elems ++ (x ∷ [])) to (m + 1)) (sym o)
+              (going-more (LegalElem k rs) (record-bytes k) (element-same rs small k) (key k) (most-records k) s mid (w .going) stands (read-element .high));
           count = ap (λ (m : ℕ). m + 1) (w .count) ∙ sym (length-append (w .elems) (x ∷ []));
           base-is = ends ∙ row-next (row-width k) base n (w .base-is);
           flat =
@@ -150,11 +150,11 @@ module _ (k : Section) (rs : List ℕ) (small : All (λ r. r < regions) rs) wher
             let e : end ≡ base + (end - base) = omega arith in
             ap (λ (m : ℕ). take m new) e ∙ take-add base (end - base) new ∙ ap (λ (l : List ℕ). l ++ midOf base (end - base) new) same
 
-  module _ (s : List ℕ) (from : ℕ) (r : NumberAt) (a : Answer (λ m. m ≤ most k) (big 1) s from (r .ok) (r .number) (r .next)) where
+  module _ (s : List ℕ) (from : ℕ) (r : NumberAt) (a : Answer (λ m. m ≤ most-records k) (big 1) s from (r .ok) (r .number) (r .next)) where
     pub section-missing : not (r .ok) ≡ true → (rows : List ℕ) → SectionRead k rs s from rows (record { ok = false; next = from; count = 0 })
     section-missing e rows = record {
       room = omega arith;
-      answer = no-count (most k) (most-small k) s from (Sorted (by-key (key k)) (LegalElem k rs) (most k)) (record-bytes k) (λ xs h. h .few) r e a;
+      answer = no-count (most-records k) (most-small k) s from (Sorted (by-key (key k)) (LegalElem k rs) (most-records k)) (record-bytes k) (λ xs h. h .few) r e a;
     }
 
     pub section-end : not (r .ok) ≡ false → {rows last : List ℕ} {at least base n : ℕ} (w : Recording s (r .next) rows at least base n) → n ≤ r .number
@@ -164,27 +164,27 @@ module _ (k : Section) (rs : List ℕ) (small : All (λ r. r < regions) rs) wher
         record {
           room = room;
           answer =
-              stands-or (Sorted (by-key (key k)) (LegalElem k rs) (most k)) (counted (record-bytes k)) s from (eqb n (r .number))
+              stands-or (Sorted (by-key (key k)) (LegalElem k rs) (most-records k)) (counted (record-bytes k)) s from (eqb n (r .number))
               (Flat (row-width k) (FlatElem k) (take base last)) at
               (λ y. done (eqb-true n (r .number) y)) (λ y. let h : n < r .number = strictly (eqb-false n (r .number) y) in stuck h (u h));
         }
       where
-        p : Parsed (λ m. m ≤ most k) (big 1) s from (r .number) (r .next)
-        p = count-stands (most k) (most-small k) s from r e a
+        p : Parsed (λ m. m ≤ most-records k) (big 1) s from (r .number) (r .next)
+        p = count-stands (most-records k) (most-small k) s from r e a
 
-        done : n ≡ r .number → ParsedInto (Sorted (by-key (key k)) (LegalElem k rs) (most k)) (counted (record-bytes k)) s from (Flat (row-width k) (FlatElem k) (take base last)) at
+        done : n ≡ r .number → ParsedInto (Sorted (by-key (key k)) (LegalElem k rs) (most-records k)) (counted (record-bytes k)) s from (Flat (row-width k) (FlatElem k) (take base last)) at
         done y = record {
           value = w .elems;
           parsed =
-              row-parsed (LegalElem k rs) (record-bytes k) (element-same rs small k) (key k) (most k) s from (r .number) (r .next)
-              (count-byte (most k) (most-small k) s from p) (w .going) (p .ends) (sym y ∙ w .count) (p .is-good);
+              row-parsed (LegalElem k rs) (record-bytes k) (element-same rs small k) (key k) (most-records k) s from (r .number) (r .next)
+              (count-byte (most-records k) (most-small k) s from p) (w .going) (p .ends) (sym y ∙ w .count) (p .is-good);
           put = subst (λ (l : List ℕ). Flat (row-width k) (FlatElem k) (take base l) (w .elems)) (sym (same y)) (w .flat);
         }
 
-        stuck : n < r .number → NoRecord k rs small s at least → Unparsed (Sorted (by-key (key k)) (LegalElem k rs) (most k)) (counted (record-bytes k)) s from
+        stuck : n < r .number → NoRecord k rs small s at least → Unparsed (Sorted (by-key (key k)) (LegalElem k rs) (most-records k)) (counted (record-bytes k)) s from
         stuck h v =
-            row-stuck (LegalElem k rs) (record-bytes k) (element-same rs small k) (key k) (most k) s from (r .number) (r .next)
-            (count-byte (most k) (most-small k) s from p) (w .going) (omega (arith, w .count)) v
+            row-stuck (LegalElem k rs) (record-bytes k) (element-same rs small k) (key k) (most-records k) s from (r .number) (r .next)
+            (count-byte (most-records k) (most-small k) s from p) (w .going) (omega (arith, w .count)) v
 
         strictly : (n ≡ r .number → ⊥) → n < r .number
         strictly v = omega arith

@@ -17,7 +17,7 @@ use Rattle.region_graph.proofs.Lists.{and-yes, and-left, and-right, pick-yes, a
 use Rattle.region_graph.proofs.Ascending.{none-any, connection-order}
 use Rattle.region_graph.proofs.Legal.{connectable}
 use Rattle.region_archive.specs.Parsing.{by-key}
-use Rattle.region_archive.specs.RecordFields.{Elem, key, most, LegalElem, elements}
+use Rattle.region_archive.specs.RecordFields.{Elem, key, most-records, LegalElem, elements}
 use Rattle.region_archive.specs.declared.record_fields.Section.{Section}
 use Rattle.region_archive.specs.declared.record_fields.Section.the-variants as Section
 use Rattle.region_archive.proofs.Pieces.{Ascends, floor-of}
@@ -130,7 +130,7 @@ below rs n r h = lt-ltb r regions (member-all (λ s. s < regions) r rs n h)
 
 -- the next element's call is accepted
 pub taken : (k : Section) (m : Model) (xs : List (Elem k)) (x : Elem k) → Legal (filled k m xs) → LegalElem k (m .regions) x → floor-of (key k) 0 xs ≤ key k x
-    → Ascends (key k) 0 xs → length xs < most k → number (filled k m xs) (call k x) ≡ not-refused
+    → Ascends (key k) 0 xs → length xs < most-records k → number (filled k m xs) (call k x) ≡ not-refused
 taken Section.Bundles m xs b l h f a n =
     let few = and-yes (le-leb (length (b .packages)) most-provided (h .packages .few)) (le-leb (length (b .services)) most-provided (h .services .few)) in
     let rise = and-yes (h .packages .ascend) (h .services .ascend) in
@@ -197,10 +197,10 @@ section-ascends k rs n xs h =
 
 -- a legal model's regions and sections are rows
 pub legal-rows : (m : Model) → Legal m
-    → Sorted (by-key (λ n. n)) (λ n. n < regions) regions (m .regions) × ((k : Section) → Sorted (by-key (key k)) (LegalElem k (m .regions)) (most k) (elements k m))
+    → Sorted (by-key (λ n. n)) (λ n. n < regions) regions (m .regions) × ((k : Section) → Sorted (by-key (key k)) (LegalElem k (m .regions)) (most-records k) (elements k m))
 legal-rows m l = (l .regions-legal, row)
   where
-    row : (k : Section) → Sorted (by-key (key k)) (LegalElem k (m .regions)) (most k) (elements k m)
+    row : (k : Section) → Sorted (by-key (key k)) (LegalElem k (m .regions)) (most-records k) (elements k m)
     row Section.Bundles = l .bundles-legal
     row Section.Connections =
         record {
@@ -211,7 +211,7 @@ legal-rows m l = (l .regions-legal, row)
 
 -- and a model whose regions and sections are rows is legal
 pub rows-legal : (m : Model) → Sorted (by-key (λ n. n)) (λ n. n < regions) regions (m .regions)
-    → ((k : Section) → Sorted (by-key (key k)) (LegalElem k (m .regions)) (most k) (elements k m)) → Legal m
+    → ((k : Section) → Sorted (by-key (key k)) (LegalElem k (m .regions)) (most-records k) (elements k m)) → Legal m
 rows-legal m r s =
     record {
       regions-legal = r;

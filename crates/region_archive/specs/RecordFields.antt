@@ -89,9 +89,9 @@ field-key Section.Connections first second = first * 256 + second
 abbrev pub key : (s : Section) → Elem s → ℕ
 key s x = field-key s (fields-of s x .first) (fields-of s x .second)
 
-abbrev pub most : Section → ℕ
-most Section.Bundles = most-bundles
-most Section.Connections = most-connections
+abbrev pub most-records : Section → ℕ
+most-records Section.Bundles = most-bundles
+most-records Section.Connections = most-connections
 
 abbrev pub LegalElem : (s : Section) → List ℕ → Elem s → Type 0
 LegalElem Section.Bundles rs b = LegalBundle rs b

@@ -15,7 +15,7 @@ use Rattle.region_graph.specs.Flat.{Fields, FlatPart, Flat}
 use Rattle.region_archive.specs.Bytes.{big, counted}
 use Rattle.region_archive.specs.Image.{part-bytes, body}
 use Rattle.region_archive.specs.Parsing.{Parsed, AnswerInto, by-key}
-use Rattle.region_archive.specs.RecordFields.{SameTo, GoodTo, PartGood, FieldGood, field-bytes, FieldSame, FlatField, FlatElem, record-bytes, key, most, most-in, row-width, LegalElem}
+use Rattle.region_archive.specs.RecordFields.{SameTo, GoodTo, PartGood, FieldGood, field-bytes, FieldSame, FlatField, FlatElem, record-bytes, key, most-records, most-in, row-width, LegalElem}
 use Rattle.region_archive.specs.declared.record_fields.Section.{Section}
 use Rattle.region_archive.specs.declared.sections.FieldAt.{FieldAt}
 use Rattle.region_archive.specs.declared.sections.LengthAt.{LengthAt}
@@ -59,7 +59,7 @@ pub record RegionsRead (bytes : List ℕ) (at : ℕ) (list : List ℕ) (r : Regi
 -- a section was read at a place, in a graph with regions rs
 pub record SectionRead (k : Section) (rs : List ℕ) (bytes : List ℕ) (at : ℕ) (rows : List ℕ) (r : SectionAt) : Type 0 where
   pub room : r .count ≤ length rows
-  pub answer : AnswerInto (Sorted (by-key (key k)) (LegalElem k rs) (most k)) (counted (record-bytes k)) bytes at (r .ok)
+  pub answer : AnswerInto (Sorted (by-key (key k)) (LegalElem k rs) (most-records k)) (counted (record-bytes k)) bytes at (r .ok)
       (Flat (row-width k) (FlatElem k) (take (r .count) rows)) (r .next)
 
 -- a body was read at a place, to the end: the graph of the model whose body it is, or a refusal and the empty graph where it is none's

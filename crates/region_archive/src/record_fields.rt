@@ -2,7 +2,7 @@
 ghost use mathlib.Core.Path.{_≡_};
 ghost use lib.ListN.{length};
 ghost use Rattle.region_graph.specs.Record.{Valid, meaning, «store-numbers», «provided-of», «bundle-in», «connection-in»};
-ghost use Rattle.region_archive.specs.RecordFields.{«field-key», «field-count», «first-width», most, «most-in», «row-width», elements, ProvidedFits, BundleFits, ConnectionFits, ValuesAre};
+ghost use Rattle.region_archive.specs.RecordFields.{«field-key», «field-count», «first-width», «most-records», «most-in», «row-width», elements, ProvidedFits, BundleFits, ConnectionFits, ValuesAre};
 use region_graph::Graph;
 use region_graph::Numbers;
 use region_graph::Provided;
@@ -44,8 +44,8 @@ fn widened(list: Provided) -> Numbers
 }
 
 // How many records a section may have.
-pub fn limit(section: Section) -> usize
-    ensures { λ r. ⌜ r ≡ most section ⌝ }
+pub fn most_records(section: Section) -> usize
+    ensures { λ r. ⌜ r ≡ most-records section ⌝ }
 {
     match section {
         Section::Bundles => MOST_BUNDLES,
@@ -54,7 +54,7 @@ pub fn limit(section: Section) -> usize
 }
 
 // How many fields a record of a section has.
-pub fn fields(section: Section) -> usize
+pub fn field_count(section: Section) -> usize
     ensures { λ r. ⌜ r ≡ field-count section ⌝ }
 {
     match section {

@@ -5,16 +5,16 @@ ghost use Prim.Native.Nat.{_≤_, _<_, _+_, _*_};
 ghost use lib.ListN.{length};
 ghost use Rattle.region_graph.specs.Size.{regions, «most-listed»};
 ghost use Rattle.region_graph.specs.Sets.{members};
-ghost use Rattle.region_archive.specs.RecordFields.{«field-count», «first-good», «second-good», «part-open», most, «row-width»};
+ghost use Rattle.region_archive.specs.RecordFields.{«field-count», «first-good», «second-good», «part-open», «most-records», «row-width»};
 ghost use Rattle.region_archive.specs.Sections.{ListRead, PartRead, FieldRead, LengthRead, RegionsRead, SectionRead};
 use crate::numbers::count_at;
 use crate::numbers::number_at;
 use crate::record_fields::Section;
+use crate::record_fields::field_count;
 use crate::record_fields::field_key;
-use crate::record_fields::fields;
 use crate::record_fields::first_width;
-use crate::record_fields::limit;
 use crate::record_fields::most_in;
+use crate::record_fields::most_records;
 use crate::record_fields::width;
 use region_graph::region_set::has;
 use region_graph::region_set::is_region;
@@ -306,10 +306,10 @@ pub fn section_at(
     regions: u64,
     rows: &mut [u32],
 ) -> SectionAt
-    requires { ⌜ (from ≤ length (now bytes)) × (most section * row-width section ≤ length (now rows)) ⌝ }
+    requires { ⌜ (from ≤ length (now bytes)) × (most-records section * row-width section ≤ length (now rows)) ⌝ }
     ensures { λ r. ⌜ SectionRead section (members regions) (now (bytes .entry)) from (now (rows .exit)) r ⌝ }
 {
-    let most = limit(section);
+    let most = most_records(section);
     let count = count_at(bytes, from, most);
     if !count.ok {
         return SectionAt {
@@ -319,7 +319,7 @@ pub fn section_at(
         };
     }
     let total = count.number as usize;
-    let field_count = fields(section);
+    let fields = field_count(section);
     let wide = width(section);
     let mut at = count.next;
     let mut least: u64 = 0;
@@ -334,7 +334,7 @@ pub fn section_at(
         let end = base + wide;
         let mut to = length.next;
         let mut field: usize = 0;
-        'fields: while field < field_count {
+        'fields: while field < fields {
             let read = field_at(
                 &bytes[..stop],
                 to,

@@ -19,7 +19,7 @@ use crate::record_fields::Section;
 use crate::record_fields::bundle_values;
 use crate::record_fields::connection_values;
 use crate::record_fields::count;
-use crate::record_fields::fields;
+use crate::record_fields::field_count;
 use crate::record_fields::first_width;
 use region_graph::Graph;
 use region_graph::Numbers;
@@ -60,7 +60,7 @@ fn fields_size(section: Section, values: FieldValues) -> usize
     requires { ⌜ ValuesFit values ⌝ }
     ensures { λ r. ⌜ (r ≡ length (fields-bytes section (fields-in values))) × (r ≤ fields-bound) ⌝ }
 {
-    let total = fields(section);
+    let total = field_count(section);
     let mut size: usize = 0;
     let mut field: usize = 0;
     while field < total {
@@ -179,7 +179,7 @@ fn put_record(buffer: &mut [u8], at: usize, section: Section, values: FieldValue
     ensures { λ r. ⌜ WrittenAt (now (buffer .entry)) (now (buffer .exit)) at (sized 2 (fields-bytes section) (fields-in values)) r ⌝ }
 {
     let size = fields_size(section, values);
-    let total = fields(section);
+    let total = field_count(section);
     let mut to = put_number(buffer, at, 2, size);
     let mut field: usize = 0;
     while field < total {

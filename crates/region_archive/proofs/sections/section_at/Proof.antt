@@ -12,7 +12,7 @@ use Rattle.region_graph.specs.Sets.{members}
 use Rattle.region_graph.proofs.FlatLaws.{members-small}
 use Rattle.region_archive.specs.Bytes.{big}
 use Rattle.region_archive.specs.Parsing.{Parsed, Answer}
-use Rattle.region_archive.specs.RecordFields.{bytes-to, GoodTo, FieldGood, field-bytes, field-count, row-width, most, key}
+use Rattle.region_archive.specs.RecordFields.{bytes-to, GoodTo, FieldGood, field-bytes, field-count, row-width, most-records, key}
 use Rattle.region_archive.specs.Sections.{LengthStands}
 use Rattle.region_archive.proofs.CountedReads.{count-stands}
 use Rattle.region_archive.proofs.RecordLaws.{Element, wide}
@@ -33,21 +33,21 @@ abbrev μ-fields : tie.MeasureT-fields
 μ-fields bytes from section regions rows₀ most total field-count wide at least base n stop end to₀ field₀ rows to field = field-count - field
 
 abbrev Inv-records : tie.InvT-records
-Inv-records bytes from section regions rows₀ limit total field-count wide at₀ least₀ base₀ n₀ rows at least base n =
+Inv-records bytes from section regions rows₀ most total field-count wide at₀ least₀ base₀ n₀ rows at least base n =
     (n ≤ total)
-    × ((total ≤ most section) × ((length rows ≡ length rows₀) × Recording section (members regions) (members-small regions) bytes at₀ rows at least base n))
+    × ((total ≤ most-records section) × ((length rows ≡ length rows₀) × Recording section (members regions) (members-small regions) bytes at₀ rows at least base n))
 
 abbrev μ-records : tie.MeasureT-records
-μ-records bytes from section regions rows₀ limit total field-count wide at₀ least₀ base₀ n₀ rows at least base n = total - n
+μ-records bytes from section regions rows₀ most total field-count wide at₀ least₀ base₀ n₀ rows at least base n = total - n
 
 -- the answer about the count, with the section's limit
 counted : (c : tie.After-count-at Inv-fields μ-fields Inv-records μ-records)
     → (let a = c .before .before .before .before .args in let r = c .count-at .result in
-    Answer (λ m. m ≤ most (a .section)) (big 1) (a .bytes .now) (a .from) (r .ok) (r .number) (r .next))
+    Answer (λ m. m ≤ most-records (a .section)) (big 1) (a .bytes .now) (a .from) (r .ok) (r .number) (r .next))
 counted c =
     let a = c .before .before .before .before .args in
     let r = c .count-at .result in
-    subst (λ (l : ℕ). Answer (λ m. m ≤ l) (big 1) (a .bytes .now) (a .from) (r .ok) (r .number) (r .next)) (c .before .limit .ensures) (c .count-at .ensures)
+    subst (λ (l : ℕ). Answer (λ m. m ≤ l) (big 1) (a .bytes .now) (a .from) (r .ok) (r .number) (r .next)) (c .before .most-records .ensures) (c .count-at .ensures)
 
 -- the next row is within the rows
 room : (c : tie.In-records Inv-fields μ-fields Inv-records μ-records)
@@ -63,7 +63,7 @@ stands : (c : tie.Else2 Inv-fields μ-fields Inv-records μ-records) → LengthS
 stands c = length-stands (c .before .before .before .before .before .before .before .before .before .before .before .before .before .before .args .bytes .now) (c .before .before .before .before .records .at) (c .before .before .length-at .result) (c .if2 .left) (c .before .before .length-at .ensures)
 
 count-at-requires : tie.Need-count-at-requires Inv-fields μ-fields Inv-records μ-records
-count-at-requires c κs = (c .before .before .before .pre .0, omega (arith, c .limit .ensures, most-small (c .before .before .before .args .section)))
+count-at-requires c κs = (c .before .before .before .pre .0, omega (arith, c .most-records .ensures, most-small (c .before .before .before .args .section)))
 
 returns : tie.Need-returns Inv-fields μ-fields Inv-records μ-records
 returns c =
@@ -75,7 +75,7 @@ records-holds c =
     let a = c .before .before .before .before .before .before .before .before .before .args in
     let k = a .section in
     let r = c .before .before .before .before .before .count-at .result in
-    let p = count-stands (most k) (most-small k) (a .bytes .now) (a .from) r (c .before .before .before .if1 .left) (counted (c .before .before .before .before .before)) in
+    let p = count-stands (most-records k) (most-small k) (a .bytes .now) (a .from) r (c .before .before .before .if1 .left) (counted (c .before .before .before .before .before)) in
     (omega arith, (p .is-good, (refl, recording-start k (members (a .regions)) (members-small (a .regions)) (a .bytes .now) (r .next) (p .room) (a .rows .now))))
 
 length-at-requires : tie.Need-length-at-requires Inv-fields μ-fields Inv-records μ-records
@@ -110,10 +110,10 @@ field-at-requires c κs =
     let end = l .base + c .before .before .before .before .before .before .before .before .before .width .result in
     let h : end ≤ length (v .rows) = omega (arith, room (c .before .before .before .before .before .before .before) .0, v .inv .1 .1 .0) in
     let w : end - l .base ≡ row-width (c .before .before .before .before .before .before .before .before .before .before .before .before .before .before .before .before .before .before .args .section) = omega (arith, c .before .before .before .before .before .before .before .before .before .width .ensures) in
-    (v .inv .1 .1 .1 .parsed .room, (omega (arith, c .before .before .fields-test .taken, c .before .before .before .before .before .before .before .before .before .before .fields2 .ensures), mid-len (l .base) end (v .rows) h ∙ w))
+    (v .inv .1 .1 .1 .parsed .room, (omega (arith, c .before .before .fields-test .taken, c .before .before .before .before .before .before .before .before .before .before .field-count .ensures), mid-len (l .base) end (v .rows) h ∙ w))
 
 add-field : tie.Need-add-field Inv-fields μ-fields Inv-records μ-records
-add-field c = omega (arith, c .before .before .before .before .before .before .before .fields-test .taken, c .before .before .before .before .before .before .before .before .before .before .before .before .before .before .before .fields2 .ensures, few-fields (c .before .before .before .before .before .before .before .before .before .before .before .before .before .before .before .before .before .before .before .before .before .before .before .args .section))
+add-field c = omega (arith, c .before .before .before .before .before .before .before .fields-test .taken, c .before .before .before .before .before .before .before .before .before .before .before .before .before .before .before .field-count .ensures, few-fields (c .before .before .before .before .before .before .before .before .before .before .before .before .before .before .before .before .before .before .before .before .before .before .before .args .section))
 
 fields-less : tie.Need-fields-less Inv-fields μ-fields Inv-records μ-records
 fields-less c = omega (arith, c .before .before .before .before .before .before .before .fields-test .taken)
@@ -167,7 +167,7 @@ done c =
     let l = c .before .before .before .before .before .before .before .before .before .before .records in
     let v = c .before .before .before .before .before .fields in
     let r = c .before .before .before .before .before .before .before .before .length-at .result in
-    let e : v .field ≡ field-count (a .section) = omega (arith, c .before .before .before .before .before .before .before .before .before .before .before .before .fields2 .ensures, v .inv .0, c .before .before .before .before .fields-test .left) in
+    let e : v .field ≡ field-count (a .section) = omega (arith, c .before .before .before .before .before .before .before .before .before .before .before .before .field-count .ensures, v .inv .0, c .before .before .before .before .fields-test .left) in
     subst
     (λ (j : ℕ).
     FieldsRead (a .section) (members (a .regions)) (l .least) j (take (r .stop) (a .bytes .now)) (r .next) (midOf (l .base) (l .base + c .before .before .before .before .before .before .before .before .before .before .before .width .result - l .base) (v .rows))
@@ -238,7 +238,7 @@ base-room : (c : tie.Left-records Inv-fields μ-fields Inv-records μ-records) �
 base-room c =
     let s = c .before .before .before .before .before .before .before .before .before .before .before in
     let l = c .before .records in
-    let n : l .n ≤ most (s .args .section) = omega (arith, l .inv .0, l .inv .1 .0) in
+    let n : l .n ≤ most-records (s .args .section) = omega (arith, l .inv .0, l .inv .1 .0) in
     omega (arith, l .inv .1 .1 .1 .base-is, mul-le-mul-right (row-width (s .args .section)) n, s .pre .1, kept c)
 
 same-length : tie.Need-same-length Inv-fields μ-fields Inv-records μ-records
@@ -253,7 +253,7 @@ returns-2 c =
     let b = s .args .bytes .now in
     let l = c .before .records in
     let at = l .at in
-    let count = c .before .before .before .fields2 .ensures in
+    let count = c .before .before .before .field-count .ensures in
     section-end k rs z b (s .args .from) (c .before .before .before .before .before .before .before .count-at .result) (counted (c .before .before .before .before .before .before .before)) (c .before .before .before .before .before .if1 .left) (l .inv .1 .1 .1) (l .inv .0) (base-room c)
     (λ e. ⊎-elim (λ w. w .1) (⊎-elim (λ w. absurd (omega (arith, e, w .0 .taken))) (⊎-elim (λ w. absurd (omega (arith, e, w .0 .taken))) (λ w. absurd (omega (arith, e, w .0 .taken))))) (c .records-test .came))
     (λ h.

@@ -18,10 +18,10 @@ abbrev μ-loop : tie.MeasureT-loop
 μ-loop section values total size₀ field₀ size field = total - field
 
 field-size-requires : tie.Need-field-size-requires Inv-loop μ-loop
-field-size-requires c κs = (c .before .before .before .pre, omega (arith, c .before .before .fields .ensures))
+field-size-requires c κs = (c .before .before .before .pre, omega (arith, c .before .before .field-count .ensures))
 
 add-size : tie.Need-add-size Inv-loop μ-loop
-add-size c = omega (arith, few-fields (c .before .before .before .before .args .section), c .before .before .before .fields .ensures, c .field-size .ensures .1)
+add-size c = omega (arith, few-fields (c .before .before .before .before .args .section), c .before .before .before .field-count .ensures, c .field-size .ensures .1)
 
 loop-again : tie.Need-loop-again Inv-loop μ-loop
 loop-again c =
@@ -37,8 +37,8 @@ loop-again c =
 returns : tie.Need-returns Inv-loop μ-loop
 returns c =
     let s = c .before .before .before .args in
-    let e : c .before .loop .field ≡ c .before .before .fields .result = omega arith in
-    (c .before .loop .inv .1 ∙ ap (λ (k : ℕ). length (bytes-to (field-bytes (s .section)) k (fields-in (s .values)))) (e ∙ c .before .before .fields .ensures), omega (arith, c .before .before .fields .ensures, few-fields (s .section)))
+    let e : c .before .loop .field ≡ c .before .before .field-count .result = omega arith in
+    (c .before .loop .inv .1 ∙ ap (λ (k : ℕ). length (bytes-to (field-bytes (s .section)) k (fields-in (s .values)))) (e ∙ c .before .before .field-count .ensures), omega (arith, c .before .before .field-count .ensures, few-fields (s .section)))
 
 pub fields-size-spec : {M : Type 1} → statement M
 fields-size-spec =

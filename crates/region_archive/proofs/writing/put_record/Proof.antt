@@ -31,7 +31,7 @@ put-field-requires c κs =
     let l = c .before .before .loop in
     let f = field-bytes (s .args .section) in
     let x = fields-in (s .args .values) in
-    let e : l .field + 1 ≤ field-count (s .args .section) = omega (arith, c .before .before .before .before .before .before .before .fields .ensures) in (
+    let e : l .field + 1 ≤ field-count (s .args .section) = omega (arith, c .before .before .before .before .before .before .before .field-count .ensures) in (
       s .pre .0,
       (
         e,
@@ -55,10 +55,10 @@ returns c =
     let l = c .before .loop in
     let f = field-bytes (s .section) in
     let x = fields-in (s .values) in
-    let e : l .field ≡ c .before .before .before .before .before .before .fields .result = omega arith in
+    let e : l .field ≡ c .before .before .before .before .before .before .field-count .result = omega arith in
     wrote-is
     (ap (λ (n : ℕ). big 2 n ++ bytes-to f (l .field) x) (c .before .before .before .before .before .before .before .fields-size .ensures .0)
-    ∙ ap (λ (k : ℕ). big 2 (length (fields-bytes (s .section) x)) ++ bytes-to f k x) (e ∙ c .before .before .before .before .before .before .fields .ensures))
+    ∙ ap (λ (k : ℕ). big 2 (length (fields-bytes (s .section) x)) ++ bytes-to f k x) (e ∙ c .before .before .before .before .before .before .field-count .ensures))
     (wrote-then (c .before .before .before .before .put-number .ensures) (l .inv .1))
 
 pub put-record-spec : {M : Type 1} → statement M

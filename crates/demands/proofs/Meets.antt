@@ -47,8 +47,8 @@ value-changes (value.by-connect κs r s bs p ps q ss n h w) = w
 value-changes (value.by-disconnect r s n h p) = p
 
 value-reads : {s : List ℕ} {g h : Graph} {n : ℕ} → value.ValueRead s g n h → ReadsOver g s (record { graph = h; number = n })
-value-reads (value.by-read κs bytes g n h e a) = read-over-empty e a
-value-reads (value.by-read-over κs bytes g n h a) = a
+value-reads (value.by-read κs bytes g h n e a) = read-over-empty e a
+value-reads (value.by-read-over κs bytes g h n a) = a
 
 value-writes : {g : Graph} {entry exit : List ℕ} {a : Written} → value.ValueWrite g entry a exit
     → _≡_ {A = Outcome Written} (archived a exit) (write-outcome (meaning g) entry)

@@ -22,7 +22,8 @@ use Rattle.region_graph.proofs.Lists.{pick-yes, pick-no, false-true}
 use Rattle.region_graph.proofs.Legal.{all-yes}
 use Rattle.region_graph.proofs.Storing.{meaning-injective}
 use Rattle.region_routes.specs.Chosen.{sees}
-use Rattle.region_routes.specs.Hooks.{Outcome, item, kind-number, written, routed, kept, judged, shown-from, kept-outcome, is-installed, sees-from, route-questions, route-outcome, find-questions, find-outcome, event-questions, event-outcome}
+use Rattle.region_routes.specs.Hooks.{Outcome, item, kind-number, written, routed, kept, judged, shown-from, kept-outcome, is-installed, sees-from}
+use Rattle.region_routes.specs.Hooks.{route-questions, route-outcome, find-questions, find-outcome, event-questions, event-outcome}
 use Rattle.region_routes.specs.declared.Routed.{Routed}
 use Rattle.region_routes.specs.declared.Routed.the-variants as Routed
 use Rattle.region_routes.specs.declared.Kept.{Kept}
@@ -40,7 +41,8 @@ use Rattle.demands.specs.Interface.{Interface, Started, from-empty, from
 use Rattle.demands.specs.ByValue.{by-value}
 use Rattle.demands.specs.Lent.{lent}
 use Rattle.demands.specs.Demands.{Questioned, RefusedAsAsked, HooksGiveNet, ArchiveInverts, Answers, WholeLists, QueriesAnswer, Demands}
-use Rattle.demands.proofs.Claims.{sees-seen, seen-sees, listener-sees, sees-listener, shown-says, kept-says, kept-same, judged-kept, judged-number, shown-number}
+use Rattle.demands.proofs.Claims.{sees-seen, seen-sees, listener-sees, sees-listener, shown-says, kept-says, kept-same, judged-kept, judged-number}
+use Rattle.demands.proofs.Claims.{shown-number}
 use Rattle.demands.proofs.NetLaws.{seen-in-net, net-seen, place-member}
 use Rattle.demands.proofs.Inverse.{accepted-model, accepted-image, image-accepted, others-refused, written-image, image-written}
 use Rattle.demands.proofs.Meets.{Meets, meets-by-value, meets-lent}
@@ -59,6 +61,9 @@ changes-known m k = first-no-within broken-layout (questions m k) (go k)
     go (Call.connect x) = (omega arith, (omega arith, (omega arith, (omega arith, (omega arith, (omega arith, (omega arith, tt)))))))
     go (Call.disconnect r s) = (omega arith, (omega arith, (omega arith, (omega arith, tt))))
 
+within : {n k : ℕ} → n ≡ k → k ≤ broken-layout → n ≤ broken-layout
+within e h = omega (arith, e, h)
+
 -- a query whose outcome goes by its questions
 asked : {A : Type 0} (refused : ℕ → A) (qs : List Question) (o : Outcome A) (entry : List ℕ) (x : Outcome A)
     → All (λ q. q .number ≤ broken-layout) qs → o .returned .number ≡ not-refused → x ≡ judged refused (first-no qs) o entry
@@ -76,12 +81,12 @@ refused-as-asked t =
     record {
       changes = λ {g} {h} {k} {n} p.
           let f = t .changes p in
-          record { first = f .number; known = subst (λ (x : ℕ). x ≤ broken-layout) (sym (f .number)) (changes-known (meaning g) k); kept = f .kept };
+          record { first = f .number; known = within (f .number) (changes-known (meaning g) k); kept = f .kept };
       reads = λ {s} {g} {h} {n} p f.
           let r = t .reads p in
           record {
             first = r .says f .number;
-            known = subst (λ (x : ℕ). x ≤ broken-layout) (sym (r .says f .number))
+            known = within (r .says f .number)
                 (first-no-within broken-layout (read-questions f) (omega arith, (omega arith, (omega arith, tt))));
             kept = r .kept;
           };
@@ -105,8 +110,11 @@ refused-as-asked t =
           (omega arith, (omega arith, tt)) refl (t .events p);
       asks = λ {s} {l} {kind} p f u.
           let n = first-no (query-questions f l kind) in
-          let e = t .asks p f ∙ pick-no _ n (ne-eqb n not-refused u) in
-          (e, subst (λ (x : ℕ). x ≤ broken-layout) (sym e) (first-no-within broken-layout (query-questions f l kind) (omega arith, (omega arith, (omega arith, (omega arith, (omega arith, tt)))))));
+          let e = t .asks p f ∙ pick-no _ n (ne-eqb n not-refused u) in (
+            e,
+            within e (
+                first-no-within broken-layout (query-questions f l kind) (omega arith, (omega arith, (omega arith, (omega arith, (omega arith, tt)))))),
+          );
     }
 
 -- ---- demand 3

@@ -7,6 +7,7 @@ use denote.Ref.{RefT}
 use Rattle.region_graph.specs.Calls.{Call}
 use Rattle.region_graph.specs.Promise.{bundle, connection}
 use Rattle.region_graph.specs.declared.Graph.{Graph}
+use Rattle.region_graph.specs.declared.Changed.{Changed}
 use Rattle.region_graph.proofs.Graph.empty.Reads as empty
 use Rattle.region_graph.proofs.Graph.add_region.Reads as add-region
 use Rattle.region_graph.proofs.Graph.remove_region.Reads as remove-region
@@ -31,24 +32,31 @@ use Rattle.region_archive.proofs.write.Reads as write
 use Rattle.region_archive.proofs.archive_query.Reads as archive-query
 use Rattle.demands.specs.Interface.{Interface}
 
+-- what a changing call and a read hand back: the next record and the number
+abbrev pub changed : ℕ → Graph → Changed
+changed n h = record { graph = h; number = n }
+
 pub data ValueChange (g : Graph) : Call → ℕ → Graph → Type 0 where
-  by-add-region : (r : ℕ) (n : ℕ) (h : Graph) → add-region.Learnt tt (g, (r, tt)) (record { graph = h; number = n }) (g, (r, tt)) → ValueChange g (Call.add-region r) n h
-  by-remove-region : (r : ℕ) (n : ℕ) (h : Graph) → remove-region.Learnt tt (g, (r, tt)) (record { graph = h; number = n }) (g, (r, tt)) → ValueChange g (Call.remove-region r) n h
+  by-add-region : (r n : ℕ) (h : Graph) → add-region.Learnt tt (g, (r, tt)) (changed n h) (g, (r, tt)) → ValueChange g (Call.add-region r) n h
+  by-remove-region : (r n : ℕ) (h : Graph) → remove-region.Learnt tt (g, (r, tt)) (changed n h) (g, (r, tt))
+      → ValueChange g (Call.remove-region r) n h
   by-install : (κs : Lfts 2) (r l : ℕ) (ps ss : RefT (List ℕ)) (n : ℕ) (h : Graph)
-      → install.Learnt κs (g, (r, (l, (ps, (ss, tt))))) (record { graph = h; number = n }) (g, (r, (l, (ps, (ss, tt)))))
+      → install.Learnt κs (g, (r, (l, (ps, (ss, tt))))) (changed n h) (g, (r, (l, (ps, (ss, tt)))))
       → ValueChange g (Call.install (bundle r l (ps .now) (ss .now))) n h
-  by-uninstall : (l : ℕ) (n : ℕ) (h : Graph) → uninstall.Learnt tt (g, (l, tt)) (record { graph = h; number = n }) (g, (l, tt)) → ValueChange g (Call.uninstall l) n h
+  by-uninstall : (l n : ℕ) (h : Graph) → uninstall.Learnt tt (g, (l, tt)) (changed n h) (g, (l, tt)) → ValueChange g (Call.uninstall l) n h
   by-connect : (κs : Lfts 3) (r s : ℕ) (bs : RefT (List ℕ)) (p : Bool) (ps : RefT (List ℕ)) (q : Bool) (ss : RefT (List ℕ)) (n : ℕ) (h : Graph)
-      → connect.Learnt κs (g, (r, (s, (bs, (p, (ps, (q, (ss, tt)))))))) (record { graph = h; number = n }) (g, (r, (s, (bs, (p, (ps, (q, (ss, tt))))))))
+      → connect.Learnt κs (g, (r, (s, (bs, (p, (ps, (q, (ss, tt)))))))) (changed n h) (g, (r, (s, (bs, (p, (ps, (q, (ss, tt))))))))
       → ValueChange g (Call.connect (connection r s (bs .now) p (ps .now) q (ss .now))) n h
-  by-disconnect : (r s : ℕ) (n : ℕ) (h : Graph) → disconnect.Learnt tt (g, (r, (s, tt))) (record { graph = h; number = n }) (g, (r, (s, tt)))
+  by-disconnect : (r s n : ℕ) (h : Graph) → disconnect.Learnt tt (g, (r, (s, tt))) (changed n h) (g, (r, (s, tt)))
       → ValueChange g (Call.disconnect r s) n h
 
 -- `read` hands back the empty record where it refuses, `read_over` the record that it was handed
 pub data ValueRead : List ℕ → Graph → ℕ → Graph → Type 0 where
-  by-read : (κs : Lfts 1) (bytes : RefT (List ℕ)) (g : Graph) (n : ℕ) (h : Graph) → empty.Learnt tt tt g tt → read.Learnt κs (bytes, tt) (record { graph = h; number = n }) (bytes, tt)
+  by-read : (κs : Lfts 1) (bytes : RefT (List ℕ)) (g h : Graph) (n : ℕ) → empty.Learnt tt tt g tt
+      → read.Learnt κs (bytes, tt) (changed n h) (bytes, tt)
       → ValueRead (bytes .now) g n h
-  by-read-over : (κs : Lfts 1) (bytes : RefT (List ℕ)) (g : Graph) (n : ℕ) (h : Graph) → read-over.Learnt κs (g, (bytes, tt)) (record { graph = h; number = n }) (g, (bytes, tt))
+  by-read-over : (κs : Lfts 1) (bytes : RefT (List ℕ)) (g h : Graph) (n : ℕ)
+      → read-over.Learnt κs (g, (bytes, tt)) (changed n h) (g, (bytes, tt))
       → ValueRead (bytes .now) g n h
 
 pub data ValueWrite (g : Graph) : List ℕ → Written → List ℕ → Type 0 where

@@ -2,8 +2,8 @@
 # What the scripts of the tests share. A script sets `root` to the top of the repository and reads this file, which goes to the top
 # and makes `work`, a folder for the script's files that is removed at its end.
 #
-# WIMBORU_LIB and WIMBORU_LISTING name a static library and a listing program that are there; without them `rt` proves and builds both.
-# WIMBORU_DRIVER names the program that tests/second/run builds to run scripts on the engine.
+# WIMBORU_LIB and WIMBORU_LISTING name a static library and a listing program that are there; without them `rt` proves and builds
+# both. WIMBORU_DRIVER names the program that tests/second/run builds to run scripts on the engine.
 
 # PATH: the same from any folder
 absolute() {

@@ -1,6 +1,6 @@
 #!/bin/sh
-# Runs the listing program on the examples and at the edges of its input. Exit status 0 where every text is the expected one, 1 where
-# one is not, 2 where something is missing.
+# Runs the listing program on the examples and at the edges of its input. Exit status 0 where every text is the expected one, 1
+# where one is not, 2 where something is missing.
 set -eu
 root=$(cd "$(dirname "$0")/.." && pwd)
 # shellcheck source=tests/functions.sh

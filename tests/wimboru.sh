@@ -1,6 +1,6 @@
 #!/bin/sh
-# Runs ./wimboru on the examples, with wrong usage, and at its builds. Without WIMBORU_LISTING and WIMBORU_LIB it builds them itself.
-# Exit status 0 where every output and status is the expected one, 1 where one is not, 2 where something is missing.
+# Runs ./wimboru on the examples, with wrong usage, and at its builds. Without WIMBORU_LISTING and WIMBORU_LIB it builds them
+# itself. Exit status 0 where every output and status is the expected one, 1 where one is not, 2 where something is missing.
 set -eu
 root=$(cd "$(dirname "$0")/.." && pwd)
 # shellcheck source=tests/functions.sh

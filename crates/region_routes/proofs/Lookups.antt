@@ -80,7 +80,8 @@ module _ {es : List ℕ} {n : ℕ} {given : List ℕ} where
   pub preceding-skips : Skips (Preceding es n given) es n
   preceding-skips sets i h q p = record {
     preceding = λ step g. p .preceding step g
-        ∙ ap predecessors-by (λ j r s. sym (step-same step es n i h false q r s (and-false (eqb (source-in (getD es i 0)) r && eqb (target-in (getD es i 0)) s))) j);
+        ∙ ap predecessors-by (λ j r s. sym (step-same step es n i h false q r s
+            (and-false (eqb (source-in (getD es i 0)) r && eqb (target-in (getD es i 0)) s))) j);
   }
 
   module _ {sets : List ℕ} {i : ℕ} (p : Preceding es n given sets i) where

@@ -86,7 +86,8 @@ counting-start n h = record { left = 9; within = refl; small = omega arith; coun
 pub counting-more : {n count rest : ℕ} → Counting n count rest → 10 ≤ rest → Counting n (count + 1) (rest / 10)
 counting-more {n} {count} {rest} c h = go (c .left) (c .within) (c .small) (c .counted)
   where
-    go : (k : ℕ) → count + k ≡ most-digits → rest < 10 ^ suc k → digit-count most-digits n + 1 ≡ count + digit-count (suc k) rest → Counting n (count + 1) (rest / 10)
+    go : (k : ℕ) → count + k ≡ most-digits → rest < 10 ^ suc k → digit-count most-digits n + 1 ≡ count + digit-count (suc k) rest
+        → Counting n (count + 1) (rest / 10)
     go zero w s d = absurd (omega arith)
     go (suc k) w s d =
         record {

@@ -28,10 +28,12 @@ module _ {old new : List ℕ} {at next : ℕ} {xs : List ℕ} where
       rw (w .shape, ← append-assoc (take at old) xs (drop next old), length-append, wrote-front w, length-drop) (omega (arith, w .room))
 
   -- a write and one at its end
-  pub wrote-then : {last : List ℕ} {end : ℕ} {ys : List ℕ} → WrittenAt old new at xs next → WrittenAt new last next ys end → WrittenAt old last at (xs ++ ys) end
+  pub wrote-then : {last : List ℕ} {end : ℕ} {ys : List ℕ} → WrittenAt old new at xs next → WrittenAt new last next ys end
+      → WrittenAt old last at (xs ++ ys) end
   wrote-then {last} {end} {ys} v w =
       record {
-        shape = w .shape ∙ ap (λ (l : List ℕ). l ++ (ys ++ drop end new)) front ∙ ap (λ (l : List ℕ). (take at old ++ xs) ++ (ys ++ l)) back ∙ simp append-assoc;
+        shape = w .shape ∙ ap (λ (l : List ℕ). l ++ (ys ++ drop end new)) front ∙ ap (λ (l : List ℕ). (take at old ++ xs) ++ (ys ++ l)) back
+            ∙ simp append-assoc;
         ends = simp length-append (omega (arith, v .ends, w .ends));
         room = omega (arith, w .room, wrote-length v);
       }
@@ -47,7 +49,8 @@ module _ {old new : List ℕ} {at next : ℕ} {xs : List ℕ} where
 
       back : drop end new ≡ drop end old
       back =
-          ap (λ (n : ℕ). drop n new) e ∙ ap (drop (length (take at old ++ xs) + length ys)) split ∙ drop-append-add (take at old ++ xs) (drop next old) (length ys)
+          ap (λ (n : ℕ). drop n new) e ∙ ap (drop (length (take at old ++ xs) + length ys)) split
+              ∙ drop-append-add (take at old ++ xs) (drop next old) (length ys)
           ∙ drop-drop (length ys) next old ∙ ap (λ (n : ℕ). drop n old) (sym (w .ends))
 
 -- nothing more is written yet
@@ -59,7 +62,8 @@ pub wrote-is : {old new : List ℕ} {at next : ℕ} {xs ys : List ℕ} → xs �
 wrote-is {old} {new} {at} {next} e w = subst (λ (l : List ℕ). WrittenAt old new at l next) e w
 
 -- where two pieces of what has room are written, the next piece has room
-pub wrote-room : {old mid new front xs : List ℕ} {at from to : ℕ} (n k : ℕ) → WrittenAt old mid at front from → WrittenAt mid new from xs to → at + n ≤ length old
+pub wrote-room : {old mid new front xs : List ℕ} {at from to : ℕ} (n k : ℕ) → WrittenAt old mid at front from → WrittenAt mid new from xs to
+    → at + n ≤ length old
     → length front + length xs + k ≤ n → to + k ≤ length new
 wrote-room n k v w h l = omega (arith, v .ends, w .ends, wrote-length v, wrote-length w)
 
@@ -68,7 +72,8 @@ pub wrote-before : {old new : List ℕ} {from at next : ℕ} {xs : List ℕ} (b 
     → WrittenAt old (set new at b) at (b ∷ xs) next
 wrote-before {old} {new} {from} {at} {next} {xs} b e v =
     record {
-      shape = set-split new at b (omega (arith, wrote-length w, w .ends, w .room)) ∙ ap (λ (l : List ℕ). l ++ (b ∷ drop (suc at) new)) front ∙ ap (λ (l : List ℕ). take at old ++ (b ∷ l)) back;
+      shape = set-split new at b (omega (arith, wrote-length w, w .ends, w .room)) ∙ ap (λ (l : List ℕ). l ++ (b ∷ drop (suc at) new)) front
+          ∙ ap (λ (l : List ℕ). take at old ++ (b ∷ l)) back;
       ends = omega (arith, w .ends);
       room = w .room;
     }
@@ -80,7 +85,8 @@ wrote-before {old} {new} {from} {at} {next} {xs} b e v =
     long = length-take-le (suc at) old (omega (arith, w .ends, w .room))
 
     front : take at new ≡ take at old
-    front = ap (take at) (w .shape) ∙ take-append-le at (take (suc at) old) (xs ++ drop next old) (omega (arith, long)) ∙ take-take at (suc at) old (omega arith)
+    front = ap (take at) (w .shape) ∙ take-append-le at (take (suc at) old) (xs ++ drop next old) (omega (arith, long))
+        ∙ take-take at (suc at) old (omega arith)
 
     back : drop (suc at) new ≡ xs ++ drop next old
     back = ap (drop (suc at)) (w .shape) ∙ drop-at (take (suc at) old) (xs ++ drop next old) (suc at) long

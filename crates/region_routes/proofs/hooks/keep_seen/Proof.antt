@@ -22,7 +22,8 @@ abbrev μ-loop : tie.MeasureT-loop
 μ-loop offered passing region candidates out₀ offers passes always n₀ i₀ out n i = length candidates - i
 
 -- whether the region sees the candidate at the loop's place
-tested : (c : tie.After-has Inv-loop μ-loop) {b : Bool} → c .has .result ≡ b → (let a = c .before .before .before .before .before .before in let s = a .before .before .before .before .before .before .before .before .before .args in
+tested : (c : tie.After-has Inv-loop μ-loop) {b : Bool} → c .has .result ≡ b → (let a = c .before .before .before .before .before .before in
+    let s = a .before .before .before .before .before .before .before .before .before .args in
     (t : (m : Model) × (k : ℕ) × Tables m k (s .offered .now) (s .passing .now))
     → sees (t .0) (item (t .1) (getD (s .candidates .now) (a .loop .i) 0)) (s .region) ≡ b)
 tested c e t =

@@ -23,7 +23,8 @@ returns c =
 loop-again : tie.Need-loop-again Inv-loop μ-loop
 loop-again c =
     let v = c .before .before .before .before .loop .inv in
-    let other : c .before .before .before .before .loop .d ≡ v .0 → ⊥ = λ e. has-not _ _ (c .before .before .before .before .before .pre .inside) (sym (c .before .has .ensures) ∙ c .if1 .left) (rw e (v .3)) in
+    let passed = has-not _ _ (c .before .before .before .before .before .pre .inside) (sym (c .before .has .ensures) ∙ c .if1 .left) in
+    let other : c .before .before .before .before .loop .d ≡ v .0 → ⊥ = λ e. passed (rw e (v .3)) in
     (v .0, omega (arith, v .1), v .2, v .3)
 
 returns-2 : tie.Need-returns-2 Inv-loop μ-loop

@@ -13,7 +13,8 @@ abbrev μ-loop : tie.MeasureT-loop
 μ-loop pred prev reached next₀ left₀ next left = left
 
 -- what a turn takes out of `left`
-turn : (c : tie.After-difference Inv-loop μ-loop) → Taken (c .before .before .before .before .loop .left) (c .before .before .lowest .result) (c .difference .result)
+turn : (c : tie.After-difference Inv-loop μ-loop)
+    → Taken (c .before .before .before .before .loop .left) (c .before .before .lowest .result) (c .difference .result)
 turn c =
     let a = c .before .before .before .before in
     taken (λ n h. a .before .before .pre .1 n (a .loop .inv .within n h)) (a .loop .inv .word) (above-none _ (c .before .before .before .loop-test .taken))
@@ -33,6 +34,6 @@ layer-spec =
     (λ c. omega (arith, turn c .low))
     (λ c. omega (arith, turn (c .before) .low, c .before .before .before .before .before .before .before .pre .0 .long))
     (λ c. turn (c .before) .less)
-    (λ c. take (c .before .before .before .before .before .before .before .pre .0 .small) (turn (c .before)) (c .before .before .before .before .before .loop .inv))
+    (λ c. let a = c .before .before .before .before .before in take (a .before .before .pre .0 .small) (turn (c .before)) (a .loop .inv))
     (λ c κs. tt)
     (λ c. end (search needs) (c .difference2 .ensures) (rw (c .before .loop-test .left) at (c .before .before .loop .inv))))

@@ -11,7 +11,10 @@ search-requires : tie.Need-search-requires
 search-requires c κs =
     let s = c .before .before .before in
     let m = meaning (s .args .graph) in
-    (rw (c .before .before .predecessors .ensures) (predecessors-sets m (s .args .item)), rw (c .before .holders .ensures) (set-below-lt regions (holds m (s .args .item))))
+    (
+      rw (c .before .before .predecessors .ensures) (predecessors-sets m (s .args .item)),
+      rw (c .before .holders .ensures) (set-below-lt regions (holds m (s .args .item))),
+    )
 
 returns : tie.Need-returns
 returns c = (

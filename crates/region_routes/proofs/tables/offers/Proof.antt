@@ -18,7 +18,9 @@ abbrev μ-loop : tie.MeasureT-loop
 
 from : (c : tie.After-bundle-count Inv-loop μ-loop) → (let s = c .before .before .before in
     OffersFrom (meaning (s .args .graph)) (s .pre .0 .good) (kind-number (s .args .kind)) (c .before .bundle-places .result) (c .bundle-count .result))
-from c = let s = c .before .before .before in offers-from (meaning (s .args .graph)) (s .pre .0 .good) (kind-number (s .args .kind)) (c .before .bundle-places .ensures) (c .bundle-count .ensures)
+from c =
+    let s = c .before .before .before in
+    offers-from (meaning (s .args .graph)) (s .pre .0 .good) (kind-number (s .args .kind)) (c .before .bundle-places .ensures) (c .bundle-count .ensures)
 
 append-offer-requires : tie.Need-append-offer-requires Inv-loop μ-loop
 append-offer-requires c κs =

@@ -20,7 +20,8 @@ loop-again : tie.Need-loop-again Inv-loop μ-loop
 loop-again c =
     let t = c .before .before .before .before in
     let w = t .before .loop .inv in
-    along-next w (t .loop-test .taken) (preceding-more (w .done) (t .loop-test .taken) (c .before .if1 .taken) (c .singleton .ensures)) (c .before .before .next-of .ensures)
+    along-next w (t .loop-test .taken) (preceding-more (w .done) (t .loop-test .taken) (c .before .if1 .taken) (c .singleton .ensures))
+    (c .before .before .next-of .ensures)
 
 pub predecessors-spec : {M : Type 1} → statement M
 predecessors-spec =
@@ -39,7 +40,7 @@ predecessors-spec =
     (λ c κs. search needs)
     (λ c. omega (arith, array-read-sets (c .before)))
     (λ c. array-read-sets (c .before))
-    (λ c. along-less (c .before .before .before .before .before .loop .inv) (c .before .before .before .before .loop-test .taken) (c .before .before .next-of .ensures))
+    (λ c. let t = c .before .before .before .before in along-less (t .before .loop .inv) (t .loop-test .taken) (c .before .before .next-of .ensures))
     loop-again
     (λ c. along-less (c .before .before .before .before .loop .inv) (c .before .before .before .loop-test .taken) (c .before .next-of .ensures))
     (λ c. along-past (c .before .before .before .before .loop .inv) (c .before .before .before .loop-test .taken) (c .if1 .left) (c .before .next-of .ensures))

@@ -22,4 +22,5 @@ put-decimal-spec =
     (λ c κs. has-place _ _ (c .before .before .has-room .ensures) (c .before .if1 .left))
     (λ c. search needs)
     (λ c. search needs)
-    (λ c. wrote-put (wrote-is (decimal-is (c .before .before .before .before .before .before .before .before .args .number) (c .before .before .before .before .before .before .digits .ensures)) (c .before .before .put-digits .ensures))))
+    (λ c. let d = c .before .before .before .before .before .before in
+    wrote-put (wrote-is (decimal-is (d .before .before .args .number) (d .digits .ensures)) (c .before .before .put-digits .ensures))))

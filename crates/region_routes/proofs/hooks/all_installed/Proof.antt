@@ -25,20 +25,14 @@ place c =
 pub all-installed-spec : {M : Type 1} → statement M
 all-installed-spec =
     tie.close
-    (tie.spec
-    Inv-loop
-    μ-loop
+    (tie.spec Inv-loop μ-loop
     (λ c. placing-start)
-    (λ c. search needs)
-    (λ c. search needs)
-    (λ c κs. search needs)
+    (λ c. search needs) (λ c. search needs) (λ c κs. search needs)
     (λ c κs. c .before .before .before .before .before .before .before .pre)
-    (λ c. search needs)
-    (λ c. search needs)
+    (λ c. search needs) (λ c. search needs)
     (λ c. placing-stop (c .before .before .before .before .before .before .loop .inv) (omega arith)
     (ap is-installed (place (c .before .before) ∙ c .enum-told .given .1)))
-    (λ c. search needs)
-    (λ c. search needs)
+    (λ c. search needs) (λ c. search needs)
     (λ c. placing-next (c .before .before .before .before .before .before .loop .inv) (omega arith)
     (ap is-installed (place (c .before .before) ∙ c .enum-told2 .given .1)))
     (λ c. placing-end (c .before .loop .inv) (omega arith)))

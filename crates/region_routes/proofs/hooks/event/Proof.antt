@@ -67,8 +67,7 @@ event-spec =
     (λ c κs. c .before .before .chained .ensures)
     returns
     returns-2
-    (λ c κs. search needs)
-    (λ c κs. search needs)
+    (λ c κs. search needs) (λ c κs. search needs)
     (λ c. c .before .before .before .before .before .before .before .before .before .before .offers .ensures .room)
     (λ c. holding-long (c .before .before .before .before .before .before .before .before .before .before .before .offers .ensures))
     (λ c. search needs)

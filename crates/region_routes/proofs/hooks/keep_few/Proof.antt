@@ -37,20 +37,12 @@ returns c =
 pub keep-few-spec : {M : Type 1} → statement M
 keep-few-spec =
     tie.close
-    (tie.spec
-    Inv-loop
-    μ-loop
+    (tie.spec Inv-loop μ-loop
     (λ c κs. search needs)
     (λ c. keeping-start (c .before .before .before .pre .1 .1))
-    (λ c. search needs)
-    (λ c. search needs)
-    (λ c. search needs)
+    (λ c. search needs) (λ c. search needs) (λ c. search needs)
     (λ c κs. c .before .before .before .before .before .before .pre .0)
-    (λ c κs. search needs)
-    (λ c. search needs)
-    (λ c. search needs)
-    (λ c. search needs)
-    (λ c. search needs)
+    (λ c κs. search needs) (λ c. search needs) (λ c. search needs) (λ c. search needs) (λ c. search needs)
     (λ c. keeping-passed (c .before .before .before .before .before .loop .inv) (omega arith) (λ t. tested (c .before) (c .if1 .taken)))
     (λ c. search needs)
     (λ c. keeping-failed (c .before .before .before .before .before .loop .inv) (omega arith) (λ t. tested (c .before) (c .if1 .left)))

@@ -38,25 +38,15 @@ regions-seeing-by-requires c κs =
 pub keep-seen-spec : {M : Type 1} → statement M
 keep-seen-spec =
     tie.close
-    (tie.spec
-    Inv-loop
-    μ-loop
+    (tie.spec Inv-loop μ-loop
     (λ c κs. c .before .before .before .before .pre .0 .0)
     (λ c κs. c .before .before .before .before .before .pre .0 .1)
     (λ c. search needs)
     (λ c κs. c .before .chained2 .ensures)
     (λ c. keeping-start (c .before .before .before .before .before .before .before .before .pre .1 .1))
-    (λ c. search needs)
-    (λ c. search needs)
-    (λ c. search needs)
-    (λ c. search needs)
-    (λ c. search needs)
+    (λ c. search needs) (λ c. search needs) (λ c. search needs) (λ c. search needs) (λ c. search needs)
     regions-seeing-by-requires
-    (λ c κs. search needs)
-    (λ c. search needs)
-    (λ c. search needs)
-    (λ c. search needs)
-    (λ c. search needs)
+    (λ c κs. search needs) (λ c. search needs) (λ c. search needs) (λ c. search needs) (λ c. search needs)
     (λ c. keeping-passed (c .before .before .before .before .before .before .before .loop .inv) (omega arith) (tested (c .before) (c .if1 .taken)))
     (λ c. search needs)
     (λ c. keeping-failed (c .before .before .before .before .before .before .before .loop .inv) (omega arith) (tested (c .before) (c .if1 .left)))

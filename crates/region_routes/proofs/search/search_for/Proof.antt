@@ -26,8 +26,6 @@ pub search-for-spec : {M : Type 1} → statement M
 search-for-spec =
     tie.close
     (tie.spec
-    (λ c κs. search needs)
-    (λ c κs. search needs)
-    (λ c. search needs)
+    (λ c κs. search needs) (λ c κs. search needs) (λ c. search needs)
     search-requires
     returns)

@@ -25,8 +25,7 @@ unfolding provided-of
 append-offer-spec =
     tie.close
     (tie.spec
-    (λ c. search needs)
-    (λ c κs. search needs)
+    (λ c. search needs) (λ c κs. search needs)
     append-one-requires
     (λ c. search needs)
     packages

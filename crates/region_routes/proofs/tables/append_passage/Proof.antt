@@ -23,10 +23,7 @@ unfolding numbers-of
 append-passage-spec =
     tie.close
     (tie.spec
-    (λ c. search needs)
-    (λ c. search needs)
-    (λ c. search needs)
-    (λ c. search needs)
+    (λ c. search needs) (λ c. search needs) (λ c. search needs) (λ c. search needs)
     named
     (λ c. within-long _ _ (named (c .before)))
     (λ c κs. rw (c .before .before .before .enum-told .given .1) at (c .before .before .before .before .before .before .before .before .pre .1 .1))

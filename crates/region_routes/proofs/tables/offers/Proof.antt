@@ -39,15 +39,11 @@ loop-again c =
 pub offers-spec : {M : Type 1} → statement M
 offers-spec =
     tie.close
-    (tie.spec
-    Inv-loop
-    μ-loop
+    (tie.spec Inv-loop μ-loop
     (λ c κs. c .before .pre .0)
     (λ c κs. c .before .before .pre .0)
     (λ c. gathering-start (c .before .before .before .pre .1))
-    (λ c. search needs)
-    (λ c. search needs)
-    (λ c. search needs)
+    (λ c. search needs) (λ c. search needs) (λ c. search needs)
     append-offer-requires
     (λ c. search needs)
     loop-again

@@ -41,15 +41,11 @@ append-passage-requires c κs =
 pub passages-spec : {M : Type 1} → statement M
 passages-spec =
     tie.close
-    (tie.spec
-    Inv-loop
-    μ-loop
+    (tie.spec Inv-loop μ-loop
     (λ c κs. c .before .pre .0)
     (λ c κs. c .before .before .pre .0)
     (λ c. gathering-start (c .before .before .before .pre .1))
-    (λ c. search needs)
-    (λ c. search needs)
-    (λ c. search needs)
+    (λ c. search needs) (λ c. search needs) (λ c. search needs)
     append-passage-requires
     (λ c. search needs)
     (λ c. let t = c .before .before .before .before .before in

@@ -25,17 +25,14 @@ slice-write-buffer c = writing-inside (c .before .before .loop .inv) (c .before 
 pub put-bytes-spec : {M : Type 1} → statement M
 put-bytes-spec =
     tie.close
-    (tie.spec
-    Inv-loop
-    μ-loop
+    (tie.spec Inv-loop μ-loop
     (λ c κs. search needs)
     returns
     (λ c. writing-start (has-place _ _ (c .before .has-room .ensures) (c .if1 .left)))
     (λ c. search needs)
     (λ c. omega (arith, slice-write-buffer c))
     slice-write-buffer
-    (λ c. search needs)
-    (λ c. search needs)
+    (λ c. search needs) (λ c. search needs)
     (λ c. writing-next (c .before .before .loop .inv) (c .before .loop-test .taken))
     (λ c. omega (arith, c .before .loop .inv .wrote .room))
     (λ c. wrote-length (c .before .loop .inv .wrote))

@@ -13,9 +13,7 @@ abbrev μ-loop : tie.MeasureT-loop
 pub digits-spec : {M : Type 1} → statement M
 digits-spec =
     tie.close
-    (tie.spec
-    Inv-loop
-    μ-loop
+    (tie.spec Inv-loop μ-loop
     (λ c. counting-start (c .args .number) (search needs))
     (λ c. omega (arith, c .before .loop .inv .within))
     (λ c. search needs)

@@ -16,11 +16,9 @@ pub put-decimal-spec : {M : Type 1} → statement M
 put-decimal-spec =
     tie.close
     (tie.spec
-    (λ c κs. search needs)
-    (λ c κs. search needs)
+    (λ c κs. search needs) (λ c κs. search needs)
     returns
     (λ c κs. has-place _ _ (c .before .before .has-room .ensures) (c .before .if1 .left))
-    (λ c. search needs)
-    (λ c. search needs)
+    (λ c. search needs) (λ c. search needs)
     (λ c. let d = c .before .before .before .before .before .before in
     wrote-put (wrote-is (decimal-is (d .before .before .args .number) (d .digits .ensures)) (c .before .before .put-digits .ensures))))

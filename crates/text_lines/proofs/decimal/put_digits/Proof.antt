@@ -14,13 +14,9 @@ abbrev μ-loop : tie.MeasureT-loop
 pub put-digits-spec : {M : Type 1} → statement M
 put-digits-spec =
     tie.close
-    (tie.spec
-    Inv-loop
-    μ-loop
+    (tie.spec Inv-loop μ-loop
     (λ c. last-start (c .pre))
-    (λ c. search needs)
-    (λ c. search needs)
-    (λ c. search needs)
+    (λ c. search needs) (λ c. search needs) (λ c. search needs)
     (λ c. omega (arith, c .before .loop .inv .wrote .room))
     (λ c. omega (arith, wrote-length (c .before .loop .inv .wrote)))
     (λ c. search needs)

@@ -20,7 +20,8 @@ use Rattle.region_graph.specs.declared.Place.{Place}
 use Rattle.region_graph.specs.declared.Place.the-variants.{Within, Nowhere}
 use Rattle.region_graph.proofs.Lists.{keep-length}
 use Rattle.region_routes.specs.Chosen.{first-of, put-before, guarded, or-else, exactly, from, chosen-by, chosen}
-use Rattle.region_routes.specs.Hooks.{Outcome, kind-number, item, written, judged, shown, shown-from, sees-from, route-questions, find-questions, event-questions, route-outcome, kept-outcome, find-outcome, event-outcome}
+use Rattle.region_routes.specs.Hooks.{Outcome, kind-number, item, written, judged, shown, shown-from, sees-from, route-questions, find-questions}
+use Rattle.region_routes.specs.Hooks.{event-questions, route-outcome, kept-outcome, find-outcome, event-outcome}
 use Rattle.region_routes.specs.declared.Kind.{Kind}
 use Rattle.region_routes.specs.declared.Routed.the-variants as Routed
 use Rattle.region_routes.specs.declared.Kept.the-variants as Kept
@@ -84,7 +85,8 @@ module _ (cross : ℕ → ℕ → Bool) (ends : ℕ → Bool) where
   exactly-long zero r = guarded-long 1 (ends r) (some (r ∷ [])) refl
   exactly-long (suc k) r =
       before-long (suc k) r (first-of (λ s. guarded (cross r s) (exactly cross ends k s)) (count-from 0 regions))
-      (first-long (suc k) (λ s. guarded (cross r s) (exactly cross ends k s)) (λ s. guarded-long (suc k) (cross r s) (exactly cross ends k s) (exactly-long k s)) (count-from 0 regions))
+      (first-long (suc k) (λ s. guarded (cross r s) (exactly cross ends k s)) (λ s. guarded-long (suc k) (cross r s) (exactly cross ends k s)
+          (exactly-long k s)) (count-from 0 regions))
 
   from-short : (r k n : ℕ) → k + n ≤ regions → AtMostRegions (from cross ends r k n)
   from-short r k zero h = tt

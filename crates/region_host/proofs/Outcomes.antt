@@ -15,7 +15,8 @@ use Rattle.region_graph.specs.declared.Item.{Item}
 use Rattle.region_graph.specs.declared.Place.{Place}
 use Rattle.region_graph.specs.declared.Place.the-variants.{Within, Nowhere}
 use Rattle.region_routes.specs.Chosen.{chosen}
-use Rattle.region_routes.specs.Hooks.{Returned, Outcome, kind-number, item, written, routed-as, kept-as, route-questions, find-questions, event-questions, judged, shown, shown-from, route-outcome, kept-outcome, sees-from, find-outcome, event-outcome}
+use Rattle.region_routes.specs.Hooks.{Returned, Outcome, kind-number, item, written, routed-as, kept-as, route-questions, find-questions, event-questions, judged}
+use Rattle.region_routes.specs.Hooks.{shown, shown-from, route-outcome, kept-outcome, sees-from, find-outcome, event-outcome}
 use Rattle.region_routes.specs.declared.Kind.{Kind}
 use Rattle.region_routes.specs.declared.Routed.the-variants as Routed
 use Rattle.region_routes.specs.declared.Kept.the-variants as Kept
@@ -43,7 +44,8 @@ module _ {A : Type 0} where
   read-off gives value of {o} w b e =
       (λ i. outcome gives (of (e i .value)) (e i .exit)) ∙ ap (λ (a : A). outcome gives a (o .exit)) b ∙ w
 
-  judged-whole : (gives : A → Returned) (refused : ℕ → A) → ((n : ℕ) → gives (refused n) ≡ record { number = n; values = [] }) → (n : ℕ) {o : Outcome A} (entry : List ℕ)
+  judged-whole : (gives : A → Returned) (refused : ℕ → A) → ((n : ℕ) → gives (refused n) ≡ record { number = n; values = [] })
+      → (n : ℕ) {o : Outcome A} (entry : List ℕ)
       → Whole gives o → Whole gives (judged refused n o entry)
   judged-whole gives refused r n {o} entry w = go (eqb n not-refused)
     where

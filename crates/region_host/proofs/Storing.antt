@@ -17,7 +17,6 @@ use base.Fml.{GName, Lft, Share, Fml, ftrue, flft, fobs, fbor}
 use prog.Model.{Model}
 use prog.Wp.{Heap, Calls, Loops, WpFn}
 use ghost.Atoms.{Atoms, sem}
-use contract.Lifetimes.{Lfts}
 use contract.Running.{Running, GhostRules}
 use types.Kit.{Given, ‵, raw, _⊛_, ⋆, later, some, _$_, _∵_, !, qed, by, move, keep, drop, use1, use3, split, join, pick, fsplit, fsplit3}
 use types.Kit.{fjoin, fjoin3, feqI, suffices, await, done}

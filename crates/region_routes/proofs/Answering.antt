@@ -12,7 +12,8 @@ use Rattle.region_graph.specs.Model.{Model}
 use Rattle.region_graph.specs.Promise.{place-of}
 use Rattle.region_graph.specs.declared.Place.the-variants.{Within, Nowhere}
 use Rattle.region_routes.specs.Chosen.{chosen, sees}
-use Rattle.region_routes.specs.Hooks.{Outcome, item, kind-number, routed, kept, shown, kept-outcome, sees-from, all-installed, route-outcome, find-outcome, event-outcome}
+use Rattle.region_routes.specs.Hooks.{Outcome, item, kind-number, routed, kept, shown, kept-outcome, sees-from, all-installed, route-outcome}
+use Rattle.region_routes.specs.Hooks.{find-outcome, event-outcome}
 use Rattle.region_routes.specs.declared.Kind.{Kind}
 use Rattle.region_routes.specs.declared.Routed.{Routed}
 use Rattle.region_routes.specs.declared.Routed.the-variants as Routed

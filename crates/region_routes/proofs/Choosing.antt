@@ -16,7 +16,8 @@ use Rattle.region_graph.specs.Items.{holds, crosses, passes}
 use Rattle.region_graph.specs.declared.Item.{Item}
 use Rattle.region_graph.proofs.Lists.{and-fst, and-snd, false-true, member-all, Distinct, distinct-length, member-count, exists-one}
 use Rattle.region_routes.specs.Route.{Route, last, next, SmallerFirst, Best, NoRoute}
-use Rattle.region_routes.specs.Chosen.{first-of, put-before, guarded, or-else, exactly, from, chosen-by, found, chosen, sees, RouteFor, NoRouteFor, BestFor}
+use Rattle.region_routes.specs.Chosen.{first-of, put-before, guarded, or-else, exactly, from, chosen-by, found, chosen, sees, RouteFor, NoRouteFor}
+use Rattle.region_routes.specs.Chosen.{BestFor}
 use Rattle.region_routes.proofs.RouteLaws.{lt-or-ge, nonempty, head-lex, best-unique}
 
 -- what an answer says of the lists in P: it is the first of them, or there is none

@@ -110,7 +110,8 @@ module _ {cross : ℕ → ℕ → Bool} {ends : ℕ → Bool} {pred : List ℕ} 
             go false e = omega (arith, eqb-false (bit reached n) 1 e, bit-le reached n)
 
         same : (n : ℕ) → n < regions → eqb (bit reached n) 1 ≡ found (chosen-by cross ends n)
-        same n l = found-is cross ends (tied .inside) n (eqb (bit reached n) 1) (λ e. reached-route n (eqb-true (bit reached n) 1 e)) (λ e p t. eqb-false (bit reached n) 1 e (route-reached t))
+        same n l = found-is cross ends (tied .inside) n (eqb (bit reached n) 1) (λ e. reached-route n (eqb-true (bit reached n) 1 e))
+            (λ e p t. eqb-false (bit reached n) 1 e (route-reached t))
 
     module _ (r : ℕ) (l : r < regions) where
       -- a region that is not reached has no route
@@ -137,7 +138,8 @@ module _ {cross : ℕ → ℕ → Bool} {ends : ℕ → Bool} {pred : List ℕ} 
           → _≡_ {A = Outcome Routed} (routed (Count d) exit) (shown (chosen-by cross ends r) entry)
       walked-by {d} {entry} {exit} w =
           let b : Best (λ r s. cross r s ≡ true) (λ r. ends r ≡ true) r (w .path)
-          = carry-best (tied .conn-cross) (λ n k. tied .in-ends n (f .layered .holds n k)) (tied .cross-conn) (λ n k. f .layered .base n (tied .ends-in n k)) (w .best) in
+          = carry-best (tied .conn-cross) (λ n k. tied .in-ends n (f .layered .holds n k)) (tied .cross-conn)
+              (λ n k. f .layered .base n (tied .ends-in n k)) (w .best) in
           let e : chosen-by cross ends r ≡ some (w .path) = by-best cross ends (tied .inside) r (w .path) b in
           let n : length (w .path) - 1 ≡ d = omega (arith, w .counted) in
           rw e (λ j. routed (Count (sym n j)) (w .exit-is j))

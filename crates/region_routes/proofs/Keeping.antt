@@ -66,7 +66,8 @@ module _ {T : Type 0} {p : T → ℕ → Bool} {xs : List ℕ} {entry : List ℕ
     pub keeping-end : length xs ≤ i → (t : T) → _≡_ {A = Outcome Kept} (kept (Wrote n) out) (kept-outcome (keep (p t) xs) entry)
     keeping-end h t =
         let e = take-all i xs h in
-        λ j. kept (Wrote ((k .counted t ∙ ap (λ (ys : List ℕ). length (keep (p t) ys)) e) j)) ((k .exit-is t ∙ ap (λ (ys : List ℕ). written (keep (p t) ys) entry) e) j)
+        λ j. kept (Wrote ((k .counted t ∙ ap (λ (ys : List ℕ). length (keep (p t) ys)) e) j))
+        ((k .exit-is t ∙ ap (λ (ys : List ℕ). written (keep (p t) ys) entry) e) j)
 
 -- whether a region is in the set of those that pass a test
 pub has-by : (p : ℕ → Bool) (r : ℕ) {set : ℕ} {a b : Bool} → set ≡ set-of p → r < regions → a ≡ has set r → a ≡ b → p r ≡ b

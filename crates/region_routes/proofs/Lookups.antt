@@ -15,47 +15,50 @@ use Rattle.region_graph.specs.Sets.{singleton}
 use Rattle.region_graph.specs.declared.Place.the-variants.{Within, Nowhere}
 use Rattle.region_graph.proofs.Views.{exists-more, sets-more, held, held-none, held-took, held-left}
 use Rattle.region_routes.specs.Tables.{number-in, place-in, source-in, target-in, held-in, step-in, step-or, predecessors-by, place-at}
-use Rattle.region_routes.proofs.Chaining.{Skips}
+use Rattle.region_routes.specs.Chains.{chains, chain, Chained}
+use Rattle.region_routes.proofs.Chaining.{Along, along-start, along-next}
 
 -- the entries of the number before place i name the regions of the set
 pub record Named (es : List ℕ) (n set i : ℕ) : Type 0 where
   pub named : set ≡ held place-in (λ e. eqb (number-in e) n) (take i es)
 
-module _ {es : List ℕ} {n : ℕ} where
-  pub named-start : Named es n 0 0
-  named-start = record { named = held-none place-in (λ e. eqb (number-in e) n) }
+module _ {es links : List ℕ} {n : ℕ} where
+  pub named-start : {j : ℕ} → Chained es links → j ≡ getD links (chain n) 0 → Along (Named es n) es links n 0 j
+  named-start c e =
+      along-start c (λ x i h q p. record { named = p .named ∙ held-left place-in (λ e. eqb (number-in e) n) es i 0 h q }) 0
+      (record { named = held-none place-in (λ e. eqb (number-in e) n) }) e
 
-  pub named-skips : Skips (Named es n) es n
-  named-skips set i h q p = record { named = p .named ∙ held-left place-in (λ e. eqb (number-in e) n) es i 0 h q }
-
-  module _ {set i : ℕ} (p : Named es n set i) where
-    pub named-more : {x : ℕ} → i < length es → number-in (getD es i 0) ≡ n → x ≡ singleton (place-in (getD es i 0)) → Named es n (bitOr set x) (i + 1)
-    named-more h q e = record {
-      named = ap₂ bitOr (p .named) e ∙ held-took place-in (λ e. eqb (number-in e) n) es i 0 h (eq-eqb (number-in (getD es i 0)) n q);
-    }
+  module _ {set i : ℕ} (w : Along (Named es n) es links n set i) where
+    -- an entry of the number adds its region
+    pub named-next : {x j : ℕ} → i < length es → number-in (getD es i 0) ≡ n → x ≡ singleton (place-in (getD es i 0)) → j ≡ getD links (chains + i) 0
+        → Along (Named es n) es links n (bitOr set x) j
+    named-next h q e f = along-next w h
+        (record {
+          named = ap₂ bitOr (w .done .named) e ∙ held-took place-in (λ e. eqb (number-in e) n) es i 0 h (eq-eqb (number-in (getD es i 0)) n q);
+        }) f
 
     pub named-end : length es ≤ i → set ≡ held-in es n
     unfolding held
-    named-end l = p .named ∙ ap (held place-in (λ e. eqb (number-in e) n)) (take-all i es l)
+    named-end l = w .done .named ∙ ap (held place-in (λ e. eqb (number-in e) n)) (take-all i es l)
 
 -- the place of the number is that of an entry from place i on; the walk has no state
 pub record Later (es : List ℕ) (n : ℕ) (x : Unit {0}) (i : ℕ) : Type 0 where
   pub later : place-at es n ≡ place-at (drop i es) n
 
-module _ {es : List ℕ} {n : ℕ} where
-  later-by : (i : ℕ) → i < length es → Later es n tt i
-      → place-at es n ≡ pick (eqb (number-in (getD es i 0)) n) (Within (place-in (getD es i 0))) (place-at (drop (i + 1) es) n)
-  later-by i h p = p .later ∙ rw add-one (ap (λ (t : List ℕ). place-at t n) (drop-cons es i 0 h))
+later-by : {es : List ℕ} {n i : ℕ} → Later es n tt i → i < length es
+    → place-at es n ≡ pick (eqb (number-in (getD es i 0)) n) (Within (place-in (getD es i 0))) (place-at (drop (i + 1) es) n)
+later-by {es} {n} {i} p h = p .later ∙ rw add-one (ap (λ (t : List ℕ). place-at t n) (drop-cons es i 0 h))
 
-  pub later-skips : Skips (Later es n) es n
-  later-skips x i h q p = record { later = later-by i h p ∙ rw q }
+module _ {es links : List ℕ} {n : ℕ} where
+  pub later-start : {j : ℕ} → Chained es links → j ≡ getD links (chain n) 0 → Along (Later es n) es links n tt j
+  later-start c e = along-start c (λ x i h q p. record { later = later-by p h ∙ rw q }) tt (record { later = refl }) e
 
-  module _ {i : ℕ} (p : Later es n tt i) where
+  module _ {i : ℕ} (w : Along (Later es n) es links n tt i) where
     pub later-here : i < length es → number-in (getD es i 0) ≡ n → Within (place-in (getD es i 0)) ≡ place-at es n
-    later-here h q = sym (later-by i h p ∙ rw (eq-eqb (number-in (getD es i 0)) n q))
+    later-here h q = sym (later-by (w .done) h ∙ rw (eq-eqb (number-in (getD es i 0)) n q))
 
     pub later-end : length es ≤ i → Nowhere ≡ place-at es n
-    later-end l = sym (p .later ∙ rw (drop-of-length-le es l))
+    later-end l = sym (w .done .later ∙ rw (drop-of-length-le es l))
 
 -- the sets are those given, with the sources of the entries of the number before place i
 pub record Preceding (es : List ℕ) (n : ℕ) (given sets : List ℕ) (i : ℕ) : Type 0 where
@@ -73,33 +76,37 @@ module _ (step : ℕ → ℕ → Bool) (es : List ℕ) (n i : ℕ) (h : i < leng
       → step-or step (take (i + 1) es) n r s ≡ step-or step (take i es) n r s
   step-same e = step-more ∙ ap (λ (t : Bool). step-or step (take i es) n r s || t) e ∙ or-false (step-or step (take i es) n r s)
 
-module _ {es : List ℕ} {n : ℕ} {given : List ℕ} where
-  pub preceding-start : Preceding es n given given 0
-  preceding-start = record { preceding = λ step g. g ∙ ap predecessors-by (λ j r s. sym (or-false (step r s)) j) }
+module _ {es links : List ℕ} {n : ℕ} {given : List ℕ} where
+  pub preceding-start : {j : ℕ} → Chained es links → j ≡ getD links (chain n) 0 → Along (Preceding es n given) es links n given j
+  preceding-start c e =
+      along-start c
+      (λ x i h q p. record {
+        preceding = λ step g.
+            p .preceding step g
+            ∙ ap predecessors-by
+            (λ j r s. sym (step-same step es n i h false q r s (and-false (eqb (source-in (getD es i 0)) r && eqb (target-in (getD es i 0)) s))) j);
+      })
+      given (record { preceding = λ step g. g ∙ ap predecessors-by (λ j r s. sym (or-false (step r s)) j) }) e
 
-  pub preceding-skips : Skips (Preceding es n given) es n
-  preceding-skips sets i h q p = record {
-    preceding = λ step g. p .preceding step g
-        ∙ ap predecessors-by (λ j r s. sym (step-same step es n i h false q r s (and-false (eqb (source-in (getD es i 0)) r && eqb (target-in (getD es i 0)) s))) j);
-  }
-
-  module _ {sets : List ℕ} {i : ℕ} (p : Preceding es n given sets i) where
+  module _ {sets : List ℕ} {i : ℕ} (w : Along (Preceding es n given) es links n sets i) where
     -- an entry of the number adds its source to the predecessors of its target
-    pub preceding-more : {x : ℕ} → i < length es → number-in (getD es i 0) ≡ n → x ≡ singleton (source-in (getD es i 0)) → (let s = target-in (getD es i 0) in
-        Preceding es n given (set sets s (bitOr (getD sets s 0) x)) (i + 1))
+    pub preceding-next : {x j : ℕ} → i < length es → number-in (getD es i 0) ≡ n → x ≡ singleton (source-in (getD es i 0))
+        → j ≡ getD links (chains + i) 0 → (let s = target-in (getD es i 0) in
+        Along (Preceding es n given) es links n (set sets s (bitOr (getD sets s 0) x)) j)
     unfolding predecessors-by
-    preceding-more h q t =
+    preceding-next h q t f =
         let e = getD es i 0 in
         let own = eq-eqb (number-in e) n q in
-        record {
+        along-next w h
+        (record {
           preceding = λ step g.
-              sets-more (step-or step (take i es) n) (step-or step (take (i + 1) es) n) (source-in e) (p .preceding step g) t (omega arith)
+              sets-more (step-or step (take i es) n) (step-or step (take (i + 1) es) n) (source-in e) (w .done .preceding step g) t (omega arith)
               (λ r.
               step-more step es n i h true own r (target-in e)
               ∙ ap (λ (b : Bool). step-or step (take i es) n r (target-in e) || b)
               (rw (eq-eqb (target-in e) (target-in e) refl) (and-true (eqb (source-in e) r && true) ∙ and-true (eqb (source-in e) r))))
               (λ r s k. step-same step es n i h true own r s (rw (ne-eqb (target-in e) s (λ j. k (sym j)), and-false (eqb (source-in e) r))));
-        }
+        }) f
 
     pub preceding-end : length es ≤ i → (step : ℕ → ℕ → Bool) → given ≡ predecessors-by step → sets ≡ predecessors-by (step-or step es n)
-    preceding-end l step g = p .preceding step g ∙ ap (λ (t : List ℕ). predecessors-by (step-or step t n)) (take-all i es l)
+    preceding-end l step g = w .done .preceding step g ∙ ap (λ (t : List ℕ). predecessors-by (step-or step t n)) (take-all i es l)

@@ -26,7 +26,7 @@ fits h = lt-of-lt-of-le h (pow-mono {i = regions} {j = 64} (lit≤ tt))
 -- ---- the loop of `layer`
 
 -- r is the lowest of `left`, and `rest` is `left` without it
-pub record Taken (left r rest : ℕ) : Type 0 where
+pub record Removed (left r rest : ℕ) : Type 0 where
   pub inside : In left r
   pub low : r < regions
   pub gone : In rest r → ⊥
@@ -39,9 +39,9 @@ pub lowest-in : {left r : ℕ} → left < 2 ^ 64 → 0 < left → r ≡ trailing
 lowest-in {left} word pos e = subst (In left) (sym e) (low-in 64 left pos word)
 
 -- what the functions of the turn answer
-pub taken : {left r alone rest : ℕ} → SetOfRegions left → left < 2 ^ 64 → 0 < left → r ≡ trailingZeros 64 left → alone ≡ singleton r
-    → rest ≡ bitAnd left (2 ^ 64 - 1 - alone) → Taken left r rest
-taken {left} {r} {alone} {rest} small word pos e o d = record {
+pub removed : {left r alone rest : ℕ} → SetOfRegions left → left < 2 ^ 64 → 0 < left → r ≡ trailingZeros 64 left → alone ≡ singleton r
+    → rest ≡ bitAnd left (2 ^ 64 - 1 - alone) → Removed left r rest
+removed {left} {r} {alone} {rest} small word pos e o d = record {
   inside = inside;
   low = low;
   gone = gone;
@@ -80,7 +80,7 @@ pub above-none : (x : ℕ) → (x ≡ 0 → ⊥) → 0 < x
 above-none x h = omega arith
 
 -- `next` holds the regions that have a connection into the layer before, but for those with one into `left`
-pub record Going (pred : List ℕ) (prev next left : ℕ) : Type 0 where
+pub record LayerState (pred : List ℕ) (prev next left : ℕ) : Type 0 where
   pub word : left < 2 ^ 64
   pub small : next < 2 ^ regions
   pub within : (n : ℕ) → In left n → In prev n
@@ -88,9 +88,9 @@ pub record Going (pred : List ℕ) (prev next left : ℕ) : Type 0 where
   pub cover : (n s : ℕ) → Conn pred n s → In prev s → In next n ⊎ In left s
 
 module _ {pred : List ℕ} {prev : ℕ} where
-  -- no region of the layer before is taken yet
-  pub start : prev < 2 ^ 64 → Going pred prev 0 prev
-  start f = record {
+  -- no region of the layer before is removed yet
+  pub layer-start : prev < 2 ^ 64 → LayerState pred prev 0 prev
+  layer-start f = record {
     word = f;
     small = pow-pos regions;
     within = λ n h. h;
@@ -98,10 +98,10 @@ module _ {pred : List ℕ} {prev : ℕ} where
     cover = λ n s c h. inr h;
   }
 
-  -- r is taken: its predecessors join
-  pub take : {next left r rest : ℕ} → ((s : ℕ) → getD pred s 0 < 2 ^ regions) → Taken left r rest → Going pred prev next left
-      → Going pred prev (bitOr next (getD pred r 0)) rest
-  take {next} {left} {r} {rest} sm t g = record {
+  -- r is removed: its predecessors join
+  pub layer-next : {next left r rest : ℕ} → ((s : ℕ) → getD pred s 0 < 2 ^ regions) → Removed left r rest → LayerState pred prev next left
+      → LayerState pred prev (bitOr next (getD pred r 0)) rest
+  layer-next {next} {left} {r} {rest} sm t g = record {
     word = omega (arith, t .less, g .word);
     small = or-lt regions next (getD pred r 0) (g .small) (sm r);
     within = λ n h. g .within n (t .kept n h);
@@ -121,9 +121,9 @@ module _ {pred : List ℕ} {prev : ℕ} where
       go n s c (inl h) = inl (or-in next (getD pred r 0) n (inl h))
       go n s c (inr h) = also n s c (t .still s h)
 
-  -- all are taken, and what is reached goes
-  pub end : {next reached x : ℕ} → reached < 2 ^ 64 → x ≡ bitAnd next (2 ^ 64 - 1 - reached) → Going pred prev next 0 → Layer pred prev reached x
-  end {next} {reached} f e g = subst (Layer pred prev reached) (sym e) record {
+  -- all are removed, and what is reached goes
+  pub layer-end : {next reached x : ℕ} → reached < 2 ^ 64 → x ≡ bitAnd next (2 ^ 64 - 1 - reached) → LayerState pred prev next 0 → Layer pred prev reached x
+  layer-end {next} {reached} f e g = subst (Layer pred prev reached) (sym e) record {
     small = lt-of-le-of-lt (and-le-l next (2 ^ 64 - 1 - reached)) (g .small);
     fresh = λ n h. in-diff 64 next reached n (fits (g .small)) f h .1;
     sound = λ n h. g .sound n (in-diff 64 next reached n (fits (g .small)) f h .0);
@@ -137,7 +137,7 @@ module _ {pred : List ℕ} {prev : ℕ} where
 -- ---- the loop of `search`
 
 -- layers 0 to k, the last of them `prev`, all regions in them `reached`; each layer but the last has a member, so there are few
-pub record State (pred : List ℕ) (holders : ℕ) (sets : List ℕ) (k reached prev : ℕ) : Type 0 where
+pub record SearchState (pred : List ℕ) (holders : ℕ) (sets : List ℕ) (k reached prev : ℕ) : Type 0 where
   pub long : length sets ≡ regions
   pub low : k < regions
   pub here : getD sets k 0 ≡ prev
@@ -148,14 +148,14 @@ pub record State (pred : List ℕ) (holders : ℕ) (sets : List ℕ) (k reached 
   pub from : (n : ℕ) → In reached n → (i : ℕ) × (i ≤ k) × (At sets i n)
 
 -- the last layer has regions only
-pub last-regions : {pred : List ℕ} {holders : ℕ} {sets : List ℕ} {k reached prev : ℕ} → State pred holders sets k reached prev → SetOfRegions prev
+pub last-regions : {pred : List ℕ} {holders : ℕ} {sets : List ℕ} {k reached prev : ℕ} → SearchState pred holders sets k reached prev → SetOfRegions prev
 last-regions {k = k} {reached = reached} st n h =
     in-lt regions reached n (st .small) (st .into k n (le-refl k) (subst (λ (x : ℕ). In x n) (sym (st .here)) h))
 
 -- layer 0 is the holders
-pub begin : {pred : List ℕ} {holders : ℕ} {sets : List ℕ} → holders < 2 ^ regions → length sets ≡ regions → getD sets 0 0 ≡ holders
-    → State pred holders sets 0 holders holders
-begin {holders = holders} {sets = sets} h l e = record {
+pub search-start : {pred : List ℕ} {holders : ℕ} {sets : List ℕ} → holders < 2 ^ regions → length sets ≡ regions → getD sets 0 0 ≡ holders
+    → SearchState pred holders sets 0 holders holders
+search-start {holders = holders} {sets = sets} h l e = record {
   long = l;
   low = omega arith;
   here = e;
@@ -176,19 +176,19 @@ begin {holders = holders} {sets = sets} h l e = record {
     zeroth zero n m a = rw e at a
     zeroth (suc i) n m a = absurd (not-suc-le-zero m)
 
-module _ {pred : List ℕ} {holders : ℕ} {sets : List ℕ} {k reached prev next : ℕ} (st : State pred holders sets k reached prev)
+module _ {pred : List ℕ} {holders : ℕ} {sets : List ℕ} {k reached prev next : ℕ} (st : SearchState pred holders sets k reached prev)
     (ly : Layer pred prev reached next) where
   -- a region with a connection into the last layer is reached, or in the next one
-  onward : (n s : ℕ) → Conn pred n s → At sets k s → In reached n ⊎ In next n
-  onward n s c h = go (in-dec reached n)
+  reached-or-next : (n s : ℕ) → Conn pred n s → At sets k s → In reached n ⊎ In next n
+  reached-or-next n s c h = go (in-dec reached n)
     where
       go : In reached n ⊎ (In reached n → ⊥) → In reached n ⊎ In next n
       go (inl i) = inl i
       go (inr f) = inr (ly .complete n s c (rw (st .here) at h) f)
 
-  -- with no further layer the search is whole
-  pub whole : next ≡ 0 → Searched pred holders sets k reached
-  whole e = record {
+  -- with no further layer the search is at its end
+  pub search-end : next ≡ 0 → Searched pred holders sets k reached
+  search-end e = record {
     layered = st .layered;
     low = st .low;
     small = st .small;
@@ -202,7 +202,7 @@ module _ {pred : List ℕ} {holders : ℕ} {sets : List ℕ} {k reached prev nex
       none n (inr h) = absurd (not-in-empty n (subst (λ (x : ℕ). In x n) e h))
 
       go : (n s : ℕ) → Conn pred n s → (i : ℕ) → At sets i s → (i ≡ k) ⊎ (i < k) → In reached n
-      go n s c i h (inl q) = none n (onward n s c (subst (λ (x : ℕ). At sets x s) q h))
+      go n s c i h (inl q) = none n (reached-or-next n s c (subst (λ (x : ℕ). At sets x s) q h))
       go n s c i h (inr l) = let x = st .layered .closed i n s l c h in st .into (x .0) n (omega (arith, x .1)) (x .2)
 
   module _ (pos : 0 < next) where
@@ -213,8 +213,8 @@ module _ {pred : List ℕ} {holders : ℕ} {sets : List ℕ} {k reached prev nex
     more = grows regions reached next (st .small) (ly .small) (λ m. ly .fresh (m .0) (m .2) (m .1))
 
     -- there are no more layers with members than regions
-    pub room : suc k < regions
-    room = omega (arith, more .0, more .1, st .count, ones-pos prev prev-pos, ones-pos next pos)
+    pub search-room : suc k < regions
+    search-room = omega (arith, more .0, more .1, st .count, ones-pos prev prev-pos, ones-pos next pos)
 
     new : List ℕ
     new = set sets (suc k) next
@@ -225,7 +225,7 @@ module _ {pred : List ℕ} {holders : ℕ} {sets : List ℕ} {k reached prev nex
 
     top : getD new (suc k) 0 ≡ next
     unfolding new
-    top = getD-set-same sets (suc k) next 0 (omega (arith, room, st .long))
+    top = getD-set-same sets (suc k) next 0 (omega (arith, search-room, st .long))
 
     old : (i n : ℕ) → i ≤ k → At new i n → At sets i n
     old i n m h = subst (λ (x : ℕ). In x n) (same i m) h
@@ -264,7 +264,7 @@ module _ {pred : List ℕ} {holders : ℕ} {sets : List ℕ} {k reached prev nex
 
         on : (j n s : ℕ) → Conn pred n s → At new j s → (j ≡ k) ⊎ (j < k) → (i : ℕ) × (i ≤ suc j) × (At new i n)
         on j n s c h (inl e) =
-            let x = from-next n (onward n s c (subst (λ (y : ℕ). At sets y s) e (old j s (omega arith) h))) in
+            let x = from-next n (reached-or-next n s c (subst (λ (y : ℕ). At sets y s) e (old j s (omega arith) h))) in
             (x .0, omega (arith, x .1), x .2)
         on j n s c h (inr l) =
             let x = st .layered .closed j n s l c (old j s (omega arith) h) in (x .0, x .1, keep (x .0) n (omega (arith, x .1)) (x .2))
@@ -274,11 +274,11 @@ module _ {pred : List ℕ} {holders : ℕ} {sets : List ℕ} {k reached prev nex
         two i j n l a b (inr u) = let m = le-of-suc-le-suc u in st .layered .apart i j n l m (old i n (omega arith) a) (old j n m b)
 
     -- one layer more
-    pub turn : State pred holders (set sets (suc k) next) (suc k) (bitOr reached next) next
+    pub search-next : SearchState pred holders (set sets (suc k) next) (suc k) (bitOr reached next) next
     unfolding new
-    turn = record {
+    search-next = record {
       long = length-set sets (suc k) next ∙ st .long;
-      low = room;
+      low = search-room;
       here = top;
       small = or-lt regions reached next (st .small) (ly .small);
       count = omega (arith, more .0, st .count, ones-pos prev prev-pos);

@@ -30,7 +30,9 @@ use Rattle.region_graph.proofs.Storing.{short-bundle, short-connection, short-c
 use Rattle.region_graph.proofs.Storing.{numbers-filled, provided-filled, packages-stored, services-stored, named-stored, listed-stored}
 use Rattle.region_routes.specs.Hooks.{item, is-installed, all-installed}
 use Rattle.region_routes.specs.Search.{RegionSets}
-use Rattle.region_routes.specs.Tables.{width, everything-number, packed, number-in, place-in, ends, source-in, target-in, most-entries, passed, offer, passage, offers, passages, Appended, Holding, held-in, step-in, step-or, predecessors-by, place-at, all-placed, Tables}
+use Rattle.region_routes.specs.Tables.{width, everything-number, packed, number-in, place-in, ends, source-in, target-in, most-entries}
+use Rattle.region_routes.specs.Tables.{passed, offer, passage, offers, passages, Appended, Holding, held-in, step-in, step-or, predecessors-by}
+use Rattle.region_routes.specs.Tables.{place-at, all-placed, Tables}
 use Rattle.region_routes.proofs.SetLaws.{counted-sets}
 
 -- what is put at the end of what stands in a buffer
@@ -120,14 +122,16 @@ module _ {A : Type 0} (f : A → List ℕ) where
   exists-each P p q e (x ∷ xs) h = ap₂ _||_ (e x (h .0)) (exists-each P p q e xs (h .1))
 
 -- the first places of an array hold the elements of a list, each of which has at most w entries; a table has room for those of all
-pub record Source {A B : Type 0} (store : A → B) (none : B) (size : ℕ) (out : B → A) (f : A → List ℕ) (w : ℕ) (places : List B) (count : ℕ) (xs : List A) : Type 0 where
+pub record Source {A B : Type 0} (store : A → B) (none : B) (size : ℕ) (out : B → A) (f : A → List ℕ) (w : ℕ)
+    (places : List B) (count : ℕ) (xs : List A) : Type 0 where
   pub filled : Filled store none size places count xs
   pub back : All (λ x. out (store x) ≡ x) xs
   pub few : All (λ x. length (f x) ≤ w) xs
   pub fits : size * w ≤ most-entries
 
 -- a loop over them has put the entries of the first i elements
-pub record Gathering {A B : Type 0} (out : B → A) (f : A → List ℕ) (places : List B) (count : ℕ) (before : List ℕ) (i : ℕ) (items : List ℕ) (n : ℕ) : Type 0 where
+pub record Gathering {A B : Type 0} (out : B → A) (f : A → List ℕ) (places : List B) (count : ℕ) (before : List ℕ)
+    (i : ℕ) (items : List ℕ) (n : ℕ) : Type 0 where
   pub upto : i ≤ count
   pub long : length items ≡ most-entries
   pub done : Appended before 0 (concat-map f (take i (map out (take count places)))) items n
@@ -153,7 +157,8 @@ module _ {A B : Type 0} {store : A → B} {none : B} {size w : ℕ} {out : B →
           let here = filled-inside (s .filled) i l in
           let within : suc i ≤ size = omega (arith, here, s .filled .room) in
           rw (filled-means (s .filled) out (s .back) i e d l)
-          (omega (arith, put .counted, g .long, concat-few f w xs (s .few) i, all-at (λ x. length (f x) ≤ w) xs i d here (s .few), mul-le-mul-right w within, s .fits))
+          (omega (arith, put .counted, g .long, concat-few f w xs (s .few) i, all-at (λ x. length (f x) ≤ w) xs i d here (s .few),
+              mul-le-mul-right w within, s .fits))
 
       pub gathering-next : {after : List ℕ} {k : ℕ} → length after ≡ length items → Appended items n (f (out (getD places i e))) after k
           → Gathering out f places count before (i + 1) after k
@@ -249,7 +254,8 @@ module _ (m : Model) (h : Legal m) where
 
   offers-few : (k : ℕ) → All (λ b. length (offer k b) ≤ most-provided) (m .bundles)
   offers-few k =
-      all-map (LegalBundle (m .regions)) (λ b. length (offer k b) ≤ most-provided) (λ b l. rw length-map (few-provided k b l)) (m .bundles) (h .bundles-legal .each)
+      all-map (LegalBundle (m .regions)) (λ b. length (offer k b) ≤ most-provided) (λ b l. rw length-map (few-provided k b l)) (m .bundles)
+          (h .bundles-legal .each)
 
   -- the place of a location in the table of the bundles is its region
   place-offers : (l : ℕ) → place-at (offers 0 (m .bundles)) l ≡ place-of (m .bundles) l
@@ -300,10 +306,12 @@ module _ (m : Model) (h : Legal m) where
       ∙ ap (λ (t : Bool). (eqb (c .source) r && eqb (c .target) s) && t) (part-says n (part-of k (c .filter)) (part-legal k (c .filter) (l .filter)))
 
   -- an entry for all or for the number goes from and to where a connection that passes the item goes
-  crosses-passages : (k n r s : ℕ) → step-or (step-in (passages k (m .connections)) everything-number) (passages k (m .connections)) n r s ≡ crosses m (item k n) r s
+  crosses-passages : (k n r s : ℕ)
+      → step-or (step-in (passages k (m .connections)) everything-number) (passages k (m .connections)) n r s ≡ crosses m (item k n) r s
   crosses-passages k n r s =
       let test : ℕ → Bool = λ e. (eqb (source-in e) r && eqb (target-in e) s) && (eqb (number-in e) everything-number || eqb (number-in e) n) in
-      exists-either (λ e. eqb (source-in e) r && eqb (target-in e) s) (λ e. eqb (number-in e) everything-number) (λ e. eqb (number-in e) n) (passages k (m .connections))
+      exists-either (λ e. eqb (source-in e) r && eqb (target-in e) s) (λ e. eqb (number-in e) everything-number) (λ e. eqb (number-in e) n)
+          (passages k (m .connections))
       ∙ exists-gather (passage k) test (m .connections)
       ∙ exists-each (passage k) (LegalConnection (m .regions)) (λ c. exists test (passage k c))
       (λ c. (eqb (c .source) r && eqb (c .target) s) && passes (item k n) (c .filter)) (passage-says k n r s) (m .connections) (h .connections-legal .each)
@@ -358,7 +366,8 @@ module _ (m : Model) (h : Legal m) where
         stored-as store-bundle bundle-in ShortBundle (λ b s. bundle-back b) (getD (m .bundles) i no-bundle) (filled-at f i e no-bundle l)
         (short-bundle (all-at (LegalBundle (m .regions)) (m .bundles) i no-bundle (filled-inside f i l) (h .bundles-legal .each)))
 
-  module _ {items : List StoredConnection} {count : ℕ} (f : Filled store-connection (store-connection no-connection) most-connections items count (m .connections))
+  module _ {items : List StoredConnection} {count : ℕ}
+      (f : Filled store-connection (store-connection no-connection) most-connections items count (m .connections))
       (i : ℕ) (e : StoredConnection) (l : i < count) where
     connection-legal : LegalConnection (m .regions) (getD (m .connections) i no-connection)
     connection-legal = all-at (LegalConnection (m .regions)) (m .connections) i no-connection (filled-inside f i l) (h .connections-legal .each)

@@ -13,7 +13,7 @@ use Rattle.region_graph.proofs.Bits.{low-first}
 use Rattle.region_routes.specs.Route.{Best}
 use Rattle.region_routes.specs.Search.{In, Conn, At, Leading, Next, Walkable, Walked}
 use Rattle.region_routes.proofs.SetLaws.{not-in-empty}
-use Rattle.region_routes.proofs.SearchLoops.{Taken}
+use Rattle.region_routes.proofs.SearchLoops.{Removed}
 use Rattle.region_routes.proofs.Layers.{best-last, best-next}
 
 -- ---- the loop of `next_to`
@@ -26,8 +26,8 @@ pub record Looking (pred : List ℕ) (x r left : ℕ) : Type 0 where
 
 module _ {pred : List ℕ} {x r : ℕ} where
   -- none is looked at yet
-  pub looking : x < 2 ^ 64 → Looking pred x r x
-  looking f = record { word = f; within = λ n h. h; cover = λ n c h. h }
+  pub looking-start : x < 2 ^ 64 → Looking pred x r x
+  looking-start f = record { word = f; within = λ n h. h; cover = λ n c h. h }
 
   module _ {left s : ℕ} (g : Looking pred x r left) where
     -- a connection leads to the lowest
@@ -39,7 +39,7 @@ module _ {pred : List ℕ} {x r : ℕ} where
     }
 
     -- none leads to the lowest
-    pub next-later : {rest : ℕ} → Taken left s rest → (Conn pred r s → ⊥) → Looking pred x r rest
+    pub next-later : {rest : ℕ} → Removed left s rest → (Conn pred r s → ⊥) → Looking pred x r rest
     next-later {rest} t out = record {
       word = omega (arith, t .less, g .word);
       within = λ n h. g .within n (t .kept n h);
@@ -69,8 +69,8 @@ pub record Walk (pred sets : List ℕ) (deep region : ℕ) (before after : List 
 
 module _ {pred sets : List ℕ} {deep region : ℕ} (wa : Walkable pred sets deep region) where
   -- the region itself is at place 0
-  pub stored : (out : List ℕ) → regions ≤ length out → Walk pred sets deep region (set out 0 region) (set out 0 region) deep 0 region
-  stored out l = record {
+  pub walk-start : (out : List ℕ) → regions ≤ length out → Walk pred sets deep region (set out 0 region) (set out 0 region) deep 0 region
+  walk-start out l = record {
     passed = [];
     here = wa .here;
     sum = omega arith;
@@ -119,8 +119,8 @@ module _ {pred sets : List ℕ} {deep region : ℕ} (wa : Walkable pred sets dee
       next-low = wa .small (d - 1) s (omega (arith, w .sum)) (x .here)
 
       -- the next region is written
-      pub onward : Walk pred sets deep region before (set after (i + 1) s) (d - 1) (i + 1) s
-      onward = rw add-one record {
+      pub walk-next : Walk pred sets deep region before (set after (i + 1) s) (d - 1) (i + 1) s
+      walk-next = rw add-one record {
         passed = upto;
         here = x .here;
         sum = omega (arith, w .sum);
@@ -138,10 +138,10 @@ module _ {pred sets : List ℕ} {deep region : ℕ} (wa : Walkable pred sets dee
       }
 
 -- the route stands in the buffer
-pub arrived : {pred sets : List ℕ} {deep region : ℕ} (out : List ℕ) {after : List ℕ} {d i r : ℕ} → d ≡ 0 → Walkable pred sets deep region
+pub walk-end : {pred sets : List ℕ} {deep region : ℕ} (out : List ℕ) {after : List ℕ} {d i r : ℕ} → d ≡ 0 → Walkable pred sets deep region
     → Walk pred sets deep region (set out 0 region) after d i r → Walked pred sets deep region out after
 unfolding upto
-arrived {sets = sets} {region = region} out {i = i} {r = r} z wa w = record {
+walk-end {sets = sets} {region = region} out {i = i} {r = r} z wa w = record {
   path = upto wa w;
   best = w .rest (r ∷ []) (best-last (subst (λ (k : ℕ). At sets k r) z (w .here))) (omega arith);
   counted = omega (arith, upto-long wa w, w .sum);

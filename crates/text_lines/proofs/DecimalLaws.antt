@@ -13,7 +13,7 @@ use Rattle.region_graph.specs.Lists.{pick}
 use Rattle.region_graph.proofs.Lists.{pick-yes, pick-no}
 use Rattle.text_lines.specs.Written.{WrittenAt}
 use Rattle.text_lines.specs.Decimal.{digit-count, last-digits, most-digits, decimal, decimal-field}
-use Rattle.text_lines.proofs.Writes.{wrote-is, wrote-before}
+use Rattle.text_lines.proofs.Writes.{wrote-none, wrote-is, wrote-before}
 
 last-length : (w n : ℕ) → length (last-digits w n) ≡ w
 last-length zero n = refl
@@ -80,13 +80,14 @@ pub record Counting (number count rest : ℕ) : Type 0 where
   pub counted : digit-count most-digits number + 1 ≡ count + digit-count (suc left) rest
 
 -- before the loop, after a turn of it, and at its end
-pub counting-start : (n : ℕ) → n < 4294967296 → Counting n 1 n
+pub counting-start : (n : ℕ) → n < 2 ^ 32 → Counting n 1 n
 counting-start n h = record { left = 9; within = refl; small = omega arith; counted = omega arith }
 
 pub counting-more : {n count rest : ℕ} → Counting n count rest → 10 ≤ rest → Counting n (count + 1) (rest / 10)
 counting-more {n} {count} {rest} c h = go (c .left) (c .within) (c .small) (c .counted)
   where
-    go : (k : ℕ) → count + k ≡ most-digits → rest < 10 ^ suc k → digit-count most-digits n + 1 ≡ count + digit-count (suc k) rest → Counting n (count + 1) (rest / 10)
+    go : (k : ℕ) → count + k ≡ most-digits → rest < 10 ^ suc k → digit-count most-digits n + 1 ≡ count + digit-count (suc k) rest
+        → Counting n (count + 1) (rest / 10)
     go zero w s d = absurd (omega arith)
     go (suc k) w s d =
         record {
@@ -100,14 +101,40 @@ pub counting-end : {n count rest : ℕ} → Counting n count rest → rest < 10 
 counting-end {n} {count} {rest} c h = omega (arith, c .counted, count-one (c .left) rest h)
 
 -- what is left of a number above one digit more
-pub digit-next : (n k : ℕ) → n / 10 ^ k / 10 ≡ n / 10 ^ suc k
+digit-next : (n k : ℕ) → n / 10 ^ k / 10 ≡ n / 10 ^ suc k
 digit-next n k = div-div-eq-div-mul n (10 ^ k) 10 ∙ ap (λ (p : ℕ). n / p) (sym (pow-suc 10 k))
 
--- the next higher digit of a number in front of the lower ones
-pub wrote-digit : (n k : ℕ) {old new : List ℕ} {from at next m rest : ℕ} → from ≡ suc at → m ≡ suc k → rest ≡ n / 10 ^ k
-    → WrittenAt old new from (last-digits k n) next → WrittenAt old (set new at (rest % 10 + 48)) at (last-digits m n) next
-wrote-digit n k {rest = rest} e f g w =
-    wrote-is (ap (λ (q : ℕ). (q % 10 + 48) ∷ last-digits k n) g ∙ ap (λ (j : ℕ). last-digits j n) (sym f)) (wrote-before (rest % 10 + 48) e w)
+-- a loop has written the last digits of a number, all but the first `left` of them, and `rest` is what is left of the number above them
+pub record LastWritten (old : List ℕ) (at width n : ℕ) (new : List ℕ) (left rest : ℕ) : Type 0 where
+  pub upto : left ≤ width
+  pub above : rest ≡ n / 10 ^ (width - left)
+  pub wrote : WrittenAt old new (at + left) (last-digits (width - left) n) (at + width)
+
+module _ {old : List ℕ} {at width n : ℕ} where
+  pub last-start : at + width ≤ length old → LastWritten old at width n old width n
+  last-start h =
+      let e : width - width ≡ 0 = omega arith in
+      record { upto = omega arith; above = rw e (sym (div-one n)); wrote = rw e (wrote-none old (at + width) h) }
+
+  module _ {new : List ℕ} {left rest : ℕ} (d : LastWritten old at width n new left rest) where
+    -- the next higher digit, in front of the lower ones
+    pub last-next : 0 < left → LastWritten old at width n (set new (at + (left - 1)) (rest % 10 + 48)) (left - 1) (rest / 10)
+    last-next h =
+        let k = width - left in
+        let e : width - (left - 1) ≡ suc k = omega (arith, d .upto) in
+        record {
+          upto = omega (arith, d .upto);
+          above = ap (λ (q : ℕ). q / 10) (d .above) ∙ digit-next n k ∙ ap (λ (j : ℕ). n / 10 ^ j) (sym e);
+          wrote =
+              wrote-is (ap (λ (q : ℕ). (q % 10 + 48) ∷ last-digits k n) (d .above) ∙ ap (λ (j : ℕ). last-digits j n) (sym e))
+              (wrote-before (rest % 10 + 48) (omega arith) (d .wrote));
+        }
+
+    pub last-end : left ≡ 0 → WrittenAt old new at (last-digits width n) (at + width)
+    last-end z =
+        let e : width - left ≡ width = omega arith in
+        let f : at + left ≡ at = omega arith in
+        rw (e, f) at (d .wrote)
 
 -- the number that digits say, after a number in front of them
 abbrev pub said : ℕ → List ℕ → ℕ

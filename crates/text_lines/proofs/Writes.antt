@@ -6,7 +6,7 @@ use native.Mathlib.Numerals.{add-one}
 use native.Mathlib.Nat.{add-zero}
 use native.Mathlib.Omega.{arith}
 use lib.ListN.{length, getD, take, drop, set, length-append, length-drop, take-append-drop}
-use lib.Seq.{set-split, take-at, drop-at, take-append-le, take-suc, take-take, drop-append-add, drop-drop, length-take-le}
+use lib.Seq.{set-split, take-at, drop-at, take-append-le, take-all, take-suc, take-take, drop-append-add, drop-drop, length-take-le}
 use Rattle.text_lines.specs.Written.{WrittenAt}
 
 -- no bytes are written at any place
@@ -28,10 +28,12 @@ module _ {old new : List ℕ} {at next : ℕ} {xs : List ℕ} where
       rw (w .shape, ← append-assoc (take at old) xs (drop next old), length-append, wrote-front w, length-drop) (omega (arith, w .room))
 
   -- a write and one at its end
-  pub wrote-then : {last : List ℕ} {end : ℕ} {ys : List ℕ} → WrittenAt old new at xs next → WrittenAt new last next ys end → WrittenAt old last at (xs ++ ys) end
+  pub wrote-then : {last : List ℕ} {end : ℕ} {ys : List ℕ} → WrittenAt old new at xs next → WrittenAt new last next ys end
+      → WrittenAt old last at (xs ++ ys) end
   wrote-then {last} {end} {ys} v w =
       record {
-        shape = w .shape ∙ ap (λ (l : List ℕ). l ++ (ys ++ drop end new)) front ∙ ap (λ (l : List ℕ). (take at old ++ xs) ++ (ys ++ l)) back ∙ simp append-assoc;
+        shape = w .shape ∙ ap (λ (l : List ℕ). l ++ (ys ++ drop end new)) front ∙ ap (λ (l : List ℕ). (take at old ++ xs) ++ (ys ++ l)) back
+            ∙ simp append-assoc;
         ends = simp length-append (omega (arith, v .ends, w .ends));
         room = omega (arith, w .room, wrote-length v);
       }
@@ -47,7 +49,8 @@ module _ {old new : List ℕ} {at next : ℕ} {xs : List ℕ} where
 
       back : drop end new ≡ drop end old
       back =
-          ap (λ (n : ℕ). drop n new) e ∙ ap (drop (length (take at old ++ xs) + length ys)) split ∙ drop-append-add (take at old ++ xs) (drop next old) (length ys)
+          ap (λ (n : ℕ). drop n new) e ∙ ap (drop (length (take at old ++ xs) + length ys)) split
+              ∙ drop-append-add (take at old ++ xs) (drop next old) (length ys)
           ∙ drop-drop (length ys) next old ∙ ap (λ (n : ℕ). drop n old) (sym (w .ends))
 
 -- nothing more is written yet
@@ -59,7 +62,8 @@ pub wrote-is : {old new : List ℕ} {at next : ℕ} {xs ys : List ℕ} → xs �
 wrote-is {old} {new} {at} {next} e w = subst (λ (l : List ℕ). WrittenAt old new at l next) e w
 
 -- where two pieces of what has room are written, the next piece has room
-pub wrote-room : {old mid new front xs : List ℕ} {at from to : ℕ} (n k : ℕ) → WrittenAt old mid at front from → WrittenAt mid new from xs to → at + n ≤ length old
+pub wrote-room : {old mid new front xs : List ℕ} {at from to : ℕ} (n k : ℕ) → WrittenAt old mid at front from → WrittenAt mid new from xs to
+    → at + n ≤ length old
     → length front + length xs + k ≤ n → to + k ≤ length new
 wrote-room n k v w h l = omega (arith, v .ends, w .ends, wrote-length v, wrote-length w)
 
@@ -68,7 +72,8 @@ pub wrote-before : {old new : List ℕ} {from at next : ℕ} {xs : List ℕ} (b 
     → WrittenAt old (set new at b) at (b ∷ xs) next
 wrote-before {old} {new} {from} {at} {next} {xs} b e v =
     record {
-      shape = set-split new at b (omega (arith, wrote-length w, w .ends, w .room)) ∙ ap (λ (l : List ℕ). l ++ (b ∷ drop (suc at) new)) front ∙ ap (λ (l : List ℕ). take at old ++ (b ∷ l)) back;
+      shape = set-split new at b (omega (arith, wrote-length w, w .ends, w .room)) ∙ ap (λ (l : List ℕ). l ++ (b ∷ drop (suc at) new)) front
+          ∙ ap (λ (l : List ℕ). take at old ++ (b ∷ l)) back;
       ends = omega (arith, w .ends);
       room = w .room;
     }
@@ -80,20 +85,36 @@ wrote-before {old} {new} {from} {at} {next} {xs} b e v =
     long = length-take-le (suc at) old (omega (arith, w .ends, w .room))
 
     front : take at new ≡ take at old
-    front = ap (take at) (w .shape) ∙ take-append-le at (take (suc at) old) (xs ++ drop next old) (omega (arith, long)) ∙ take-take at (suc at) old (omega arith)
+    front = ap (take at) (w .shape) ∙ take-append-le at (take (suc at) old) (xs ++ drop next old) (omega (arith, long))
+        ∙ take-take at (suc at) old (omega arith)
 
     back : drop (suc at) new ≡ xs ++ drop next old
     back = ap (drop (suc at)) (w .shape) ∙ drop-at (take (suc at) old) (xs ++ drop next old) (suc at) long
 
--- bytes one after the other: one byte more
-pub wrote-next : (xs : List ℕ) (i : ℕ) {old new : List ℕ} {at : ℕ} → i < length xs → at + length xs ≤ length old
-    → WrittenAt old new at (take i xs) (at + i) → WrittenAt old (set new (at + i) (getD xs i 0)) at (take (i + 1) xs) (at + (i + 1))
-wrote-next xs i {old} {new} {at} h r w =
-    let b = getD xs i 0 in
-    let v = wrote-then w (wrote-byte new (at + i) b (omega (arith, wrote-length w))) in
-    let e : at + i + 1 ≡ at + (i + 1) = omega arith in
-    let f : take i xs ++ (b ∷ []) ≡ take (i + 1) xs = sym (take-suc xs i 0 h) ∙ ap (λ (k : ℕ). take k xs) (sym (add-one i)) in
-    subst (λ (k : ℕ). WrittenAt old (set new (at + i) b) at (take (i + 1) xs) k) e (wrote-is f v)
+-- a loop has written the first i bytes of a text that has room
+pub record Writing (xs old : List ℕ) (at i : ℕ) (new : List ℕ) : Type 0 where
+  pub upto : i ≤ length xs
+  pub fits : at + length xs ≤ length old
+  pub wrote : WrittenAt old new at (take i xs) (at + i)
+
+module _ {xs old : List ℕ} {at : ℕ} where
+  pub writing-start : at + length xs ≤ length old → Writing xs old at 0 old
+  writing-start h = record { upto = omega arith; fits = h; wrote = rw add-zero (wrote-none old at (omega arith)) }
+
+  module _ {i : ℕ} {new : List ℕ} (w : Writing xs old at i new) where
+    pub writing-inside : i < length xs → at + i < length new
+    writing-inside h = omega (arith, wrote-length (w .wrote), w .fits)
+
+    pub writing-next : i < length xs → Writing xs old at (i + 1) (set new (at + i) (getD xs i 0))
+    writing-next h =
+        let b = getD xs i 0 in
+        let v = wrote-then (w .wrote) (wrote-byte new (at + i) b (writing-inside h)) in
+        let e : at + i + 1 ≡ at + (i + 1) = omega arith in
+        let f : take i xs ++ (b ∷ []) ≡ take (i + 1) xs = sym (take-suc xs i 0 h) ∙ ap (λ (k : ℕ). take k xs) (sym (add-one i)) in
+        record { upto = omega arith; fits = w .fits; wrote = subst (λ (k : ℕ). WrittenAt old (set new (at + i) b) at (take (i + 1) xs) k) e (wrote-is f v) }
+
+    pub writing-end : length xs ≤ i → WrittenAt old new at xs (at + i)
+    writing-end l = wrote-is (take-all i xs l) (w .wrote)
 
 -- where there is room for two pieces, there is for the first, and once it is written for the second
 pub room-first : (xs ys : List ℕ) (at n : ℕ) → at + length (xs ++ ys) ≤ n → at + length xs ≤ n

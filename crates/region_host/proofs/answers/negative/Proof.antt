@@ -2,12 +2,12 @@
 use borrow.Author.Needs.{needs}
 use native.Mathlib.Omega.{arith}
 use mathlib.Core.Path.{_≡_, refl}
-use Prim.Native.Nat.{ℕ, zero, suc, _-_}
+use Prim.Native.Nat.{ℕ, zero, suc, _-_, _^_}
 use Rattle.region_host.specs.CNumbers.{negative}
 use Rattle.region_host.proofs.answers.negative.Statement.{statement}
 use Rattle.region_host.proofs.answers.negative.Tie as tie
 
-below : (n : ℕ) → (n ≡ 0 → ⊥) → 18446744073709551615 - (n - 1) ≡ negative n
+below : (n : ℕ) → (n ≡ 0 → ⊥) → 2 ^ 64 - 1 - (n - 1) ≡ negative n
 below zero h = absurd (h refl)
 below (suc n) h = omega arith
 

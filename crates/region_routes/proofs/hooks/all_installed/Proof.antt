@@ -18,23 +18,21 @@ abbrev μ-loop : tie.MeasureT-loop
 -- the place of the listener at the loop's place
 place : (c : tie.After-place-of Inv-loop μ-loop) → (let s = c .before .before .before .before .before .before .before .before .args in
     place-at (s .bundles .now) (getD (s .listeners .now) (c .before .before .before .before .loop .i) 0) ≡ c .place-of .result)
-place c = sym (c .place-of .ensures ∙ ap (place-at (c .before .before .before .before .before .before .before .before .args .bundles .now)) (c .before .wide .ensures .0))
+place c =
+    sym (c .place-of .ensures ∙ ap (place-at (c .before .before .before .before .before .before .before .before .args .bundles .now))
+    (c .before .wide .ensures .0))
 
 pub all-installed-spec : {M : Type 1} → statement M
 all-installed-spec =
     tie.close
-    (tie.spec
-    Inv-loop
-    μ-loop
+    (tie.spec Inv-loop μ-loop
     (λ c. placing-start)
-    (λ c. search needs)
-    (λ c. search needs)
-    (λ c κs. search needs)
+    (λ c. search needs) (λ c. search needs) (λ c κs. search needs)
     (λ c κs. c .before .before .before .before .before .before .before .pre)
-    (λ c. search needs)
-    (λ c. search needs)
-    (λ c. placing-stop (c .before .before .before .before .before .before .loop .inv) (omega arith) (ap is-installed (place (c .before .before) ∙ c .enum-told .given .1)))
-    (λ c. search needs)
-    (λ c. search needs)
-    (λ c. placing-next (c .before .before .before .before .before .before .loop .inv) (omega arith) (ap is-installed (place (c .before .before) ∙ c .enum-told2 .given .1)))
+    (λ c. search needs) (λ c. search needs)
+    (λ c. placing-stop (c .before .before .before .before .before .before .loop .inv) (omega arith)
+    (ap is-installed (place (c .before .before) ∙ c .enum-told .given .1)))
+    (λ c. search needs) (λ c. search needs)
+    (λ c. placing-next (c .before .before .before .before .before .before .loop .inv) (omega arith)
+    (ap is-installed (place (c .before .before) ∙ c .enum-told2 .given .1)))
     (λ c. placing-end (c .before .loop .inv) (omega arith)))

@@ -15,14 +15,17 @@ use Rattle.region_routes.proofs.hooks.event.Statement.{statement}
 use Rattle.region_routes.proofs.hooks.event.Tie as tie
 
 -- whether every listener is installed
-asked : (c : tie.After-all-installed) → (let s = c .before .before .before .before .before .before .before .before .before .before .args in all-installed (meaning (s .graph)) (s .listeners .now) ≡ c .all-installed .result)
+asked : (c : tie.After-all-installed) → (let s = c .before .before .before .before .before .before .before .before .before .before .args in
+    all-installed (meaning (s .graph)) (s .listeners .now) ≡ c .all-installed .result)
 asked c =
     let s = c .before .before .before .before .before .before .before .before .before .before in
     sym
     (c .all-installed .ensures
-    ∙ placed-installed (meaning (s .args .graph)) (place-table (s .pre .good) (c .before .before .before .before .before .before .offers .ensures .table)) (s .args .listeners .now))
+    ∙ placed-installed (meaning (s .args .graph)) (place-table (s .pre .good) (c .before .before .before .before .before .before .offers .ensures .table))
+        (s .args .listeners .now))
 
-installed : (c : tie.Else1) → (let s = c .before .before .before .before .before .before .before .before .before .before .before .args in all-installed (meaning (s .graph)) (s .listeners .now) ≡ true)
+installed : (c : tie.Else1) → (let s = c .before .before .before .before .before .before .before .before .before .before .before .args in
+    all-installed (meaning (s .graph)) (s .listeners .now) ≡ true)
 installed c = asked (c .before) ∙ not-false _ (c .if1 .left)
 
 returns : tie.Need-returns
@@ -64,11 +67,10 @@ event-spec =
     (λ c κs. c .before .before .chained .ensures)
     returns
     returns-2
-    (λ c κs. search needs)
-    (λ c κs. search needs)
+    (λ c κs. search needs) (λ c κs. search needs)
     (λ c. c .before .before .before .before .before .before .before .before .before .before .offers .ensures .room)
     (λ c. holding-long (c .before .before .before .before .before .before .before .before .before .before .before .offers .ensures))
     (λ c. search needs)
-    (λ c κs. (c .before .before .before .before .before .before .before .before .before .before .chained .ensures, c .before .before .before .before .before .if2 .left))
+    (λ c κs. let q = c .before .before .before .before .before in (q .before .before .before .before .before .chained .ensures, q .if2 .left))
     (λ c. search needs)
     returns-3)

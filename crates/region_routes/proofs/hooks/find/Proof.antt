@@ -16,13 +16,16 @@ use Rattle.region_routes.proofs.hooks.find.Statement.{statement}
 use Rattle.region_routes.proofs.hooks.find.Tie as tie
 
 -- the bundle's region
-place : (c : tie.After-known-told) → (let s = c .before .before .before .before .before .before .args in place-of (meaning (s .graph) .bundles) (s .location) ≡ Within (c .before .place .given .0 .0))
+place : (c : tie.After-known-told) → (let s = c .before .before .before .before .before .before .args in
+    place-of (meaning (s .graph) .bundles) (s .location) ≡ Within (c .before .place .given .0 .0))
 place c = sym (c .before .before .before .region-of .ensures) ∙ c .before .place .given .1
 
 -- where there are places enough: what both ways of keeping ask, and what follows of what they keep
 asked : (c : tie.Else1) → (let s = c .before .before .before .before .before .before .before .args in
     Valid (s .graph) × ((c .before .before .place .given .0 .0 < regions) × (length (s .candidates .now) ≤ length (s .out .now))))
-asked c = let s = c .before .before .before .before .before .before .before in (s .pre, (region-inside (meaning (s .args .graph)) (s .pre .good) (s .args .location) (place (c .before)), c .if1 .left))
+asked c =
+    let s = c .before .before .before .before .before .before .before in
+    (s .pre, (region-inside (meaning (s .args .graph)) (s .pre .good) (s .args .location) (place (c .before)), c .if1 .left))
 
 answers : (c : tie.Else1) (a : Outcome Kept) → (let s = c .before .before .before .before .before .before .before .args in let m = meaning (s .graph) in
     a ≡ kept-outcome (keep (λ n. sees m (item (kind-number (s .kind)) n) (c .before .before .place .given .0 .0)) (s .candidates .now)) (s .out .now)
@@ -46,9 +49,7 @@ pub find-spec : {M : Type 1} → statement M
 find-spec =
     tie.close
     (tie.spec
-    (λ c κs. search needs)
-    (λ c. search needs)
-    (λ c. search needs)
+    (λ c κs. search needs) (λ c. search needs) (λ c. search needs)
     returns
     returns-2
     (λ c κs. asked (c .before .before))

@@ -22,7 +22,8 @@ abbrev μ-loop : tie.MeasureT-loop
 μ-loop offered passing region candidates out₀ offers passes always n₀ i₀ out n i = length candidates - i
 
 -- whether the region sees the candidate at the loop's place
-tested : (c : tie.After-has Inv-loop μ-loop) {b : Bool} → c .has .result ≡ b → (let a = c .before .before .before .before .before .before in let s = a .before .before .before .before .before .before .before .before .before .args in
+tested : (c : tie.After-has Inv-loop μ-loop) {b : Bool} → c .has .result ≡ b → (let a = c .before .before .before .before .before .before in
+    let s = a .before .before .before .before .before .before .before .before .before .args in
     (t : (m : Model) × (k : ℕ) × Tables m k (s .offered .now) (s .passing .now))
     → sees (t .0) (item (t .1) (getD (s .candidates .now) (a .loop .i) 0)) (s .region) ≡ b)
 tested c e t =
@@ -37,25 +38,15 @@ regions-seeing-by-requires c κs =
 pub keep-seen-spec : {M : Type 1} → statement M
 keep-seen-spec =
     tie.close
-    (tie.spec
-    Inv-loop
-    μ-loop
+    (tie.spec Inv-loop μ-loop
     (λ c κs. c .before .before .before .before .pre .0 .0)
     (λ c κs. c .before .before .before .before .before .pre .0 .1)
     (λ c. search needs)
     (λ c κs. c .before .chained2 .ensures)
     (λ c. keeping-start (c .before .before .before .before .before .before .before .before .pre .1 .1))
-    (λ c. search needs)
-    (λ c. search needs)
-    (λ c. search needs)
-    (λ c. search needs)
-    (λ c. search needs)
+    (λ c. search needs) (λ c. search needs) (λ c. search needs) (λ c. search needs) (λ c. search needs)
     regions-seeing-by-requires
-    (λ c κs. search needs)
-    (λ c. search needs)
-    (λ c. search needs)
-    (λ c. search needs)
-    (λ c. search needs)
+    (λ c κs. search needs) (λ c. search needs) (λ c. search needs) (λ c. search needs) (λ c. search needs)
     (λ c. keeping-passed (c .before .before .before .before .before .before .before .loop .inv) (omega arith) (tested (c .before) (c .if1 .taken)))
     (λ c. search needs)
     (λ c. keeping-failed (c .before .before .before .before .before .before .before .loop .inv) (omega arith) (tested (c .before) (c .if1 .left)))

@@ -18,18 +18,11 @@ abbrev μ-loop : tie.MeasureT-loop
 pub keep-standing-spec : {M : Type 1} → statement M
 keep-standing-spec =
     tie.close
-    (tie.spec
-    Inv-loop
-    μ-loop
+    (tie.spec Inv-loop μ-loop
     (λ c. keeping-start (c .before .before .before .before .pre .1))
-    (λ c. search needs)
-    (λ c. search needs)
-    (λ c. search needs)
+    (λ c. search needs) (λ c. search needs) (λ c. search needs)
     (λ c κs. c .before .before .before .before .before .before .before .pre .0)
-    (λ c. search needs)
-    (λ c. search needs)
-    (λ c. search needs)
-    (λ c. search needs)
+    (λ c. search needs) (λ c. search needs) (λ c. search needs) (λ c. search needs)
     (λ c. keeping-passed (c .before .before .before .before .loop .inv) (omega arith) (λ t. sym (c .before .stands-in .ensures) ∙ c .if1 .taken))
     (λ c. search needs)
     (λ c. keeping-failed (c .before .before .before .before .loop .inv) (omega arith) (λ t. sym (c .before .stands-in .ensures) ∙ c .if1 .left))

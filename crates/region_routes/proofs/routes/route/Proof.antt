@@ -23,23 +23,28 @@ use Rattle.region_routes.proofs.routes.route.Tie as tie
 abbrev region : tie.After-known-told → ℕ
 region c = c .before .place .given .0 .0
 
-place : (c : tie.After-known-told) → (let s = c .before .before .before .before .before .args in place-of (meaning (s .graph) .bundles) (s .location) ≡ Within (region c))
+place : (c : tie.After-known-told) → (let s = c .before .before .before .before .before .args in
+    place-of (meaning (s .graph) .bundles) (s .location) ≡ Within (region c))
 place c = sym (c .before .before .before .region-of .ensures) ∙ c .before .place .given .1
 
 inside : (c : tie.After-known-told) → region c < regions
 inside c = let s = c .before .before .before .before .before in region-inside (meaning (s .args .graph)) (s .pre .good) (s .args .location) (place c)
 
--- where the questions are answered yes: the model, the item that is looked for, and what the answer is to be
+-- where the questions are answered yes: what was asked, the model, the item that is looked for, and what the answer is to be
+abbrev start : tie.Else2 → tie.Start
+start c = c .before .before .before .before .before .before .before
+
 abbrev model : tie.Else2 → Model
-model c = meaning (c .before .before .before .before .before .before .before .args .graph)
+model c = meaning (start c .args .graph)
 
 abbrev wanted : tie.Else2 → Item
-wanted c = item (c .before .before .before .before .before .before .before .args .kind) (c .before .before .before .before .before .before .before .args .number)
+wanted c = item (start c .args .kind) (start c .args .number)
 
-answers : (c : tie.Else2) {a : Outcome Routed} → (let s = c .before .before .before .before .before .before .before .args in
-    a ≡ shown (chosen (model c) (wanted c) (region (c .before .before))) (s .out .now) → a ≡ route-outcome (model c) (s .location) (s .kind) (s .number) (s .out .now))
+answers : (c : tie.Else2) {a : Outcome Routed} → (let s = start c .args in
+    a ≡ shown (chosen (model c) (wanted c) (region (c .before .before))) (s .out .now)
+    → a ≡ route-outcome (model c) (s .location) (s .kind) (s .number) (s .out .now))
 answers c e =
-    let s = c .before .before .before .before .before .before .before .args in
+    let s = start c .args in
     route-answers (model c) (s .location) (s .kind) (s .number) (s .out .now) (place (c .before .before)) (c .before .if1 .left) (c .if2 .left) e
 
 returns : tie.Need-returns
@@ -61,13 +66,16 @@ returns-4 : tie.Need-returns-4
 returns-4 c =
     let q = c .before .before .before .before .before in
     answers q
-    (ap (λ (p : Option (List ℕ)). shown p (q .before .before .before .before .before .before .before .args .out .now))
-    (unreached (model q) (wanted q) (q .before .before .before .before .before .before .before .pre .good) (c .before .before .before .before .search-for .ensures .1) (region (q .before .before)) (inside (q .before .before)) (sym (c .before .has .ensures) ∙ not-true _ (c .if3 .taken))))
+    (ap (λ (p : Option (List ℕ)). shown p (start q .args .out .now))
+    (unreached (model q) (wanted q) (start q .pre .good) (c .before .before .before .before .search-for .ensures .1) (region (q .before .before))
+    (inside (q .before .before))
+    (sym (c .before .has .ensures) ∙ not-true _ (c .if3 .taken))))
 
 distance-requires : tie.Need-distance-requires
 distance-requires c κs =
     let q = c .before .before .before .before .before in
-    reached-layer (model q) (wanted q) (q .before .before .before .before .before .before .before .pre .good) (c .before .before .before .before .search-for .ensures .1) (region (q .before .before)) (inside (q .before .before))
+    reached-layer (model q) (wanted q) (start q .pre .good) (c .before .before .before .before .search-for .ensures .1) (region (q .before .before))
+    (inside (q .before .before))
     (sym (c .before .has .ensures) ∙ not-false _ (c .if3 .left))
 
 walk-requires : tie.Need-walk-requires
@@ -76,7 +84,8 @@ walk-requires c κs =
     let q = f .before in
     let e = f .search-for .ensures in (
       (ap length (e .0) ∙ predecessors-sets (model q) (wanted q) .long, q .if2 .left),
-      rw (e .0) (walkable (model q) (wanted q) (q .before .before .before .before .before .before .before .pre .good) (e .1) (region (q .before .before)) (inside (q .before .before)) (c .before .before .distance .ensures)),
+      rw (e .0) (walkable (model q) (wanted q) (start q .pre .good) (e .1) (region (q .before .before)) (inside (q .before .before))
+      (c .before .before .distance .ensures)),
     )
 
 returns-5 : tie.Need-returns-5
@@ -84,20 +93,19 @@ returns-5 c =
     let f = c .before .before .before .before .before .before .before .before .before .before in
     let q = f .before in
     let e = f .search-for .ensures in
-    answers q (walked-chosen (model q) (wanted q) (q .before .before .before .before .before .before .before .pre .good) (e .1) (region (q .before .before)) (inside (q .before .before)) (rw (e .0) at (c .before .before .walk .ensures)))
+    answers q
+    (walked-chosen (model q) (wanted q) (start q .pre .good) (e .1) (region (q .before .before)) (inside (q .before .before))
+    (rw (e .0) at (c .before .before .walk .ensures)))
 
 pub route-spec : {M : Type 1} → statement M
 route-spec =
     tie.close
     (tie.spec
-    (λ c κs. search needs)
-    (λ c. search needs)
-    (λ c. search needs)
+    (λ c κs. search needs) (λ c. search needs) (λ c. search needs)
     returns
     returns-2
     returns-3
-    (λ c κs. search needs)
-    (λ c κs. search needs)
+    (λ c κs. search needs) (λ c κs. search needs)
     returns-4
     distance-requires
     (λ c. search needs)

@@ -4,7 +4,7 @@ use native.Mathlib.Omega.{arith}
 use lib.ListN.{length-set}
 use borrow.Author.Needs.{needs}
 use Rattle.region_graph.specs.Size.{regions}
-use Rattle.region_routes.proofs.Walking.{Walk, stored, leading, next-low, onward, arrived}
+use Rattle.region_routes.proofs.Walking.{Walk, walk-start, leading, next-low, walk-next, walk-end}
 use Rattle.region_routes.proofs.routes.walk.Statement.{statement}
 use Rattle.region_routes.proofs.routes.walk.Tie as tie
 
@@ -22,7 +22,7 @@ cast-out : tie.Need-cast-out Inv-loop μ-loop
 cast-out c = let w = c .before .before .before .pre .1 in omega (arith, w .small _ _ (search needs) (w .here))
 
 loop-holds : tie.Need-loop-holds Inv-loop μ-loop
-loop-holds c = let s = c .before .before .before in stored (s .pre .1) (s .args .out .now) (search needs)
+loop-holds c = let s = c .before .before .before in walk-start (s .pre .1) (s .args .out .now) (search needs)
 
 next-to-requires : tie.Need-next-to-requires Inv-loop μ-loop
 next-to-requires c κs = let s = c .before .before .before .before .before in (s .pre .0 .0, leading (s .pre .1) (c .before .loop .inv) (search needs))
@@ -31,31 +31,26 @@ cast-out-2 : tie.Need-cast-out-2 Inv-loop μ-loop
 cast-out-2 c = omega (arith, low c)
 
 loop-again : tie.Need-loop-again Inv-loop μ-loop
-loop-again c = onward (c .before .before .before .before .before .before .pre .1) (c .before .before .loop .inv) (search needs) (c .next-to .ensures)
+loop-again c = walk-next (c .before .before .before .before .before .before .pre .1) (c .before .before .loop .inv) (search needs) (c .next-to .ensures)
 
 same-length : tie.Need-same-length Inv-loop μ-loop
 same-length c = simp length-set at (c .before .loop .inv .long)
 
 returns : tie.Need-returns Inv-loop μ-loop
-returns c = let s = c .before .before .before .before .before in arrived (s .args .out .now) (omega arith) (s .pre .1) (c .before .loop .inv)
+returns c = let s = c .before .before .before .before .before in walk-end (s .args .out .now) (omega arith) (s .pre .1) (c .before .loop .inv)
 
 pub walk-spec : {M : Type 1} → statement M
 walk-spec =
     tie.close
-    (tie.spec
-    Inv-loop
-    μ-loop
+    (tie.spec Inv-loop μ-loop
     cast-out
     (λ c. search needs)
     loop-holds
-    (λ c. search needs)
-    (λ c. search needs)
-    (λ c. search needs)
+    (λ c. search needs) (λ c. search needs) (λ c. search needs)
     next-to-requires
     (λ c. search needs)
     cast-out-2
-    (λ c. search needs)
-    (λ c. search needs)
+    (λ c. search needs) (λ c. search needs)
     loop-again
     same-length
     returns)

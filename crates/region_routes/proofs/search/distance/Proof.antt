@@ -23,7 +23,8 @@ returns c =
 loop-again : tie.Need-loop-again Inv-loop μ-loop
 loop-again c =
     let v = c .before .before .before .before .loop .inv in
-    let other : c .before .before .before .before .loop .d ≡ v .0 → ⊥ = λ e. has-not _ _ (c .before .before .before .before .before .pre .inside) (sym (c .before .has .ensures) ∙ c .if1 .left) (rw e (v .3)) in
+    let passed = has-not _ _ (c .before .before .before .before .before .pre .inside) (sym (c .before .has .ensures) ∙ c .if1 .left) in
+    let other : c .before .before .before .before .loop .d ≡ v .0 → ⊥ = λ e. passed (rw e (v .3)) in
     (v .0, omega (arith, v .1), v .2, v .3)
 
 returns-2 : tie.Need-returns-2 Inv-loop μ-loop
@@ -32,15 +33,10 @@ returns-2 c = let v = c .before .loop .inv in absurd (omega (arith, v .1, v .2, 
 pub distance-spec : {M : Type 1} → statement M
 distance-spec =
     tie.close
-    (tie.spec
-    Inv-loop
-    μ-loop
+    (tie.spec Inv-loop μ-loop
     (λ c. let r = c .pre .some-layer in (r .0, search needs, r .1, r .2))
-    (λ c. search needs)
-    (λ c. search needs)
-    (λ c κs. tt)
+    (λ c. search needs) (λ c. search needs) (λ c κs. tt)
     returns
-    (λ c. search needs)
-    (λ c. search needs)
+    (λ c. search needs) (λ c. search needs)
     loop-again
     returns-2)

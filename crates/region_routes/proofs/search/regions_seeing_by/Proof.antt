@@ -52,7 +52,8 @@ returns-2 c =
     let preceding-for : ℕ → List ℕ = λ n. predecessors-by (step-or (step-in p everything-number) p n) in
     λ m k t.
     reached-sees m (item k (s .number)) (t .legal)
-    (rw (held a m k t) at (rw (preceding (c .before .before) ∙ ap preceding-for (a .before .wide .ensures .0) ∙ preceding-table t (s .number)) at (c .search .ensures)))
+    (rw (held a m k t) at
+    (rw (preceding (c .before .before) ∙ ap preceding-for (a .before .wide .ensures .0) ∙ preceding-table t (s .number)) at (c .search .ensures)))
 
 pub regions-seeing-by-spec : {M : Type 1} → statement M
 regions-seeing-by-spec =

@@ -11,7 +11,10 @@ search-requires : tie.Need-search-requires
 search-requires c κs =
     let s = c .before .before .before in
     let m = meaning (s .args .graph) in
-    (rw (c .before .before .predecessors .ensures) (predecessors-sets m (s .args .item)), rw (c .before .holders .ensures) (set-below-lt regions (holds m (s .args .item))))
+    (
+      rw (c .before .before .predecessors .ensures) (predecessors-sets m (s .args .item)),
+      rw (c .before .holders .ensures) (set-below-lt regions (holds m (s .args .item))),
+    )
 
 returns : tie.Need-returns
 returns c = (
@@ -23,8 +26,6 @@ pub search-for-spec : {M : Type 1} → statement M
 search-for-spec =
     tie.close
     (tie.spec
-    (λ c κs. search needs)
-    (λ c κs. search needs)
-    (λ c. search needs)
+    (λ c κs. search needs) (λ c κs. search needs) (λ c. search needs)
     search-requires
     returns)

@@ -18,7 +18,9 @@ abbrev μ-loop : tie.MeasureT-loop
 
 from : (c : tie.After-bundle-count Inv-loop μ-loop) → (let s = c .before .before .before in
     OffersFrom (meaning (s .args .graph)) (s .pre .0 .good) (kind-number (s .args .kind)) (c .before .bundle-places .result) (c .bundle-count .result))
-from c = let s = c .before .before .before in offers-from (meaning (s .args .graph)) (s .pre .0 .good) (kind-number (s .args .kind)) (c .before .bundle-places .ensures) (c .bundle-count .ensures)
+from c =
+    let s = c .before .before .before in
+    offers-from (meaning (s .args .graph)) (s .pre .0 .good) (kind-number (s .args .kind)) (c .before .bundle-places .ensures) (c .bundle-count .ensures)
 
 append-offer-requires : tie.Need-append-offer-requires Inv-loop μ-loop
 append-offer-requires c κs =
@@ -37,15 +39,11 @@ loop-again c =
 pub offers-spec : {M : Type 1} → statement M
 offers-spec =
     tie.close
-    (tie.spec
-    Inv-loop
-    μ-loop
+    (tie.spec Inv-loop μ-loop
     (λ c κs. c .before .pre .0)
     (λ c κs. c .before .before .pre .0)
     (λ c. gathering-start (c .before .before .before .pre .1))
-    (λ c. search needs)
-    (λ c. search needs)
-    (λ c. search needs)
+    (λ c. search needs) (λ c. search needs) (λ c. search needs)
     append-offer-requires
     (λ c. search needs)
     loop-again

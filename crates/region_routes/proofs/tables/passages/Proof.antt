@@ -18,8 +18,12 @@ abbrev μ-loop : tie.MeasureT-loop
 μ-loop items₀ kind connections count n₀ i₀ items n i = count - i
 
 from : (c : tie.After-connection-count Inv-loop μ-loop) → (let s = c .before .before .before in
-    PassagesFrom (meaning (s .args .graph)) (s .pre .0 .good) (kind-number (s .args .kind)) (c .before .connection-places .result) (c .connection-count .result))
-from c = let s = c .before .before .before in passages-from (meaning (s .args .graph)) (s .pre .0 .good) (kind-number (s .args .kind)) (c .before .connection-places .ensures) (c .connection-count .ensures)
+    PassagesFrom (meaning (s .args .graph)) (s .pre .0 .good) (kind-number (s .args .kind))
+    (c .before .connection-places .result) (c .connection-count .result))
+from c =
+    let s = c .before .before .before in
+    passages-from (meaning (s .args .graph)) (s .pre .0 .good) (kind-number (s .args .kind))
+    (c .before .connection-places .ensures) (c .connection-count .ensures)
 
 append-passage-requires : tie.Need-append-passage-requires Inv-loop μ-loop
 append-passage-requires c κs =
@@ -37,17 +41,15 @@ append-passage-requires c κs =
 pub passages-spec : {M : Type 1} → statement M
 passages-spec =
     tie.close
-    (tie.spec
-    Inv-loop
-    μ-loop
+    (tie.spec Inv-loop μ-loop
     (λ c κs. c .before .pre .0)
     (λ c κs. c .before .before .pre .0)
     (λ c. gathering-start (c .before .before .before .pre .1))
-    (λ c. search needs)
-    (λ c. search needs)
-    (λ c. search needs)
+    (λ c. search needs) (λ c. search needs) (λ c. search needs)
     append-passage-requires
     (λ c. search needs)
-    (λ c. gathering-next (from (c .before .before .before .before .before .before .before)) (c .before .before .before .before .before .before .loop .inv) _ no-connection (c .before .before .before .before .before .loop-test .taken) (search needs) (c .before .before .append-passage .ensures))
+    (λ c. let t = c .before .before .before .before .before in
+    gathering-next (from (t .before .before)) (t .before .loop .inv) _ no-connection (t .loop-test .taken) (search needs)
+    (c .before .before .append-passage .ensures))
     (λ c. c .before .loop .inv .long ∙ sym (c .before .before .before .before .before .pre .1))
     (λ c. gathering-end (from (c .before .before)) (c .before .loop .inv) (omega arith)))

@@ -2,8 +2,8 @@ use Prim.Native.Nat.{_-_}
 use native.Mathlib.Omega.{arith}
 use borrow.Author.Needs.{needs}
 use lib.ListN.{length}
-use Rattle.region_routes.proofs.Chaining.{Along, along-start, along-inside, along-less, along-next, along-past, starts-inside}
-use Rattle.region_routes.proofs.Lookups.{Preceding, preceding-start, preceding-skips, preceding-more, preceding-end}
+use Rattle.region_routes.proofs.Chaining.{Along, along-inside, along-less, along-past, starts-inside}
+use Rattle.region_routes.proofs.Lookups.{Preceding, preceding-start, preceding-next, preceding-end}
 use Rattle.region_routes.proofs.tables.predecessors.Statement.{statement}
 use Rattle.region_routes.proofs.tables.predecessors.Tie as tie
 
@@ -16,22 +16,13 @@ abbrev μ-loop : tie.MeasureT-loop
 array-read-sets : tie.Need-array-read-sets Inv-loop μ-loop
 array-read-sets c = omega arith
 
-loop-again : tie.Need-loop-again Inv-loop μ-loop
-loop-again c =
-    let t = c .before .before .before .before in
-    let w = t .before .loop .inv in
-    along-next w (t .loop-test .taken) (preceding-more (w .done) (t .loop-test .taken) (c .before .if1 .taken) (c .singleton .ensures)) (c .before .before .next-of .ensures)
-
 pub predecessors-spec : {M : Type 1} → statement M
 predecessors-spec =
     tie.close
-    (tie.spec
-    Inv-loop
-    μ-loop
+    (tie.spec Inv-loop μ-loop
     (λ c κs. starts-inside (c .before .before .pre))
-    (λ c. along-start (c .before .before .before .pre) preceding-skips (c .before .before .before .args .given) preceding-start (c .first-of .ensures))
-    (λ c. search needs)
-    (λ c. search needs)
+    (λ c. preceding-start (c .before .before .before .pre) (c .first-of .ensures))
+    (λ c. search needs) (λ c. search needs)
     (λ c κs. along-inside (c .before .before .loop .inv) (c .before .loop-test .taken))
     (λ c. omega (arith, array-read-sets c))
     array-read-sets
@@ -39,8 +30,9 @@ predecessors-spec =
     (λ c κs. search needs)
     (λ c. omega (arith, array-read-sets (c .before)))
     (λ c. array-read-sets (c .before))
-    (λ c. along-less (c .before .before .before .before .before .loop .inv) (c .before .before .before .before .loop-test .taken) (c .before .before .next-of .ensures))
-    loop-again
+    (λ c. let t = c .before .before .before .before in along-less (t .before .loop .inv) (t .loop-test .taken) (c .before .before .next-of .ensures))
+    (λ c. let t = c .before .before .before .before in
+    preceding-next (t .before .loop .inv) (t .loop-test .taken) (c .before .if1 .taken) (c .singleton .ensures) (c .before .before .next-of .ensures))
     (λ c. along-less (c .before .before .before .before .loop .inv) (c .before .before .before .loop-test .taken) (c .before .next-of .ensures))
     (λ c. along-past (c .before .before .before .before .loop .inv) (c .before .before .before .loop-test .taken) (c .if1 .left) (c .before .next-of .ensures))
-    (λ c. preceding-end (c .before .loop .inv .done) (omega arith)))
+    (λ c. preceding-end (c .before .loop .inv) (omega arith)))

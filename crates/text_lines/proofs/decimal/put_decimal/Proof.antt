@@ -12,22 +12,13 @@ returns c =
     put-none (s .buffer .now) (s .at) (decimal (s .number)) (decimal-size (s .number) (c .before .before .digits .ensures))
     (c .before .has-room .ensures) (c .if1 .taken)
 
-put-digits-requires : tie.Need-put-digits-requires
-put-digits-requires c κs = has-place _ _ (c .before .before .has-room .ensures) (c .before .if1 .left)
-
-returns-2 : tie.Need-returns-2
-returns-2 c =
-    let d = c .before .before .before .before .before .before in
-    wrote-put (wrote-is (decimal-is (d .before .before .args .number) (d .digits .ensures)) (c .before .before .put-digits .ensures))
-
 pub put-decimal-spec : {M : Type 1} → statement M
 put-decimal-spec =
     tie.close
     (tie.spec
-    (λ c κs. search needs)
-    (λ c κs. search needs)
+    (λ c κs. search needs) (λ c κs. search needs)
     returns
-    put-digits-requires
-    (λ c. search needs)
-    (λ c. search needs)
-    returns-2)
+    (λ c κs. has-place _ _ (c .before .before .has-room .ensures) (c .before .if1 .left))
+    (λ c. search needs) (λ c. search needs)
+    (λ c. let d = c .before .before .before .before .before .before in
+    wrote-put (wrote-is (decimal-is (d .before .before .args .number) (d .digits .ensures)) (c .before .before .put-digits .ensures))))

@@ -48,7 +48,5 @@ put-field-spec =
     put-digits-requires
     (λ c. search needs)
     slice-write-buffer
-    (λ c. search needs)
-    (λ c. search needs)
-    (λ c. search needs)
+    (λ c. search needs) (λ c. search needs) (λ c. search needs)
     returns-2)

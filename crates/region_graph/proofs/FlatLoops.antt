@@ -1,6 +1,7 @@
 -- Lists of flat elements: the loops that take one element after the other, for regions, and for bundles and connections alike.
 use mathlib.Core.Path.{_≡_, refl, sym, ap, ap₂, _∙_, subst}
 use mathlib.Core.Bool.{Bool, true, false, not, and-true}
+use mathlib.Core.Logic.{_⊎_, ⊎-elim}
 use mathlib.Core.List.{List, [], _∷_, _++_, append-nil, append-assoc}
 use Prim.Native.Nat.{ℕ, suc, _+_, _-_, _*_, _≤_, _<_}
 use native.Mathlib.Numerals.{add-one}
@@ -118,6 +119,10 @@ connection-rows rs small = record {
       (member-all (λ r. r < regions) (y .target) rs small (h .target));
   same = connection-same;
 }
+
+-- the loop that takes them ends in one of four ways
+pub ended : {W X Y Z R : Type 0} → (W → R) → (X → R) → (Y → R) → (Z → R) → W ⊎ (X ⊎ (Y ⊎ Z)) → R
+ended f g h k = ⊎-elim f (⊎-elim g (⊎-elim h k))
 
 module _ {A B : Type 0} (k : Rows A B) where
   -- numbers are those of one list at most

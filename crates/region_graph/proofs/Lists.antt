@@ -372,6 +372,11 @@ abbrev pub Distinct : List ℕ → Type 0
 Distinct [] = Unit {0}
 Distinct (x ∷ xs) = (member x xs ≡ false) × Distinct xs
 
+pub distinct-snoc : (xs : List ℕ) (x : ℕ) → Distinct xs → All (λ y. eqb x y ≡ false) xs → Distinct (xs ++ (x ∷ []))
+distinct-snoc [] x d h = (refl, tt)
+distinct-snoc (y ∷ xs) x d h =
+    (exists-append (eqb y) xs (x ∷ []) ∙ rw (d .0, eqb-sym y x, h .0), distinct-snoc xs x (d .1) (h .1))
+
 less-one : (x : ℕ) (ys : List ℕ) → member x ys ≡ true → length (keep (λ y. not (eqb x y)) ys) < length ys
 less-one x [] e = false-true e
 less-one x (y ∷ ys) e = go (eqb x y) (less-one x ys) e

@@ -19,25 +19,16 @@ use Rattle.region_graph.specs.Promise.{bundle-places}
 use Rattle.region_graph.specs.declared.Graph.{Graph}
 use Rattle.region_graph.specs.declared.bundles.StoredBundle.{StoredBundle}
 use Rattle.region_graph.specs.declared.bundles.Bundles.{Bundles}
-use Rattle.region_graph.proofs.Lists.{false-true, pick-yes, pick-no, exists-append, eqb-sym}
+use Rattle.region_graph.proofs.Lists.{pick-yes, pick-no, exists-append, exists-none, Distinct, distinct-snoc, concat-next, concat-within, concat-most}
 use Rattle.region_graph.proofs.Arrays.{filled-means}
 use Rattle.region_graph.proofs.Storing.{bundles-each, bundles-back, stored-as, bundles-filled, filled-bundles, bundles-stored}
 use Rattle.region_routes.specs.Hooks.{kind-number}
 use Rattle.region_routes.specs.declared.Kind.{Kind}
 use Rattle.region_routes.specs.declared.Kind.the-variants as Kind
-use Rattle.region_archive.proofs.Pieces.{concat-next, concat-within, concat-most}
 use Rattle.region_archive.proofs.CountedReads.{take-set}
 use Rattle.region_listing.specs.Listing.{joined, joined-all, different, held}
 use Rattle.region_listing.specs.Counts.{most-different, numbers-in, Collected}
 use Rattle.region_listing.specs.declared.collection.Collection.{Collection}
-
-or-fst : (a b : Bool) → (a || b) ≡ false → a ≡ false
-or-fst true b e = e
-or-fst false b e = refl
-
-or-snd : (a b : Bool) → (a || b) ≡ false → b ≡ false
-or-snd true b e = false-true (sym e)
-or-snd false b e = e
 
 -- two lists join one after the other
 pub joined-append : (s xs ys : List ℕ) → joined-all s (xs ++ ys) ≡ joined-all (joined-all s xs) ys
@@ -189,26 +180,13 @@ pub different-members : (n : ℕ) (xs : List ℕ) → member n (different xs) �
 different-members n xs = joined-members n [] xs
 
 -- and each of them stands there once
-abbrev pub Once : List ℕ → Type 0
-Once [] = Unit {0}
-Once (x ∷ xs) = (member x xs ≡ false) × Once xs
-
-once-more : (s : List ℕ) (x : ℕ) → Once s → member x s ≡ false → Once (s ++ (x ∷ []))
-once-more [] x o e = (refl, tt)
-once-more (y ∷ s) x o e =
-    let f = or-fst (eqb x y) (member x s) e in
-    let g = or-snd (eqb x y) (member x s) e in (
-      exists-append (eqb y) s (x ∷ []) ∙ ap (λ (b : Bool). b || (eqb y x || false)) (o .0) ∙ ap (λ (b : Bool). b || false) (eqb-sym y x ∙ f),
-      once-more s x (o .1) g,
-    )
-
-joined-once : (s xs : List ℕ) → Once s → Once (joined-all s xs)
-joined-once s [] o = o
-joined-once s (x ∷ xs) o = joined-once (joined s x) xs (go (member x s) refl)
+joined-distinct : (s xs : List ℕ) → Distinct s → Distinct (joined-all s xs)
+joined-distinct s [] d = d
+joined-distinct s (x ∷ xs) d = joined-distinct (joined s x) xs (go (member x s) refl)
   where
-    go : (b : Bool) → member x s ≡ b → Once (pick b s (s ++ (x ∷ [])))
-    go true e = o
-    go false e = once-more s x o e
+    go : (b : Bool) → member x s ≡ b → Distinct (pick b s (s ++ (x ∷ [])))
+    go true e = d
+    go false e = distinct-snoc s x d (exists-none (eqb x) s e)
 
-pub different-once : (xs : List ℕ) → Once (different xs)
-different-once xs = joined-once [] xs tt
+pub different-distinct : (xs : List ℕ) → Distinct (different xs)
+different-distinct xs = joined-distinct [] xs tt

@@ -2,7 +2,7 @@
 use mathlib.Core.Path.{_≡_, refl, sym, ap, _∙_, subst}
 use mathlib.Core.Bool.{Bool, true, false}
 use mathlib.Core.List.{List, [], _∷_, _++_}
-use Prim.Native.Nat.{ℕ, zero, suc, _+_, _-_, _*_, _^_, _≤_, _<_}
+use Prim.Native.Nat.{ℕ, suc, _+_, _-_, _*_, _^_, _≤_, _<_}
 use native.Mathlib.Omega.{arith}
 use borrow.Author.Tests.{eq-eqb, ne-eqb}
 use lib.Dec.{eqb}
@@ -17,7 +17,8 @@ use Rattle.region_graph.specs.Items.{provided}
 use Rattle.region_graph.specs.Record.{no-bundle, bundles-of, bundle-in}
 use Rattle.region_graph.specs.Places.{BundlesStored}
 use Rattle.region_graph.specs.declared.bundles.StoredBundle.{StoredBundle}
-use Rattle.region_graph.proofs.Lists.{pick-yes, pick-no, keep-length, all-at, all-map, member-all}
+use Rattle.region_graph.proofs.Lists.{pick-yes, pick-no, keep-length, all-at, all-map, member-all, concat-next, concat-within, concat-most}
+use Rattle.region_graph.proofs.Arrays.{drop-replicate}
 use Rattle.region_graph.proofs.Storing.{short-bundle}
 use Rattle.region_graph.proofs.Legal.{legal-nothing}
 use Rattle.region_routes.specs.Chosen.{sees}
@@ -30,7 +31,6 @@ use Rattle.text_lines.proofs.Writes.{wrote-then, wrote-is, wrote-length}
 use Rattle.text_lines.proofs.DecimalLaws.{decimal-few, decimal-most}
 use Rattle.region_archive.specs.File.{FileMeaning, means, means-none, read-model, read-number}
 use Rattle.region_archive.proofs.Meaning.{file-meaning}
-use Rattle.region_archive.proofs.Pieces.{concat-next, concat-within, concat-most}
 use Rattle.region_listing.specs.Listing.{held, seen-from, line-of, line, header, listing-text, refused-word, refusal-text, file-text}
 use Rattle.region_listing.specs.Listing.{header-size, line-size, longest-text, store-text, ArchiveListed}
 use Rattle.region_listing.specs.Counts.{Counted}
@@ -121,7 +121,8 @@ field-most n end = omega (arith, length-append (decimal n) (end ∷ []), decimal
 
 line-length : (a b c d e : ℕ)
     → length (line-of a b c d e)
-    ≡ length (decimal-field a space) + (length (decimal-field b space) + (length (decimal-field c space) + (length (decimal-field d space) + length (decimal-field e newline))))
+    ≡ length (decimal-field a space) + (length (decimal-field b space)
+    + (length (decimal-field c space) + (length (decimal-field d space) + length (decimal-field e newline))))
 line-length a b c d e = simp length-append
 
 module _ (m : Model) (l : Legal m) where
@@ -162,21 +163,12 @@ pub header-length : length header ≡ header-size
 unfolding header
 header-length = refl
 
-drop-same : (x n k : ℕ) → k ≤ n → drop k (replicate n x) ≡ replicate (n - k) x
-drop-same x n zero h =
-    let e : n ≡ n - 0 = omega arith in
-    ap (λ (j : ℕ). replicate j x) e
-drop-same x zero (suc k) h = absurd (omega arith)
-drop-same x (suc n) (suc k) h =
-    let e : n - k ≡ suc n - suc k = omega arith in
-    drop-same x n k (omega arith) ∙ ap (λ (j : ℕ). replicate j x) e
-
 -- what was written into equal places, and those that are left
 wrote-same : (x size : ℕ) {old new xs : List ℕ} {next : ℕ} → old ≡ replicate size x → WrittenAt old new 0 xs next
     → (next ≡ length xs) × (new ≡ xs ++ replicate (size - length xs) x)
 wrote-same x size {old} {new} {xs} {next} e w = (
   ends,
-  w .shape ∙ ap (λ (l : List ℕ). xs ++ l) (ap (λ (l : List ℕ). drop next l) e ∙ drop-same x size next room ∙ ap (λ (k : ℕ). replicate (size - k) x) ends),
+  w .shape ∙ ap (λ (l : List ℕ). xs ++ l) (ap (λ (l : List ℕ). drop next l) e ∙ drop-replicate x size next room ∙ ap (λ (k : ℕ). replicate (size - k) x) ends),
 )
   where
     ends : next ≡ length xs

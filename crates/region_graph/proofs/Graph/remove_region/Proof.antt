@@ -28,10 +28,4 @@ returns c =
 pub remove-region-spec : {M : Type 1} → statement M
 remove-region-spec =
     tie.close
-    (tie.spec
-    (λ c κs. search needs)
-    (λ c κs. search needs)
-    without-requires
-    without-requires-2
-    (λ c κs. search needs)
-    returns)
+    (tie.spec (λ c κs. search needs) (λ c κs. search needs) without-requires without-requires-2 (λ c κs. search needs) returns)

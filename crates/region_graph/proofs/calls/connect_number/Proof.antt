@@ -75,12 +75,4 @@ returns-5 c =
 pub connect-number-spec : {M : Type 1} → statement M
 connect-number-spec =
     tie.close
-    (tie.spec
-    first-requires
-    returns
-    (λ c κs. search needs)
-    returns-2
-    (λ c κs. search needs)
-    returns-3
-    returns-4
-    returns-5)
+    (tie.spec first-requires returns (λ c κs. search needs) returns-2 (λ c κs. search needs) returns-3 returns-4 returns-5)

@@ -58,14 +58,5 @@ returns-6 c = rw (numbers (c .before .before .before .before .before), inside (c
 pub ends-number-spec : {M : Type 1} → statement M
 ends-number-spec =
     tie.close
-    (tie.spec
-    (λ c κs. search needs)
-    returns
-    (λ c κs. search needs)
-    returns-2
-    (λ c κs. search needs)
-    returns-3
-    (λ c κs. search needs)
-    returns-4
-    returns-5
-    returns-6)
+    (tie.spec (λ c κs. search needs) returns (λ c κs. search needs) returns-2 (λ c κs. search needs) returns-3 (λ c κs. search needs) returns-4
+    returns-5 returns-6)

@@ -18,7 +18,8 @@ region c =
     all-yes (region-questions (members (a .regions)) (a .region)) (refl, (refl, tt)) (sym (c .before .region-number .ensures) ∙ c .if1 .left)
 
 short : (c : tie.Else2)
-    → (let a = c .before .before .before .before .before .before .args in (within most-provided (a .packages .now) && within most-provided (a .services .now)) ≡ true)
+    → (let a = c .before .before .before .before .before .before .args in
+    (within most-provided (a .packages .now) && within most-provided (a .services .now)) ≡ true)
 short c = sym (c .before .provided-within .ensures) ∙ not-false _ (c .if2 .left)
 
 returns : tie.Need-returns
@@ -44,11 +45,4 @@ returns-4 c =
 pub provided-number-spec : {M : Type 1} → statement M
 provided-number-spec =
     tie.close
-    (tie.spec
-    (λ c κs. search needs)
-    returns
-    (λ c κs. search needs)
-    returns-2
-    (λ c κs. search needs)
-    returns-3
-    returns-4)
+    (tie.spec (λ c κs. search needs) returns (λ c κs. search needs) returns-2 (λ c κs. search needs) returns-3 returns-4)

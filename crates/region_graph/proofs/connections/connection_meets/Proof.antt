@@ -49,19 +49,5 @@ returns-8 c = rw (c .before .before .before .before .test4 .given .1, ne-eqb _ _
 pub connection-meets-spec : {M : Type 1} → statement M
 connection-meets-spec =
     tie.close
-    (tie.spec
-    (λ c. search needs)
-    returns
-    (λ c. search needs)
-    returns-2
-    (λ c. search needs)
-    array-share-prefix-items
-    slice-aggregate-has-number
-    (λ c κs. search needs)
-    returns-3
-    (λ c. search needs)
-    returns-4
-    returns-5
-    returns-6
-    returns-7
-    returns-8)
+    (tie.spec (λ c. search needs) returns (λ c. search needs) returns-2 (λ c. search needs) array-share-prefix-items slice-aggregate-has-number
+    (λ c κs. search needs) returns-3 (λ c. search needs) returns-4 returns-5 returns-6 returns-7 returns-8)

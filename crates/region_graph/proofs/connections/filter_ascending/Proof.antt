@@ -4,7 +4,9 @@ use Rattle.region_graph.proofs.connections.filter_ascending.Statement.{
 use Rattle.region_graph.proofs.connections.filter_ascending.Tie as tie
 
 returns : tie.Need-returns
-returns c = rw (sym (c .before .before .before .before .ascending .ensures) ∙ c .before .before .before .if1 .taken, sym (c .before .before .part-ascending .ensures) ∙ c .before .if2 .taken) (c .part-ascending2 .ensures)
+returns c =
+    let a = c .before .before .before in
+    rw (sym (a .before .ascending .ensures) ∙ a .if1 .taken, sym (c .before .before .part-ascending .ensures) ∙ c .before .if2 .taken) (c .part-ascending2 .ensures)
 
 returns-2 : tie.Need-returns-2
 returns-2 c = rw (sym (c .before .before .before .ascending .ensures) ∙ c .before .before .if1 .taken, sym (c .before .part-ascending .ensures) ∙ c .if2 .left)
@@ -15,10 +17,4 @@ returns-3 c = rw (sym (c .before .ascending .ensures) ∙ c .if1 .left)
 pub filter-ascending-spec : {M : Type 1} → statement M
 filter-ascending-spec =
     tie.close
-    (tie.spec
-    (λ c κs. search needs)
-    (λ c κs. search needs)
-    (λ c κs. search needs)
-    returns
-    returns-2
-    returns-3)
+    (tie.spec (λ c κs. search needs) (λ c κs. search needs) (λ c κs. search needs) returns returns-2 returns-3)

@@ -1,11 +1,10 @@
-use mathlib.Core.Logic.{⊎-elim}
 use Prim.Native.Nat.{_-_}
 use native.Mathlib.Omega.{arith}
 use borrow.Author.Needs.{needs}
 use Rattle.region_graph.specs.Size.{most-bundles}
 use Rattle.region_graph.specs.Sets.{members}
 use Rattle.region_graph.proofs.Storing.{no-bundles, filled-bundles}
-use Rattle.region_graph.proofs.FlatLoops.{bundle-rows, Taken, taken-none, taken-more, taken-end, stuck-low, stuck-bad}
+use Rattle.region_graph.proofs.FlatLoops.{bundle-rows, ended, Taken, taken-none, taken-more, taken-end, stuck-low, stuck-bad}
 use Rattle.region_graph.proofs.flat.bundle_list.Statement.{statement}
 use Rattle.region_graph.proofs.flat.bundle_list.Tie as tie
 
@@ -31,33 +30,13 @@ returns c =
     let k = bundle-rows (members (c .before .before .before .before .before .args .regions)) in
     let t = c .before .loop .inv in
     taken-end k t
-    (⊎-elim (λ w y g h room low few. omega arith)
-    (⊎-elim (λ w y g h room low few. omega arith)
-    (⊎-elim (λ w. stuck-bad k t (w .3 .ensures) (w .5 .taken))
-    (λ w. stuck-low k t (w .3 .ensures) (w .8 .taken) (w .5 .left))))
-    (c .loop-test .came))
+    (ended (λ w y g h room low few. omega arith) (λ w y g h room low few. omega arith) (λ w. stuck-bad k t (w .3 .ensures) (w .5 .taken))
+    (λ w. stuck-low k t (w .3 .ensures) (w .8 .taken) (w .5 .left)) (c .loop-test .came))
     (λ xs h. filled-bundles h)
 
 pub bundle-list-spec : {M : Type 1} → statement M
 bundle-list-spec =
     tie.close
-    (tie.spec
-    Inv-loop
-    μ-loop
-    (λ c κs. search needs)
-    loop-holds
-    (λ c. search needs)
-    (λ c. search needs)
-    (λ c. search needs)
-    (λ c. search needs)
-    (λ c. search needs)
-    (λ c. search needs)
-    (λ c κs. search needs)
-    (λ c. search needs)
-    (λ c. search needs)
-    (λ c. search needs)
-    (λ c. search needs)
-    (λ c. search needs)
-    (λ c. search needs)
-    loop-again
-    returns)
+    (tie.spec Inv-loop μ-loop (λ c κs. search needs) loop-holds (λ c. search needs) (λ c. search needs) (λ c. search needs) (λ c. search needs)
+    (λ c. search needs) (λ c. search needs) (λ c κs. search needs) (λ c. search needs) (λ c. search needs) (λ c. search needs) (λ c. search needs)
+    (λ c. search needs) (λ c. search needs) loop-again returns)

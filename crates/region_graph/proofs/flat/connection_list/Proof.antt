@@ -1,4 +1,3 @@
-use mathlib.Core.Logic.{⊎-elim}
 use Prim.Native.Nat.{ℕ, _-_}
 use native.Mathlib.Omega.{arith}
 use borrow.Author.Needs.{needs}
@@ -8,7 +7,7 @@ use Rattle.region_graph.specs.Sets.{members}
 use Rattle.region_graph.specs.declared.connections.StoredConnection.{StoredConnection}
 use Rattle.region_graph.proofs.Storing.{no-connections, filled-connections}
 use Rattle.region_graph.proofs.FlatLaws.{members-small}
-use Rattle.region_graph.proofs.FlatLoops.{Rows, connection-rows, Taken, taken-none, taken-more, taken-end, stuck-low, stuck-bad}
+use Rattle.region_graph.proofs.FlatLoops.{Rows, connection-rows, ended, Taken, taken-none, taken-more, taken-end, stuck-low, stuck-bad}
 use Rattle.region_graph.proofs.flat.connection_list.Statement.{statement}
 use Rattle.region_graph.proofs.flat.connection_list.Tie as tie
 
@@ -37,36 +36,13 @@ returns c =
     let k = rows-in (c .before .before .before .before .before .args .regions) in
     let t = c .before .loop .inv in
     taken-end k t
-    (⊎-elim (λ w y g h room low few. omega arith)
-    (⊎-elim (λ w y g h room low few. omega arith)
-    (⊎-elim (λ w. stuck-bad k t (w .3 .ensures) (w .5 .taken))
-    (λ w. stuck-low k t (w .3 .ensures) (w .9 .taken) (w .5 .left))))
-    (c .loop-test .came))
+    (ended (λ w y g h room low few. omega arith) (λ w y g h room low few. omega arith) (λ w. stuck-bad k t (w .3 .ensures) (w .5 .taken))
+    (λ w. stuck-low k t (w .3 .ensures) (w .9 .taken) (w .5 .left)) (c .loop-test .came))
     (λ xs h. filled-connections h)
 
 pub connection-list-spec : {M : Type 1} → statement M
 connection-list-spec =
     tie.close
-    (tie.spec
-    Inv-loop
-    μ-loop
-    (λ c κs. search needs)
-    loop-holds
-    (λ c. search needs)
-    (λ c. search needs)
-    (λ c. search needs)
-    (λ c. search needs)
-    (λ c. search needs)
-    (λ c. search needs)
-    (λ c κs. search needs)
-    (λ c. search needs)
-    (λ c. search needs)
-    (λ c. search needs)
-    (λ c. search needs)
-    (λ c. search needs)
-    (λ c. search needs)
-    (λ c. search needs)
-    (λ c. search needs)
-    (λ c. search needs)
-    loop-again
-    returns)
+    (tie.spec Inv-loop μ-loop (λ c κs. search needs) loop-holds (λ c. search needs) (λ c. search needs) (λ c. search needs) (λ c. search needs)
+    (λ c. search needs) (λ c. search needs) (λ c κs. search needs) (λ c. search needs) (λ c. search needs) (λ c. search needs) (λ c. search needs)
+    (λ c. search needs) (λ c. search needs) (λ c. search needs) (λ c. search needs) (λ c. search needs) loop-again returns)

@@ -18,16 +18,5 @@ loop-again c = putting-next (c .before .before .loop .inv) 0 (omega arith)
 pub put-numbers-spec : {M : Type 1} → statement M
 put-numbers-spec =
     tie.close
-    (tie.spec
-    Inv-loop
-    μ-loop
-    (λ c. putting-none (c .pre))
-    (λ c. search needs)
-    (λ c. search needs)
-    (λ c. search needs)
-    (λ c. search needs)
-    (λ c. search needs)
-    (λ c. search needs)
-    loop-again
-    (λ c. c .before .loop .inv .long)
-    (λ c. putting-end (c .before .loop .inv) (omega arith)))
+    (tie.spec Inv-loop μ-loop (λ c. putting-none (c .pre)) (λ c. search needs) (λ c. search needs) (λ c. search needs) (λ c. search needs)
+    (λ c. search needs) (λ c. search needs) loop-again (λ c. c .before .loop .inv .long) (λ c. putting-end (c .before .loop .inv) (omega arith)))

@@ -25,14 +25,10 @@ returns-3 c = rw (c .before .before .before .match .keys3) (c .has-number2 .ensu
 pub bundle-provides-spec : {M : Type 1} → statement M
 bundle-provides-spec =
     tie.close
-    (tie.spec
-    (λ c. let s = c .before .before in filled-within (provided-filled (s .args .b .packages) (packages-stored (s .args .b) (s .pre))))
+    (tie.spec (λ c. let s = c .before .before in filled-within (provided-filled (s .args .b .packages) (packages-stored (s .args .b) (s .pre))))
     (λ c. let s = c .before .before .before in filled-part (provided-filled (s .args .b .packages) (packages-stored (s .args .b) (s .pre))))
     (λ c κs. search needs)
     (λ c. let s = c .before .before in filled-within (provided-filled (s .args .b .services) (services-stored (s .args .b) (s .pre))))
     (λ c. let s = c .before .before .before in filled-part (provided-filled (s .args .b .services) (services-stored (s .args .b) (s .pre))))
-    (λ c κs. search needs)
-    returns
-    returns-2
-    returns-3
+    (λ c κs. search needs) returns returns-2 returns-3
     (λ c. rw (provided-none _ _ (c .match .rest .0 .0 .1) (c .match .rest .0 .1) (c .match .rest .1))))

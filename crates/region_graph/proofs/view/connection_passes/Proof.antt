@@ -19,13 +19,8 @@ returns c = rw (c .before .before .before .match .keys1) (c .has-number .ensures
 pub connection-passes-spec : {M : Type 1} → statement M
 connection-passes-spec =
     tie.close
-    (tie.spec
-    array-share-prefix-items
-    slice-aggregate-has-number
-    (λ c κs. search needs)
+    (tie.spec array-share-prefix-items slice-aggregate-has-number (λ c κs. search needs)
     (λ c κs. package-part-stored (c .before .before .args .c) (c .before .before .pre))
-    (λ c κs. service-part-stored (c .before .before .args .c) (c .before .before .pre))
-    returns
-    (λ c. rw (c .before .before .match .keys2) (c .part-passes .ensures))
-    (λ c. rw (c .before .before .match .keys3) (c .part-passes2 .ensures))
+    (λ c κs. service-part-stored (c .before .before .args .c) (c .before .before .pre)) returns
+    (λ c. rw (c .before .before .match .keys2) (c .part-passes .ensures)) (λ c. rw (c .before .before .match .keys3) (c .part-passes2 .ensures))
     (λ c. rw (part-none _ _ (c .match .rest .0 .0 .1) (c .match .rest .0 .1) (c .match .rest .1))))

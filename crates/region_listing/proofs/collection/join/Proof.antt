@@ -75,21 +75,6 @@ returns c =
 pub join-spec : {M : Type 1} → statement M
 join-spec =
     tie.close
-    (tie.spec
-    Inv-loop
-    μ-loop
-    loop-holds
-    (λ c. search needs)
-    (λ c. search needs)
-    (λ c. search needs)
-    array-share-prefix-items
-    slice-aggregate-has-number
-    (λ c κs. search needs)
-    mul-items
-    array-write-items
-    add-n
-    (λ c. search needs)
-    loop-again
-    (λ c. search needs)
-    loop-again-2
-    returns)
+    (tie.spec Inv-loop μ-loop loop-holds (λ c. search needs) (λ c. search needs) (λ c. search needs) array-share-prefix-items
+    slice-aggregate-has-number (λ c κs. search needs) mul-items array-write-items add-n (λ c. search needs) loop-again (λ c. search needs)
+    loop-again-2 returns)

@@ -17,8 +17,8 @@ turn : (c : tie.After-difference Inv-loop μ-loop)
     → Taken (c .before .before .before .before .loop .left) (c .before .before .lowest .result) (c .difference .result)
 turn c =
     let a = c .before .before .before .before .loop .inv .1 in
-    taken (a .inside) (a .word) (above-none _ (c .before .before .before .loop-test .taken)) (c .before .before .lowest .ensures) (c .before .singleton .ensures)
-    (c .difference .ensures)
+    taken (a .inside) (a .word) (above-none _ (c .before .before .before .loop-test .taken)) (c .before .before .lowest .ensures)
+    (c .before .singleton .ensures) (c .difference .ensures)
 
 loop-holds : tie.Need-loop-holds Inv-loop μ-loop
 loop-holds c = (c .pre .0, adding-start (c .pre .0) (search needs) (c .pre .1))
@@ -53,19 +53,5 @@ returns c = adding-end (c .loop-test .left) (c .before .loop .inv .1)
 pub count-members-spec : {M : Type 1} → statement M
 count-members-spec =
     tie.close
-    (tie.spec
-    Inv-loop
-    μ-loop
-    loop-holds
-    (λ c κs. tt)
-    (λ c κs. tt)
-    (λ c κs. tt)
-    cast-at
-    mul-next
-    array-read-next
-    add-next
-    mul-next-2
-    array-write-next
-    loop-less
-    loop-again
-    returns)
+    (tie.spec Inv-loop μ-loop loop-holds (λ c κs. tt) (λ c κs. tt) (λ c κs. tt) cast-at mul-next array-read-next add-next mul-next-2 array-write-next
+    loop-less loop-again returns)

@@ -95,29 +95,7 @@ returns c =
 pub put-listing-spec : {M : Type 1} → statement M
 put-listing-spec =
     tie.close
-    (tie.spec
-    Inv-loop
-    μ-loop
-    (λ c κs. search needs)
-    (λ c κs. search needs)
-    (λ c κs. search needs)
-    (λ c κs. search needs)
-    (λ c κs. search needs)
-    (λ c. search needs)
-    (λ c κs. search needs)
-    loop-holds
-    (λ c. search needs)
-    array-copy-out-b
-    (λ c. search needs)
-    (λ c. search needs)
-    array-read-put-row
-    (λ c. search needs)
-    array-read-put-row-2
-    (λ c. search needs)
-    array-read-put-row-3
-    put-row-requires
-    (λ c. search needs)
-    (λ c. search needs)
-    loop-again
-    same-length
-    returns)
+    (tie.spec Inv-loop μ-loop (λ c κs. search needs) (λ c κs. search needs) (λ c κs. search needs) (λ c κs. search needs) (λ c κs. search needs)
+    (λ c. search needs) (λ c κs. search needs) loop-holds (λ c. search needs) array-copy-out-b (λ c. search needs) (λ c. search needs)
+    array-read-put-row (λ c. search needs) array-read-put-row-2 (λ c. search needs) array-read-put-row-3 put-row-requires (λ c. search needs)
+    (λ c. search needs) loop-again same-length returns)

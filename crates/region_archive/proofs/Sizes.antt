@@ -12,11 +12,12 @@ use Rattle.region_graph.specs.Model.{Model, Part}
 use Rattle.region_graph.specs.Record.{Valid, meaning, numbers-of, part-in, no-bundle, no-connection}
 use Rattle.region_graph.specs.declared.Graph.{Graph}
 use Rattle.region_graph.specs.declared.numbers.Numbers.{Numbers}
+use Rattle.region_graph.proofs.Lists.{concat-length, concat-next, concat-within}
 use Rattle.region_archive.specs.Bytes.{big, counted}
 use Rattle.region_archive.specs.RecordFields.{NumbersFit, first-width, field-count, record-bytes, elements}
 use Rattle.region_archive.specs.declared.record_fields.Section.{Section}
 use Rattle.region_archive.specs.declared.record_fields.Section.the-variants as Section
-use Rattle.region_archive.proofs.Pieces.{big-length, concat-length, concat-next, concat-within}
+use Rattle.region_archive.proofs.Pieces.{big-length}
 use Rattle.region_archive.proofs.Placed.{element-at}
 
 -- the count of a list that fits is its length

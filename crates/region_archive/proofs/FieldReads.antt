@@ -5,15 +5,15 @@ use mathlib.Core.List.{List, [], _∷_, _++_, append-nil}
 use Prim.Native.Nat.{ℕ, zero, suc, _+_, _-_, _*_, _^_, _≤_, _<_}
 use native.Mathlib.Nat.{mul-le-mul-right, suc-mul}
 use native.Mathlib.Omega.{arith}
-use lib.ListN.{length, take, drop, getD, set, length-set}
-use lib.Seq.{drop-length, getD-set-same, getD-set-other}
+use lib.ListN.{length, take, drop, getD, set, length-set, List·getD-append}
+use lib.Seq.{length-take-le, drop-length, drop-drop, drop-at, getD-take, getD-append-add, getD-set-same, getD-set-other}
 use borrow.Rule.Slice.PartMut.{putMid, post-is}
 use Rattle.region_graph.specs.Model.{Part}
 use Rattle.region_graph.specs.Flat.{Fields, FlatPart}
 use Rattle.region_graph.proofs.Lists.{false-true}
 use Rattle.region_archive.specs.Bytes.{big}
 use Rattle.region_archive.specs.Image.{part-bytes}
-use Rattle.region_archive.specs.Parsing.{Parsed, Unparsed, AnswerInto}
+use Rattle.region_archive.specs.Parsing.{Parsed, Unparsed, ParsedInto}
 use Rattle.region_archive.specs.RecordFields.{SameTo, GoodTo, part-at, first-width, field-count, most-in, row-width, part-open, PartGood, first-good, second-good, FieldGood, field-bytes, FieldSame, FlatField}
 use Rattle.region_archive.specs.Sections.{PartRead, FieldRead}
 use Rattle.region_archive.specs.declared.record_fields.Section.{Section}
@@ -21,65 +21,76 @@ use Rattle.region_archive.specs.declared.record_fields.Section.the-varia
 use Rattle.region_archive.specs.declared.sections.FieldAt.{FieldAt}
 use Rattle.region_archive.proofs.Delimits.{big-same}
 
--- the first number
-module _ (s : Section) (rs : List ℕ) (floor : ℕ) (bytes : List ℕ) (at : ℕ) (old : List ℕ) {w : ℕ} (f : w ≡ first-width s) where
-  abbrev First : Fields → Fields → Type 0
-  First x y = SameTo FieldSame 0 x y × FieldGood s rs floor 0 y
+-- the two numbers
+module _ {s : Section} {rs : List ℕ} {floor : ℕ} {bytes : List ℕ} {at : ℕ} {old : List ℕ} where
+  -- the first number
+  module _ {w : ℕ} (f : w ≡ first-width s) where
+    pub first-missing : Unparsed (λ m. m < 256 ^ w) (big w) bytes at → {next : ℕ} → FieldRead s rs floor 0 bytes at old old (record { ok = false; next = next })
+    first-missing u = record {
+      size = refl;
+      answer = λ x g h. record { found = λ e. false-true e; missing = λ _ y r k e. none y r (k .1 .0) e };
+    }
+      where
+        none : (y : Fields) (r : List ℕ) → y .first < 256 ^ first-width s → drop at bytes ≡ big (first-width s) (y .first) ++ r → ⊥
+        none y r = subst (λ (v : ℕ). y .first < 256 ^ v → drop at bytes ≡ big v (y .first) ++ r → ⊥) f (u (y .first) r)
 
-  pub first-missing : Unparsed (λ m. m < 256 ^ w) (big w) bytes at → FieldRead s rs floor 0 bytes at old old (record { ok = false; next = at })
-  first-missing u = record {
+    pub first-read : {n next : ℕ} → Parsed (λ m. m < 256 ^ w) (big w) bytes at n next → 1 ≤ length old → {b : Bool} → b ≡ first-good s rs floor n
+        → FieldRead s rs floor 0 bytes at old (set old 0 n) (record { ok = b; next = next })
+    first-read {n} {next} q h {b} e =
+        record {
+          size = length-set old 0 n;
+          answer = λ x g k.
+              record {
+                found = λ y.
+                    record {
+                      value = record { first = n; second = x .second; parts = x .parts };
+                      parsed = record { is-good = (tt, (p .is-good, sym e ∙ y)); shape = p .shape; ends = p .ends; room = p .room };
+                      put = (tt, getD-set-same old 0 n 0 (omega arith));
+                    };
+                missing = λ y. other (sym y ∙ e) x;
+              };
+        }
+      where
+        p : Parsed (λ m. m < 256 ^ first-width s) (big (first-width s)) bytes at n next
+        p = subst (λ (v : ℕ). Parsed (λ m. m < 256 ^ v) (big v) bytes at n next) f q
+
+        other : false ≡ first-good s rs floor n → (x y : Fields) (r : List ℕ) → SameTo FieldSame 0 x y × FieldGood s rs floor 0 y
+            → drop at bytes ≡ big (first-width s) (y .first) ++ r → ⊥
+        other e x y r k i =
+            let d = big-same (first-width s) n (y .first) (drop next bytes) r (p .is-good) (k .1 .0) (sym (p .shape) ∙ i) in
+            false-true (e ∙ ap (first-good s rs floor) (d .0) ∙ k .1 .1)
+
+  -- the second number
+  pub second-missing : Unparsed (λ m. m < 256 ^ 1) (big 1) bytes at → {next : ℕ} → FieldRead s rs floor 1 bytes at old old (record { ok = false; next = next })
+  second-missing u = record {
     size = refl;
-    answer = λ x g h y r k e.
-        u (y .first) r (subst (λ (n : ℕ). y .first < 256 ^ n) (sym f) (k .1 .0)) (e ∙ ap (λ (n : ℕ). big n (y .first) ++ r) (sym f));
+    answer = λ x g h. record { found = λ e. false-true e; missing = λ _ y r k e. u (y .second) r (k .1 .0) e };
   }
 
-  pub first-read : {n next : ℕ} → Parsed (λ m. m < 256 ^ w) (big w) bytes at n next → 1 ≤ length old → {b : Bool} → b ≡ first-good s rs floor n
-      → FieldRead s rs floor 0 bytes at old (set old 0 n) (record { ok = b; next = next })
-  first-read {n} {next} q h {b} e = record { size = length-set old 0 n; answer = λ x g k. by x b e }
-    where
-      p : Parsed (λ m. m < 256 ^ first-width s) (big (first-width s)) bytes at n next
-      p = subst (λ (v : ℕ). Parsed (λ m. m < 256 ^ v) (big v) bytes at n next) f q
-
-      other : false ≡ first-good s rs floor n → (x y : Fields) (r : List ℕ) → First x y → drop at bytes ≡ big (first-width s) (y .first) ++ r → ⊥
-      other e x y r k i =
-          let d = big-same (first-width s) n (y .first) (drop next bytes) r (p .is-good) (k .1 .0) (sym (p .shape) ∙ i) in
-          false-true (e ∙ ap (first-good s rs floor) (d .0) ∙ k .1 .1)
-
-      by : (x : Fields) (b : Bool) → b ≡ first-good s rs floor n
-          → AnswerInto (First x) (field-bytes s 0) bytes at b (GoodTo (FlatField (most-in s) (set old 0 n)) 1) next
-      by x true e = record {
-        value = record { first = n; second = x .second; parts = x .parts };
-        parsed = record { is-good = (tt, (p .is-good, sym e)); shape = p .shape; ends = p .ends; room = p .room };
-        put = (tt, getD-set-same old 0 n 0 (omega arith));
+  pub second-read : {n next : ℕ} → Parsed (λ m. m < 256 ^ 1) (big 1) bytes at n next → 2 ≤ length old → {b : Bool}
+      → b ≡ second-good s rs floor (getD old 0 0) n → FieldRead s rs floor 1 bytes at old (set old 1 n) (record { ok = b; next = next })
+  second-read {n} {next} p h {b} f =
+      record {
+        size = length-set old 1 n;
+        answer = λ x g k.
+            let e : b ≡ second-good s rs floor (x .first) n = f ∙ ap (λ (a : ℕ). second-good s rs floor a n) (k .1) in
+            record {
+              found = λ y.
+                  record {
+                    value = record { first = x .first; second = n; parts = x .parts };
+                    parsed = record { is-good = ((tt, refl), (p .is-good, sym e ∙ y)); shape = p .shape; ends = p .ends; room = p .room };
+                    put = ((tt, getD-set-other old 1 0 n 0 (λ e. omega arith) ∙ k .1), getD-set-same old 1 n 0 (omega arith));
+                  };
+              missing = λ y. other x (sym y ∙ e);
+            };
       }
-      by x false e = other e x
-
--- the second number
-module _ (s : Section) (rs : List ℕ) (floor : ℕ) (bytes : List ℕ) (at : ℕ) (old : List ℕ) where
-  abbrev Second : Fields → Fields → Type 0
-  Second x y = SameTo FieldSame 1 x y × FieldGood s rs floor 1 y
-
-  pub second-missing : Unparsed (λ m. m < 256 ^ 1) (big 1) bytes at → FieldRead s rs floor 1 bytes at old old (record { ok = false; next = at })
-  second-missing u = record { size = refl; answer = λ x g h y r k e. u (y .second) r (k .1 .0) e }
-
-  pub second-read : {n next : ℕ} → Parsed (λ m. m < 256 ^ 1) (big 1) bytes at n next → 2 ≤ length old → {b : Bool} → b ≡ second-good s rs floor (getD old 0 0) n
-      → FieldRead s rs floor 1 bytes at old (set old 1 n) (record { ok = b; next = next })
-  second-read {n} {next} p h {b} e =
-      record { size = length-set old 1 n; answer = λ x g k. by x (k .1) b (e ∙ ap (λ (a : ℕ). second-good s rs floor a n) (k .1)) }
     where
-      other : (x : Fields) → false ≡ second-good s rs floor (x .first) n → (y : Fields) (r : List ℕ) → Second x y → drop at bytes ≡ big 1 (y .second) ++ r → ⊥
+      other : (x : Fields) → false ≡ second-good s rs floor (x .first) n → (y : Fields) (r : List ℕ)
+          → SameTo FieldSame 1 x y × FieldGood s rs floor 1 y
+          → drop at bytes ≡ big 1 (y .second) ++ r → ⊥
       other x e y r k i =
           let d = big-same 1 n (y .second) (drop next bytes) r (p .is-good) (k .1 .0) (sym (p .shape) ∙ i) in
           false-true (e ∙ (λ j. second-good s rs floor (k .0 .1 j) (d .0 j)) ∙ k .1 .1)
-
-      by : (x : Fields) → getD old 0 0 ≡ x .first → (b : Bool) → b ≡ second-good s rs floor (x .first) n
-          → AnswerInto (Second x) (field-bytes s 1) bytes at b (GoodTo (FlatField (most-in s) (set old 1 n)) 2) next
-      by x k true e = record {
-        value = record { first = x .first; second = n; parts = x .parts };
-        parsed = record { is-good = ((tt, refl), (p .is-good, sym e)); shape = p .shape; ends = p .ends; room = p .room };
-        put = ((tt, getD-set-other old 1 0 n 0 (λ e. omega arith) ∙ k), getD-set-same old 1 n 0 (omega arith));
-      }
-      by x k false e = other x e
 
 -- a row whose places from some place on are new
 
@@ -94,23 +105,17 @@ front (suc i) n (suc place) [] ys h k = absurd (omega arith)
 front (suc i) n (suc place) (x ∷ xs) ys h k = front i n place xs ys (omega arith) (omega arith)
 
 front-at : (i place : ℕ) (xs ys : List ℕ) → i < place → place ≤ length xs → getD (take place xs ++ ys) i 0 ≡ getD xs i 0
-front-at i zero xs ys h k = absurd (omega arith)
-front-at i (suc place) [] ys h k = absurd (omega arith)
-front-at zero (suc place) (x ∷ xs) ys h k = refl
-front-at (suc i) (suc place) (x ∷ xs) ys h k = front-at i place xs ys (omega arith) (omega arith)
+front-at i place xs ys h k =
+    List·getD-append (take place xs) ys 0 i (omega (arith, length-take-le place xs k)) ∙ getD-take place xs i 0 h
 
 -- and those from it on are the new ones
 back : (place : ℕ) (xs ys : List ℕ) → place ≤ length xs → drop (place + 1) (take place xs ++ ys) ≡ drop 1 ys
-back zero xs ys h = refl
-back (suc place) [] ys h = absurd (omega arith)
-back (suc place) (x ∷ xs) ys h =
-    let e : suc place + 1 ≡ suc (place + 1) = omega arith in
-    ap (λ (n : ℕ). drop n (x ∷ (take place xs ++ ys))) e ∙ back place xs ys (omega arith)
+back place xs ys h = sym (drop-drop 1 place (take place xs ++ ys)) ∙ ap (drop 1) (drop-at (take place xs) ys place (length-take-le place xs h))
 
 back-at : (place : ℕ) (xs ys : List ℕ) → place ≤ length xs → getD (take place xs ++ ys) place 0 ≡ getD ys 0 0
-back-at zero xs ys h = refl
-back-at (suc place) [] ys h = absurd (omega arith)
-back-at (suc place) (x ∷ xs) ys h = back-at place xs ys (omega arith)
+back-at place xs ys h =
+    let e : place ≡ length (take place xs) + 0 = omega (arith, length-take-le place xs h) in
+    ap (λ (n : ℕ). getD (take place xs ++ ys) n 0) e ∙ getD-append-add (take place xs) ys 0 0
 
 -- a part at other places
 part-moves : (xs ys : List ℕ) (i j most : ℕ) → getD ys j 0 ≡ getD xs i 0 → ((n : ℕ) → n ≤ most → take n (drop (j + 1) ys) ≡ take n (drop (i + 1) xs))
@@ -144,12 +149,9 @@ abbrev with-part : Fields → ℕ → Part → Fields
 with-part x j p = record { first = x .first; second = x .second; parts = put-part (x .parts) j p }
 
 -- a part, the j-th
-module _ (s : Section) (rs : List ℕ) (floor : ℕ) (bytes : List ℕ) (at : ℕ) (old sub : List ℕ) (j : ℕ) where
+module _ (s : Section) (rs : List ℕ) (floor : ℕ) (old sub : List ℕ) (j : ℕ) where
   abbrev place : ℕ → ℕ
   place i = 2 + i * (most-in s + 1)
-
-  abbrev Nth : Fields → Fields → Type 0
-  Nth x y = SameTo FieldSame (suc (suc j)) x y × FieldGood s rs floor (suc (suc j)) y
 
   same-with : (x : Fields) (p : Part) (i : ℕ) → i ≤ j → SameTo FieldSame (suc (suc i)) x (with-part x j p)
   same-with x p zero h = ((tt, refl), refl)
@@ -159,9 +161,10 @@ module _ (s : Section) (rs : List ℕ) (floor : ℕ) (bytes : List ℕ) (at : �
     abbrev new : List ℕ
     new = take (place j) old ++ sub
 
-    flat-with : (x : Fields) (p : Part) (i : ℕ) → i ≤ j → GoodTo (FieldGood s rs floor) (suc (suc i)) x → GoodTo (FlatField (most-in s) old) (suc (suc i)) x
-        → GoodTo (FlatField (most-in s) new) (suc (suc i)) (with-part x j p)
-    flat-with x p zero h g k = ((tt, front-at 0 (place j) old sub (omega arith) room ∙ k .0 .1), front-at 1 (place j) old sub (omega arith) room ∙ k .1)
+    flat-with : (x : Fields) (p : Part) (i : ℕ) → i ≤ j → GoodTo (FieldGood s rs floor) (suc (suc i)) x
+        → GoodTo (FlatField (most-in s) old) (suc (suc i)) x → GoodTo (FlatField (most-in s) new) (suc (suc i)) (with-part x j p)
+    flat-with x p zero h g k =
+        ((tt, front-at 0 (place j) old sub (omega arith) room ∙ k .0 .1), front-at 1 (place j) old sub (omega arith) room ∙ k .1)
     flat-with x p (suc i) h g k = (
       flat-with x p i (omega arith) (g .0) (k .0),
       subst (FlatPart new (place i)) (put-other (x .parts) j p i (omega arith))
@@ -175,22 +178,28 @@ module _ (s : Section) (rs : List ℕ) (floor : ℕ) (bytes : List ℕ) (at : �
         next : place i + (most-in s + 1) ≤ place j
         next = omega (arith, mul-le-mul-right (most-in s + 1) up, suc-mul i (most-in s + 1))
 
-    pub part-read : {all : Bool} → all ≡ part-open s (suc (suc j)) → {r : FieldAt} → {lent : List ℕ} → PartRead (most-in s) all bytes at lent sub r
+    part-read : {bytes : List ℕ} {at : ℕ} {r : FieldAt} {lent : List ℕ} → PartRead (most-in s) (part-open s (suc (suc j))) bytes at lent sub r
         → length new ≡ length old → FieldRead s rs floor (suc (suc j)) bytes at old new r
-    part-read {all} a {r} {lent} q size = record { size = size; answer = λ x g k. by x g k (r .ok) (r .next) (subst (λ (b : Bool). AnswerInto (PartGood (most-in s) b) (part-bytes (big 4)) bytes at (r .ok) (FlatPart sub 0) (r .next)) a (q .answer)) }
+    part-read {bytes} {at} {r} q size = record {
+      size = size;
+      answer = λ x g k.
+          record { found = λ y. stands x g k (q .answer .found y); missing = λ y z t h e. q .answer .missing y (part-at z j) t (h .1) e };
+    }
       where
-        by : (x : Fields) → GoodTo (FieldGood s rs floor) (suc (suc j)) x → GoodTo (FlatField (most-in s) old) (suc (suc j)) x → (ok : Bool) (next : ℕ)
-            → AnswerInto (PartGood (most-in s) (part-open s (suc (suc j)))) (part-bytes (big 4)) bytes at ok (FlatPart sub 0) next
-            → AnswerInto (Nth x) (field-bytes s (suc (suc j))) bytes at ok (GoodTo (FlatField (most-in s) new) (suc (suc (suc j)))) next
-        by x g k true next v =
+        stands : (x : Fields) → GoodTo (FieldGood s rs floor) (suc (suc j)) x → GoodTo (FlatField (most-in s) old) (suc (suc j)) x
+            → ParsedInto (PartGood (most-in s) (part-open s (suc (suc j)))) (part-bytes (big 4)) bytes at (FlatPart sub 0) (r .next)
+            → ParsedInto (λ y. SameTo FieldSame (suc (suc j)) x y × FieldGood s rs floor (suc (suc j)) y) (field-bytes s (suc (suc j))) bytes at
+            (GoodTo (FlatField (most-in s) new) (suc (suc (suc j)))) (r .next)
+        stands x g k v =
             let p = v .value in
+            let good = v .parsed .is-good in
             let e : getD (put-part (x .parts) j p) j (Part.listed []) ≡ p = put-same (x .parts) j p in
             record {
               value = with-part x j p;
               parsed =
                   record {
-                    is-good = (same-with x p j (omega arith), subst (PartGood (most-in s) (part-open s (suc (suc j)))) (sym e) (v .parsed .is-good));
-                    shape = v .parsed .shape ∙ ap (λ (t : Part). part-bytes (big 4) t ++ drop next bytes) (sym e);
+                    is-good = (same-with x p j (omega arith), subst (PartGood (most-in s) (part-open s (suc (suc j)))) (sym e) good);
+                    shape = v .parsed .shape ∙ ap (λ (t : Part). part-bytes (big 4) t ++ drop (r .next) bytes) (sym e);
                     ends = v .parsed .ends ∙ ap (λ (t : Part). at + length (part-bytes (big 4) t)) (sym e);
                     room = v .parsed .room;
                   };
@@ -198,43 +207,43 @@ module _ (s : Section) (rs : List ℕ) (floor : ℕ) (bytes : List ℕ) (at : �
                 flat-with x p j (omega arith) g k,
                 subst (FlatPart new (place j)) (sym e)
                     (part-moves sub new 0 (place j) (most-in s) (back-at (place j) old sub room) (λ n l. ap (take n) (back (place j) old sub room))
-                    (part-open s (suc (suc j))) p (v .parsed .is-good) (v .put)),
+                    (part-open s (suc (suc j))) p good (v .put)),
               );
             }
-        by x g k false next u = λ y r h e. u (part-at y j) r (h .1) e
 
 -- the place of a part is within the row
+abbrev pub part-place : ℕ → ℕ → ℕ
+part-place m k = 2 + (k - 2) * (m + 1)
+
 pub place-room : (s : Section) {m : ℕ} → m ≡ most-in s → (k : ℕ) → 2 ≤ k → k < field-count s
-    → ((2 + (k - 2) * (m + 1)) + (m + 1) ≤ row-width s) × ((2 + (k - 2) * (m + 1)) + (m + 1) ≤ 53)
-place-room s e k h l = subst (λ (m : ℕ). ((2 + (k - 2) * (m + 1)) + (m + 1) ≤ row-width s) × ((2 + (k - 2) * (m + 1)) + (m + 1) ≤ 53)) (sym e) (by s l)
+    → (part-place m k + (m + 1) ≤ row-width s) × (part-place m k + (m + 1) ≤ 53)
+place-room s e k h l = subst (λ (m : ℕ). (part-place m k + (m + 1) ≤ row-width s) × (part-place m k + (m + 1) ≤ 53)) (sym e) (by s l)
   where
     by : (s : Section) → k < field-count s
-        → ((2 + (k - 2) * (most-in s + 1)) + (most-in s + 1) ≤ row-width s) × ((2 + (k - 2) * (most-in s + 1)) + (most-in s + 1) ≤ 53)
+        → (part-place (most-in s) k + (most-in s + 1) ≤ row-width s) × (part-place (most-in s) k + (most-in s + 1) ≤ 53)
     by Section.Bundles l = (omega arith, omega arith)
     by Section.Connections l = (omega arith, omega arith)
 
 -- a part was put to its places
-module _ (s : Section) (rs : List ℕ) (floor : ℕ) (bytes : List ℕ) (at : ℕ) (old sub : List ℕ) {m k : ℕ} (e : m ≡ most-in s) (two : 2 ≤ k) where
-  abbrev from : ℕ
-  from = 2 + (k - 2) * (m + 1)
-
-  pub part-put : from ≤ length old → {all : Bool} → all ≡ part-open s k → {lent : List ℕ} {r : FieldAt} → PartRead m all bytes at lent sub r
-      → length (putMid from (length old - from) old sub) ≡ length old → FieldRead s rs floor k bytes at old (putMid from (length old - from) old sub) r
-  part-put room {all} a {lent} {r} q size =
+module _ {s : Section} {rs : List ℕ} {floor : ℕ} {bytes : List ℕ} {at : ℕ} (old : List ℕ) {m k : ℕ} (e : m ≡ most-in s) (two : 2 ≤ k) where
+  pub part-put : part-place m k ≤ length old → {all : Bool} → all ≡ part-open s k → {lent sub : List ℕ} {r : FieldAt} → PartRead m all bytes at lent sub r
+      → length (putMid (part-place m k) (length old - part-place m k) old sub) ≡ length old
+      → FieldRead s rs floor k bytes at old (putMid (part-place m k) (length old - part-place m k) old sub) r
+  part-put room {all} a {lent} {sub} {r} q size =
       subst (λ (l : List ℕ). FieldRead s rs floor k bytes at old l r) (sym whole)
-      (subst (λ (i : ℕ). FieldRead s rs floor i bytes at old (take from old ++ sub) r) two-more
-      (subst (λ (n : ℕ). FieldRead s rs floor (suc (suc (k - 2))) bytes at old (take n old ++ sub) r) (sym here)
-      (part-read s rs floor bytes at old sub (k - 2) (subst (λ (n : ℕ). n ≤ length old) here room)
-      (a ∙ ap (part-open s) (sym two-more)) (subst (λ (n : ℕ). PartRead n all bytes at lent sub r) e q)
-      (subst (λ (n : ℕ). length (take n old ++ sub) ≡ length old) here (sym (ap length whole) ∙ size)))))
+      (subst (λ (i : ℕ). FieldRead s rs floor i bytes at old (take (part-place m k) old ++ sub) r) two-more
+      (subst (λ (n : ℕ). FieldRead s rs floor (suc (suc (k - 2))) bytes at old (take (part-place n k) old ++ sub) r) (sym e)
+      (part-read s rs floor old sub (k - 2) (subst (λ (n : ℕ). part-place n k ≤ length old) e room) (subst (λ (n : ℕ). PartRead n (part-open s (suc (suc (k - 2)))) bytes at lent sub r) e
+      (subst (λ (b : Bool). PartRead m b bytes at lent sub r) opened q))
+      (subst (λ (n : ℕ). length (take (part-place n k) old ++ sub) ≡ length old) e (sym (ap length whole) ∙ size)))))
     where
       two-more : suc (suc (k - 2)) ≡ k
       two-more = omega arith
 
-      here : from ≡ 2 + (k - 2) * (most-in s + 1)
-      here = ap (λ (n : ℕ). 2 + (k - 2) * (n + 1)) e
+      opened : all ≡ part-open s (suc (suc (k - 2)))
+      opened = a ∙ ap (part-open s) (sym two-more)
 
-      whole : putMid from (length old - from) old sub ≡ take from old ++ sub
+      whole : putMid (part-place m k) (length old - part-place m k) old sub ≡ take (part-place m k) old ++ sub
       whole =
-          ap (λ (l : List ℕ). take from old ++ (sub ++ l)) (post-is from (length old) old room ∙ drop-length old)
-          ∙ ap (λ (l : List ℕ). take from old ++ l) (append-nil sub)
+          ap (λ (l : List ℕ). take (part-place m k) old ++ (sub ++ l)) (post-is (part-place m k) (length old) old room ∙ drop-length old)
+          ∙ ap (λ (l : List ℕ). take (part-place m k) old ++ l) (append-nil sub)

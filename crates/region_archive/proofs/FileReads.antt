@@ -44,7 +44,7 @@ module _ (s : List ℕ) where
 
   module _ (h : 5 ≤ length s) {n : ℕ} (p : Parsed (λ m. m < 256 ^ 1) (big 1) s 0 n 1) where
     first-is : getD s 0 0 ≡ n
-    first-is = head-same (sym (drop-byte s 0 (omega arith)) ∙ byte-stands (λ m. m < 256 ^ 1) (λ m h. h) s 0 n 1 p)
+    first-is = head-same (sym (drop-byte s 0 (omega arith)) ∙ byte-stands (p .is-good) p)
 
     pub front-other : (n ≡ 1 → ⊥) → not-an-archive ≡ first-no (front-questions s)
     front-other u = rw (le-leb 5 (length s) h, ne-eqb (getD s 0 0) 1 (λ e. u (sym first-is ∙ e))) refl

@@ -7,6 +7,7 @@ pub mod Fits
 pub mod Placed
 pub mod Sizes
 pub mod CountedReads
+pub mod Rows
 pub mod FieldLaws
 pub mod RecordLaws
 pub mod Records

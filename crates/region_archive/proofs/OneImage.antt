@@ -7,42 +7,24 @@ use native.Mathlib.Nat.{mul-le-mul-right}
 use native.Mathlib.Omega.{arith}
 use lib.ListN.{length, drop, length-append}
 use borrow.Author.Tests.{le-leb, eq-eqb}
-use Rattle.region_graph.specs.Size.{regions, most-listed}
+use Rattle.region_graph.specs.Size.{most-listed}
 use Rattle.region_graph.specs.Refusals.{not-refused}
-use Rattle.region_graph.specs.Lists.{All}
-use Rattle.region_graph.specs.Model.{Model, Part, Sorted, NumberedPart, Legal}
+use Rattle.region_graph.specs.Model.{Model, Part, NumberedPart, Legal}
 use Rattle.region_graph.specs.Calls.{first-no}
-use Rattle.region_graph.proofs.Lists.{all-map}
+use Rattle.region_graph.proofs.Lists.{concat-length, concat-most}
 use Rattle.region_archive.specs.Bounds.{part-bound, bundle-bound, connection-bound}
 use Rattle.region_archive.specs.Bytes.{big, counted}
 use Rattle.region_archive.specs.Image.{part-bytes, body, image}
 use Rattle.region_archive.specs.File.{length-field, front-questions}
-use Rattle.region_archive.specs.Parsing.{by-key}
-use Rattle.region_archive.specs.RecordFields.{Elem, key, most-records, LegalElem, elements, record-bytes, section-bytes}
+use Rattle.region_archive.specs.RecordFields.{Elem, most-records, LegalElem, elements, record-bytes, section-bytes}
 use Rattle.region_archive.specs.declared.record_fields.Section.{Section}
 use Rattle.region_archive.specs.declared.record_fields.Section.the-variants as Section
-use Rattle.region_archive.proofs.Pieces.{big-length, concat-length, concat-most}
-use Rattle.region_archive.proofs.Delimits.{Delimits, big-same, counted-same}
-use Rattle.region_archive.proofs.RecordLaws.{element-same, open-part, part-length}
-use Rattle.region_archive.proofs.Records.{bundle-record, connection-record}
+use Rattle.region_archive.proofs.Pieces.{big-length}
+use Rattle.region_archive.proofs.Delimits.{Delimits}
+use Rattle.region_archive.proofs.RecordLaws.{open-part, part-length}
+use Rattle.region_archive.proofs.Records.{bundle-record, connection-record, legal-row}
 use Rattle.region_archive.proofs.Images.{body-size, image-size}
 use Rattle.region_archive.proofs.Readers.{reader-same, word-bytes, read-body}
-use Rattle.region_archive.proofs.Taking.{legal-rows}
-
--- the regions of a body, and the elements of a section
-abbrev pub RegionRow : List ℕ → Type 0
-RegionRow rs = Sorted (by-key (λ n. n)) (λ n. n < regions) regions rs
-
-abbrev pub SectionRow : (k : Section) → List ℕ → List (Elem k) → Type 0
-SectionRow k rs xs = Sorted (by-key (key k)) (LegalElem k rs) (most-records k) xs
-
--- bytes tell the regions
-pub regions-same : Delimits RegionRow (counted (big 1)) _≡_
-regions-same = counted-same (λ n. n < 256 ^ 1) (big 1) (big-same 1) RegionRow (λ rs r. all-map (λ n. n < regions) (λ n. n < 256 ^ 1) (λ n h. omega arith) rs (r .each))
-
--- bytes tell the elements of a section
-pub section-same : (k : Section) (rs : List ℕ) → All (λ r. r < regions) rs → Delimits (SectionRow k rs) (counted (record-bytes k)) _≡_
-section-same k rs n = counted-same (LegalElem k rs) (record-bytes k) (element-same rs n k) (SectionRow k rs) (λ xs r. r .each)
 
 -- bytes tell a legal model
 pub body-same : Delimits Legal body _≡_
@@ -75,7 +57,8 @@ record-most : (k : Section) (rs : List ℕ) (x : Elem k) → LegalElem k rs x �
 record-most Section.Bundles rs b h =
     let ps = counted (big 4) (b .packages) in
     let ss = counted (big 4) (b .services) in
-    omega (arith, ap length (bundle-record b), length-append ps ss, list-length (b .packages), list-length (b .services), h .packages .few, h .services .few)
+    let sizes = ap length (bundle-record b) in
+    omega (arith, sizes, length-append ps ss, list-length (b .packages), list-length (b .services), h .packages .few, h .services .few)
 record-most Section.Connections rs c h =
     let bs = counted (big 4) (c .filter .bundles) in
     let ps = part-bytes (big 4) (c .filter .packages) in
@@ -94,14 +77,18 @@ record-most Section.Connections rs c h =
 -- nor does a section than its records
 section-most : (k : Section) (m : Model) → Legal m → length (section-bytes k m) ≤ 1 + most-records k * record-limit k
 section-most k m h =
-    let r = legal-rows m h .1 k in
-    omega (arith, concat-most (LegalElem k (m .regions)) (record-bytes k) (record-limit k) (record-most k (m .regions)) (elements k m) (r .each), mul-le-mul-right (record-limit k) (r .few))
+    let r = legal-row k m h in
+    let sum = concat-most (LegalElem k (m .regions)) (record-bytes k) (record-limit k) (record-most k (m .regions)) (elements k m) (r .each) in
+    omega (arith, sum, mul-le-mul-right (record-limit k) (r .few))
 
 -- no image is longer than document 01 says
 pub image-bound : (m : Model) → Legal m → length (image m) ≤ 14248
-image-bound m h = omega (arith, image-size m, body-size m, legal-rows m h .0 .few, section-most Section.Bundles m h, section-most Section.Connections m h)
+image-bound m h =
+    omega (arith, image-size m, body-size m, h .regions-legal .few, section-most Section.Bundles m h, section-most Section.Connections m h)
 
 -- an image passes the questions about its front
 pub image-front : (m : Model) → Legal m → first-no (front-questions (image m)) ≡ not-refused
 unfolding image
-image-front m h = rw (le-leb 5 (length (image m)) (omega arith), eq-eqb (length-field (image m)) (length (image m) - 5) (word-bytes (length (body m)) (omega (arith, image-bound m h)) ∙ omega arith))
+image-front m h =
+    let size : length-field (image m) ≡ length (image m) - 5 = word-bytes (length (body m)) (omega (arith, image-bound m h)) ∙ omega arith in
+    rw (le-leb 5 (length (image m)) (omega arith), eq-eqb (length-field (image m)) (length (image m) - 5) size)

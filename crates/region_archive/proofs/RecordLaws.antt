@@ -5,29 +5,31 @@ use mathlib.Core.List.{List, _++_}
 use Prim.Native.Nat.{ℕ, zero, suc, _+_, _*_, _^_, _≤_, _<_}
 use native.Mathlib.Omega.{arith}
 use borrow.Author.Tests.{le-leb, leb-true, not-true}
-use lib.Dec.{leb, eqb}
+use lib.Dec.{leb, ltb, eqb}
 use lib.ListN.{length, length-append}
 use Rattle.region_graph.specs.Size.{regions, most-listed}
 use Rattle.region_graph.specs.Lists.{All, member}
-use Rattle.region_graph.specs.Model.{Part, Word, Numbered, NumberedPart}
+use Rattle.region_graph.specs.Model.{Part, Connection, Numbered, NumberedPart, LegalConnection}
 use Rattle.region_graph.specs.Flat.{Fields, FlatPart}
-use Rattle.region_graph.proofs.Lists.{and-yes, and-fst, and-snd, member-all, false-true}
+use Rattle.region_graph.proofs.Lists.{and-yes, and-fst, and-snd, member-all, false-true, concat-length}
+use Rattle.region_graph.proofs.Ascending.{connection-order}
 use Rattle.region_archive.specs.Bounds.{part-bound}
 use Rattle.region_archive.specs.Bytes.{big}
 use Rattle.region_archive.specs.Image.{part-bytes}
-use Rattle.region_archive.specs.RecordFields.{bytes-to, SameTo, GoodTo, part-at, first-width, field-count, most-in, row-width, part-open, PartGood, first-good, second-good, FieldGood, field-bytes, fields-bytes, FieldSame, FlatField, FlatElem, SameFields, Elem, fields-of, record-bytes, key, LegalElem}
+use Rattle.region_archive.specs.RecordFields.{bytes-to, SameTo, GoodTo, part-at, first-width, field-count, most-in, row-width, part-open, PartGood, first-good, second-good, FieldGood, field-bytes, fields-bytes, FieldSame, FlatField, FlatElem, SameFields, Elem, fields-of, record-bytes, key, most-records, element-before, LegalElem}
 use Rattle.region_archive.specs.declared.record_fields.Section.{Section}
 use Rattle.region_archive.specs.declared.record_fields.Section.the-variants as Section
-use Rattle.region_archive.proofs.Pieces.{big-length, concat-length}
-use Rattle.region_archive.proofs.Delimits.{Delimits, big-same, counted-same, head-same, tail-same, sized-same}
-use Rattle.region_archive.proofs.FieldLaws.{to-same}
+use Rattle.region_archive.proofs.Pieces.{big-length}
+use Rattle.region_archive.proofs.Delimits.{Delimits, big-same, head-same, tail-same, sized-same}
+use Rattle.region_archive.proofs.Rows.{Elements, words, row-same}
+use Rattle.region_archive.proofs.FieldLaws.{FieldKinds, to-same}
 use Rattle.region_archive.proofs.Sizes.{few-fields, narrow-first}
 
 -- parts tell themselves apart
 module _ (most : ℕ) (few : most ≤ most-listed) (all : Bool) where
   pub part-same : Delimits (PartGood most all) (part-bytes (big 4)) _≡_
   part-same (Part.listed xs) (Part.listed ys) r t h k e =
-      let d = counted-same Word (big 4) (big-same 4) (Numbered most) (λ zs n. n .each) xs ys r t h k e in
+      let d = row-same (words most) xs ys r t h k e in
       (ap Part.listed (d .0), d .1)
   part-same (Part.listed xs) Part.everything r t h k e = absurd (omega (arith, h .few, head-same e))
   part-same Part.everything (Part.listed ys) r t h k e = absurd (omega (arith, k .few, head-same e))
@@ -79,8 +81,11 @@ module _ (s : Section) (rs : List ℕ) (floor : ℕ) where
   )
   field-moves (suc (suc k)) x y h = (field-moved s (suc (suc k)) x y (h .1), λ g. subst (PartGood (most-in s) _) (h .1) g)
 
+  abbrev pub record-fields : FieldKinds Fields
+  record-fields = record { good = FieldGood s rs floor; bytes = field-bytes s; same = FieldSame; delim = field-same; moves = field-moves }
+
   pub fields-same : Delimits (GoodTo (FieldGood s rs floor) (field-count s)) (fields-bytes s) (SameFields s)
-  fields-same = to-same (FieldGood s rs floor) (field-bytes s) FieldSame field-same field-moves (field-count s)
+  fields-same = to-same record-fields (field-count s)
 
 -- elements with the same fields are the same
 listed-same : {xs ys : List ℕ} → Part.listed xs ≡ Part.listed ys → xs ≡ ys
@@ -218,15 +223,40 @@ flat-of Section.Connections row f x h g = record {
   );
 }
 
--- the record of a legal element tells it apart
+-- a section has few records
+pub most-small : (s : Section) → most-records s < 256
+most-small Section.Bundles = omega arith
+most-small Section.Connections = omega arith
+
+-- the elements of a section: a legal element's record tells it apart, and its key is its place in the order
 module _ (rs : List ℕ) (small : All (λ r. r < regions) rs) where
   pub element-same : (s : Section) → Delimits (LegalElem s rs) (record-bytes s) _≡_
-  element-same s = sized-same 2 (LegalElem s rs) (λ y. fields-bytes s (fields-of s y)) _≡_ concat-one
+  element-same s = sized-same 2 (LegalElem s rs) (λ y. fields-bytes s (fields-of s y)) _≡_ one
     where
-      concat-one : Delimits (LegalElem s rs) (λ y. fields-bytes s (fields-of s y)) _≡_
-      concat-one x y r t h k e =
-          let d = fields-same s rs 0 (fields-of s x) (fields-of s y) r t (element-good rs 0 small s x h (omega arith)) (element-good rs 0 small s y k (omega arith)) e in
+      one : Delimits (LegalElem s rs) (λ y. fields-bytes s (fields-of s y)) _≡_
+      one x y r t h k e =
+          let good : (z : Elem s) → LegalElem s rs z → GoodTo (FieldGood s rs 0) (field-count s) (fields-of s z) =
+          λ z l. element-good rs 0 small s z l (omega arith) in
+          let d = fields-same s rs 0 (fields-of s x) (fields-of s y) r t (good x h) (good y k) e in
           (same-element s x y (d .0), d .1)
+
+  pub element-keyed : (s : Section) (x y : Elem s) → LegalElem s rs x → LegalElem s rs y → element-before s x y ≡ ltb (key s x) (key s y)
+  element-keyed Section.Bundles x y h g = refl
+  element-keyed Section.Connections x y h g = connection-order 256 x y (target x h) (target y g)
+    where
+      target : (c : Connection) → LegalConnection rs c → c .target < 256
+      target c l = omega (arith, member-all (λ r. r < regions) (c .target) rs small (l .target))
+
+  abbrev pub section-elements : (s : Section) → Elements (Elem s)
+  section-elements s = record {
+    good = LegalElem s rs;
+    bytes = record-bytes s;
+    before = element-before s;
+    key = key s;
+    most = most-records s;
+    same = element-same s;
+    keyed = element-keyed s;
+  }
 
 -- how long the fields of a record can be
 module _ (s : Section) (rs : List ℕ) (floor : ℕ) where

@@ -1,141 +1,161 @@
 -- The next record of a section: the ways in which none stands at a place, and the one that does.
 use mathlib.Core.Path.{_≡_, sym, ap, _∙_, subst}
-use mathlib.Core.Bool.{Bool, true, false, not}
+use mathlib.Core.Bool.{true, false}
 use mathlib.Core.List.{List, [], _++_, append-nil, append-assoc}
 use Prim.Native.Nat.{ℕ, suc, _+_, _-_, _^_, _≤_, _<_}
 use native.Mathlib.Numerals.{add-one}
 use native.Mathlib.Omega.{arith}
-use borrow.Author.Tests.{not-true, not-false}
 use lib.ListN.{length, take, drop, length-append, length-drop, take-append-drop, drop-of-length-le}
 use lib.Seq.{length-take-le, take-at, drop-append-le}
 use Rattle.region_graph.specs.Size.{regions}
 use Rattle.region_graph.specs.Lists.{All}
 use Rattle.region_graph.specs.Flat.{Fields}
 use Rattle.region_archive.specs.Bytes.{big}
-use Rattle.region_archive.specs.Parsing.{Parsed, Unparsed, ParsedInto, AnswerInto}
-use Rattle.region_archive.specs.RecordFields.{bytes-to, SameTo, GoodTo, field-count, most-in, FieldGood, field-bytes, fields-bytes, FieldSame, FlatField, Elem, SameFields, fields-of, record-bytes, key, most-records, LegalElem}
-use Rattle.region_archive.specs.Sections.{FieldRead, LengthStands}
+use Rattle.region_archive.specs.Parsing.{Parsed}
+use Rattle.region_archive.specs.RecordFields.{bytes-to, GoodTo, field-count, most-in, FieldGood, field-bytes, fields-bytes, FlatField}
+use Rattle.region_archive.specs.RecordFields.{Elem, SameFields, fields-of, record-bytes, LegalElem}
+use Rattle.region_archive.specs.Sections.{FieldRead, LengthStands, NoLength}
 use Rattle.region_archive.specs.declared.record_fields.Section.{Section}
 use Rattle.region_archive.specs.declared.sections.FieldAt.{FieldAt}
 use Rattle.region_archive.specs.declared.sections.LengthAt.{LengthAt}
 use Rattle.region_archive.proofs.Pieces.{big-length}
-use Rattle.region_archive.proofs.Delimits.{NoNext, big-same}
-use Rattle.region_archive.proofs.FieldLaws.{to-none, to-more, to-stuck, to-all}
-use Rattle.region_archive.proofs.RecordLaws.{field-same, field-moves, fields-same, fields-small, same-bytes, element-good, element-same}
-use Rattle.region_archive.proofs.LengthReads.{NoLength}
+use Rattle.region_archive.proofs.Delimits.{big-same}
+use Rattle.region_archive.proofs.Rows.{Elements, NoNext}
+use Rattle.region_archive.proofs.FieldLaws.{FieldKinds, to-none, to-more, to-stuck, to-all}
+use Rattle.region_archive.proofs.RecordLaws.{record-fields, fields-same, fields-small, same-bytes, element-good, section-elements}
 
--- the first j fields of a record were read into its row
-abbrev pub FieldsRead : Section → List ℕ → ℕ → ℕ → List ℕ → ℕ → List ℕ → ℕ → Type 0
-FieldsRead k rs floor j s mid row to =
-    ParsedInto (GoodTo (FieldGood k rs floor) j) (bytes-to (field-bytes k) j) s mid (GoodTo (FlatField (most-in k) row) j) to
+-- what a section is read from: its kind, the regions of the graph, and the bytes
+pub record Source : Type 0 where
+  pub section : Section
+  pub rs : List ℕ
+  pub small : All (λ r. r < regions) rs
+  pub bytes : List ℕ
 
-module _ (k : Section) (rs : List ℕ) (floor : ℕ) (s : List ℕ) (mid : ℕ) where
-  abbrev nothing-read : Fields
-  nothing-read = record { first = 0; second = 0; parts = [] }
+abbrev pub elements-of : (q : Source) → Elements (Elem (q .section))
+elements-of q = section-elements (q .rs) (q .small) (q .section)
 
-  pub fields-start : mid ≤ length s → (row : List ℕ) → FieldsRead k rs floor 0 s mid row mid
-  fields-start h row = record {
-    value = nothing-read;
-    parsed = to-none (FieldGood k rs floor) (field-bytes k) FieldSame (field-same k rs floor) (field-moves k rs floor) s mid nothing-read h;
-    put = tt;
-  }
+abbrev kinds : Source → ℕ → FieldKinds Fields
+kinds q least = record-fields (q .section) (q .rs) least
 
-  module _ {j : ℕ} {row : List ℕ} {to : ℕ} (p : FieldsRead k rs floor j s mid row to) {new : List ℕ} {r : FieldAt} (f : FieldRead k rs floor j s to row new r) where
-    abbrev Next : Fields → Type 0
-    Next y = SameTo FieldSame j (p .value) y × FieldGood k rs floor j y
+-- the first j fields of a record that ends at `stop` were read from `mid` to `to`, into its row
+pub record FieldsRead (q : Source) (least stop mid j : ℕ) (row : List ℕ) (to : ℕ) : Type 0 where
+  pub value : Fields
+  pub parsed : Parsed (GoodTo (FieldGood (q .section) (q .rs) least) j) (bytes-to (field-bytes (q .section)) j) (take stop (q .bytes)) mid value to
+  pub put : GoodTo (FlatField (most-in (q .section)) row) j value
 
-    answer : AnswerInto Next (field-bytes k j) s to (r .ok) (GoodTo (FlatField (most-in k) new) (suc j)) (r .next)
-    answer = f .answer (p .value) (p .parsed .is-good) (p .put)
+pub fields-start : {q : Source} {least stop mid : ℕ} {row : List ℕ} → mid ≤ length (take stop (q .bytes)) → FieldsRead q least stop mid 0 row mid
+fields-start {q} {least} h = record { value = none; parsed = to-none (kinds q least) none h; put = tt }
+  where
+    none : Fields
+    none = record { first = 0; second = 0; parts = [] }
 
-    pub fields-more : not (r .ok) ≡ false → FieldsRead k rs floor (j + 1) s mid new (r .next)
-    fields-more h =
-        let v = subst (λ (b : Bool). AnswerInto Next (field-bytes k j) s to b (GoodTo (FlatField (most-in k) new) (suc j)) (r .next)) (not-false (r .ok) h) answer in
-        subst (λ (i : ℕ). FieldsRead k rs floor i s mid new (r .next)) (sym (add-one j))
-        (record {
-          value = v .value;
-          parsed =
-              to-more (FieldGood k rs floor) (field-bytes k) FieldSame (field-same k rs floor) (field-moves k rs floor) s mid j (p .parsed) (v .parsed);
-          put = v .put;
-        })
-
-    pub fields-stuck : not (r .ok) ≡ true → Unparsed Next (field-bytes k j) s to
-    fields-stuck h = subst (λ (b : Bool). AnswerInto Next (field-bytes k j) s to b (GoodTo (FlatField (most-in k) new) (suc j)) (r .next)) (not-true (r .ok) h) answer
+-- one field more
+pub fields-more : {q : Source} {least stop mid j : ℕ} {row : List ℕ} {to : ℕ} → FieldsRead q least stop mid j row to → {new : List ℕ} {r : FieldAt}
+    → FieldRead (q .section) (q .rs) least j (take stop (q .bytes)) to row new r → r .ok ≡ true → FieldsRead q least stop mid (j + 1) new (r .next)
+fields-more {q} {least} {stop} {mid} {j} p {new} {r} f e =
+    let v = f .answer (p .value) (p .parsed .is-good) (p .put) .found e in
+    rw add-one (record { value = v .value; parsed = to-more (kinds q least) j (p .parsed) (v .parsed); put = v .put })
 
 -- bytes up to a place
 module _ (s : List ℕ) (mid stop : ℕ) (h : mid ≤ stop) (l : stop ≤ length s) where
   -- those between two places, and the rest
-  pub drop-split : drop mid s ≡ drop mid (take stop s) ++ drop stop s
+  drop-split : drop mid s ≡ drop mid (take stop s) ++ drop stop s
   drop-split =
       ap (drop mid) (sym (take-append-drop stop s)) ∙ drop-append-le mid (take stop s) (drop stop s) (omega (arith, length-take-le stop s l))
 
-  pub drop-length-is : length (drop mid (take stop s)) ≡ stop - mid
+  drop-length-is : length (drop mid (take stop s)) ≡ stop - mid
   drop-length-is = length-drop mid (take stop s) ∙ ap (λ (n : ℕ). n - mid) (length-take-le stop s l)
 
-module _ (k : Section) (rs : List ℕ) (small : All (λ r. r < regions) rs) (s : List ℕ) (at : ℕ) where
-  -- no record of a legal element with such a key stands here
-  abbrev pub NoRecord : ℕ → Type 0
-  NoRecord floor = NoNext (LegalElem k rs) (record-bytes k) (element-same rs small k) (key k) (most-records k) s at floor
+-- no record of a legal element with such a key stands at a place
+pub record NoRecord (q : Source) (at least : ℕ) : Type 0 where
+  pub none : NoNext (elements-of q) (q .bytes) at least
 
-  abbrev all-fields : Elem k → List ℕ
-  all-fields z = fields-bytes k (fields-of k z)
+-- the bytes of an element's fields, and the bytes up to the end of a record
+abbrev all-fields : (q : Source) → Elem (q .section) → List ℕ
+all-fields q z = fields-bytes (q .section) (fields-of (q .section) z)
 
-  length-small : (z : Elem k) → LegalElem k rs z → length (all-fields z) < 256 ^ 2
-  length-small z h = fields-small k rs 0 (fields-of k z) (element-good rs 0 small k z h (omega arith))
+abbrev part : Source → LengthAt → List ℕ
+part q r = take (r .stop) (q .bytes)
 
-  pub lengthless : NoLength s at → (floor : ℕ) → NoRecord floor
-  lengthless u floor z r h l e =
-      u (length (all-fields z)) (all-fields z ++ r) (length-small z h) (omega (arith, length-append (all-fields z) r))
-      (e ∙ append-assoc (big 2 (length (all-fields z))) (all-fields z) r)
+length-small : (q : Source) (z : Elem (q .section)) → LegalElem (q .section) (q .rs) z → length (all-fields q z) < 256 ^ 2
+length-small q z h =
+    fields-small (q .section) (q .rs) 0 (fields-of (q .section) z) (element-good (q .rs) 0 (q .small) (q .section) z h (omega arith))
 
-  module _ (r : LengthAt) (p : LengthStands s at r) where
-    abbrev part : List ℕ
-    part = take (r .stop) s
+-- its length is not there
+pub lengthless : {q : Source} {at : ℕ} → NoLength (q .bytes) at → {least : ℕ} → NoRecord q at least
+lengthless {q} u = record {
+  none = λ z r h l e.
+      u (length (all-fields q z)) (all-fields q z ++ r) (length-small q z h) (omega (arith, length-append (all-fields q z) r))
+      (e ∙ append-assoc (big 2 (length (all-fields q z))) (all-fields q z) r);
+}
 
-    -- the fields of a record that stands here fill the bytes that its length counts
-    within : (z : Elem k) (t : List ℕ) → LegalElem k rs z → drop at s ≡ record-bytes k z ++ t → drop (r .next) part ≡ all-fields z ++ []
-    within z t h e =
-        sym (take-at (drop (r .next) part) (drop (r .stop) s) (r .stop - r .next) (drop-length-is s (r .next) (r .stop) (p .forward) (p .room)))
-        ∙ ap (take (r .stop - r .next)) (sym (drop-split s (r .next) (r .stop) (p .forward) (p .room)) ∙ cut .1)
-        ∙ take-at (all-fields z) t (r .stop - r .next) (sym (cut .0)) ∙ sym (append-nil (all-fields z))
-      where
-        cut : (r .stop - r .next ≡ length (all-fields z)) × (drop (r .next) s ≡ all-fields z ++ t)
-        cut =
-            big-same 2 (r .stop - r .next) (length (all-fields z)) (drop (r .next) s) (all-fields z ++ t) (p .parsed .is-good) (length-small z h)
-            (sym (p .parsed .shape) ∙ e ∙ append-assoc (big 2 (length (all-fields z))) (all-fields z) t)
+-- the fields of a record that stands there fill the bytes that its length counts
+within : (q : Source) {at : ℕ} {r : LengthAt} → LengthStands (q .bytes) at r → (z : Elem (q .section)) (t : List ℕ) → LegalElem (q .section) (q .rs) z
+    → drop at (q .bytes) ≡ record-bytes (q .section) z ++ t → drop (r .next) (part q r) ≡ all-fields q z ++ []
+within q {at} {r} p z t h e =
+    sym (take-at (drop (r .next) (part q r)) (drop (r .stop) (q .bytes)) (r .stop - r .next) (drop-length-is (q .bytes) (r .next) (r .stop) (p .forward) (p .room)))
+    ∙ ap (take (r .stop - r .next)) (sym (drop-split (q .bytes) (r .next) (r .stop) (p .forward) (p .room)) ∙ cut .1)
+    ∙ take-at (all-fields q z) t (r .stop - r .next) (sym (cut .0)) ∙ sym (append-nil (all-fields q z))
+  where
+    cut : (r .stop - r .next ≡ length (all-fields q z)) × (drop (r .next) (q .bytes) ≡ all-fields q z ++ t)
+    cut =
+        big-same 2 (r .stop - r .next) (length (all-fields q z)) (drop (r .next) (q .bytes)) (all-fields q z ++ t) (p .parsed .is-good)
+        (length-small q z h) (sym (p .parsed .shape) ∙ e ∙ append-assoc (big 2 (length (all-fields q z))) (all-fields q z) t)
 
-    -- a field is not there
-    pub no-field : (floor : ℕ) {j : ℕ} {x : Fields} {to : ℕ} → j < field-count k
-        → Parsed (GoodTo (FieldGood k rs floor) j) (bytes-to (field-bytes k) j) part (r .next) x to
-        → Unparsed (λ z. SameTo FieldSame j x z × FieldGood k rs floor j z) (field-bytes k j) part to → NoRecord floor
-    no-field floor {j} {x} {to} l q u z t h g e =
-        to-all (FieldGood k rs floor) (field-bytes k) FieldSame (field-same k rs floor) (field-moves k rs floor) part (r .next) (suc j) (field-count k) l
-        (to-stuck (FieldGood k rs floor) (field-bytes k) FieldSame (field-same k rs floor) (field-moves k rs floor) part (r .next) j q u) (fields-of k z) []
-        (element-good rs floor small k z h g) (within z t h e)
-
-    module _ (floor : ℕ) {f : Fields} {to : ℕ} (q : Parsed (GoodTo (FieldGood k rs floor) (field-count k)) (fields-bytes k) part (r .next) f to) where
-      -- the fields end before the record does
-      pub misfit : (to ≡ r .stop → ⊥) → NoRecord floor
-      misfit u z t h g e =
-          let d = fields-same k rs floor f (fields-of k z) (drop to part) [] (q .is-good) (element-good rs floor small k z h g) (sym (q .shape) ∙ within z t h e) in
-          u (omega (arith, q .room, length-take-le (r .stop) s (p .room), sym (length-drop to part) ∙ ap length (d .1)))
-
-      -- the record of the element with these fields stands here
-      pub record-stands : to ≡ r .stop → (x : Elem k) → LegalElem k rs x → SameFields k f (fields-of k x) → Parsed (LegalElem k rs) (record-bytes k) s at x to
-      record-stands e x legal same = record {
-        is-good = legal;
-        shape =
-            p .parsed .shape ∙ ap (λ (n : ℕ). big 2 n ++ drop (r .next) s) size
-            ∙ ap (λ (l : List ℕ). big 2 (length (all-fields x)) ++ l) (drop-split s (r .next) (r .stop) (p .forward) (p .room) ∙ ap (λ (l : List ℕ). l ++ drop (r .stop) s) whole)
-            ∙ sym (append-assoc (big 2 (length (all-fields x))) (all-fields x) (drop (r .stop) s))
-            ∙ ap (λ (n : ℕ). record-bytes k x ++ drop n s) (sym e);
-        ends = rw length-append (omega (arith, e, p .forward, p .parsed .ends, size, big-length 2 (r .stop - r .next), big-length 2 (length (all-fields x))));
-        room = omega (arith, p .room);
+module _ {q : Source} {at : ℕ} {r : LengthAt} (p : LengthStands (q .bytes) at r) {least j : ℕ} {row : List ℕ} {to : ℕ}
+    (f : FieldsRead q least (r .stop) (r .next) j row to) where
+  -- a field is not there
+  pub no-field : {new : List ℕ} {t : FieldAt} → FieldRead (q .section) (q .rs) least j (take (r .stop) (q .bytes)) to row new t → t .ok ≡ false
+      → j < field-count (q .section) → NoRecord q at least
+  no-field d n l =
+      let u = to-stuck (kinds q least) j (f .parsed) (d .answer (f .value) (f .parsed .is-good) (f .put) .missing n) in
+      record {
+        none = λ z t h g e.
+            to-all (kinds q least) (part q r) (r .next) (suc j) (field-count (q .section)) l u (fields-of (q .section) z) []
+            (element-good (q .rs) least (q .small) (q .section) z h g) (within q p z t h e);
       }
-        where
-          whole : drop (r .next) part ≡ all-fields x
-          whole =
-              q .shape ∙ ap (λ (l : List ℕ). fields-bytes k f ++ l) (drop-of-length-le part {i = to} (omega (arith, length-take-le (r .stop) s (p .room))))
-              ∙ append-nil (fields-bytes k f) ∙ same-bytes k f (fields-of k x) same
 
-          size : r .stop - r .next ≡ length (all-fields x)
-          size = sym (drop-length-is s (r .next) (r .stop) (p .forward) (p .room)) ∙ ap length whole
+  module _ (e : j ≡ field-count (q .section)) where
+    all-parsed : Parsed (GoodTo (FieldGood (q .section) (q .rs) least) (field-count (q .section))) (fields-bytes (q .section)) (part q r) (r .next) (f .value) to
+    all-parsed =
+        subst (λ (i : ℕ). Parsed (GoodTo (FieldGood (q .section) (q .rs) least) i) (bytes-to (field-bytes (q .section)) i) (part q r) (r .next) (f .value) to)
+        e (f .parsed)
+
+    -- the fields end before the record does
+    pub misfit : (to ≡ r .stop → ⊥) → NoRecord q at least
+    misfit u = record {
+      none = λ z t h g i.
+          let d =
+          fields-same (q .section) (q .rs) least (f .value) (fields-of (q .section) z) (drop to (part q r)) [] (all-parsed .is-good)
+          (element-good (q .rs) least (q .small) (q .section) z h g) (sym (all-parsed .shape) ∙ within q p z t h i) in
+          u (omega (arith, all-parsed .room, length-take-le (r .stop) (q .bytes) (p .room), sym (length-drop to (part q r)) ∙ ap length (d .1)));
+    }
+
+    -- the record of the element with these fields stands there
+    pub record-stands : to ≡ r .stop → (x : Elem (q .section)) → LegalElem (q .section) (q .rs) x
+        → SameFields (q .section) (f .value) (fields-of (q .section) x)
+        → Parsed (LegalElem (q .section) (q .rs)) (record-bytes (q .section)) (q .bytes) at x to
+    record-stands i x legal same = record {
+      is-good = legal;
+      shape =
+          p .parsed .shape ∙ (λ j. big 2 (size j) ++ rest j)
+          ∙ sym (append-assoc (big 2 (length (all-fields q x))) (all-fields q x) (drop (r .stop) (q .bytes)))
+          ∙ ap (λ (n : ℕ). record-bytes (q .section) x ++ drop n (q .bytes)) (sym i);
+      ends =
+          rw length-append
+          (omega (arith, i, p .forward, p .parsed .ends, size, big-length 2 (r .stop - r .next), big-length 2 (length (all-fields q x))));
+      room = omega (arith, p .room);
+    }
+      where
+        whole : drop (r .next) (part q r) ≡ all-fields q x
+        whole =
+            all-parsed .shape
+            ∙ ap (λ (l : List ℕ). fields-bytes (q .section) (f .value) ++ l)
+            (drop-of-length-le (part q r) {i = to} (omega (arith, length-take-le (r .stop) (q .bytes) (p .room))))
+            ∙ append-nil (fields-bytes (q .section) (f .value)) ∙ same-bytes (q .section) (f .value) (fields-of (q .section) x) same
+
+        size : r .stop - r .next ≡ length (all-fields q x)
+        size = sym (drop-length-is (q .bytes) (r .next) (r .stop) (p .forward) (p .room)) ∙ ap length whole
+
+        rest : drop (r .next) (q .bytes) ≡ all-fields q x ++ drop (r .stop) (q .bytes)
+        rest = drop-split (q .bytes) (r .next) (r .stop) (p .forward) (p .room) ∙ ap (λ (l : List ℕ). l ++ drop (r .stop) (q .bytes)) whole

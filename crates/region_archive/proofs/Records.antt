@@ -4,14 +4,14 @@ use mathlib.Core.List.{List, [], _++_, append-assoc}
 use Prim.Native.Nat.{ℕ, zero, suc, _-_, _≤_, _<_}
 use native.Mathlib.Omega.{arith}
 use lib.ListN.{length, getD}
-use Rattle.region_graph.specs.Model.{Model, Bundle, Connection, Part}
+use Rattle.region_graph.specs.Model.{Model, Bundle, Connection, Part, Legal}
 use Rattle.region_graph.specs.Flat.{Fields}
 use Rattle.region_graph.specs.Record.{part-in}
 use Rattle.region_graph.specs.declared.numbers.Numbers.{Numbers}
 use Rattle.region_graph.proofs.Arrays.{getD-map-in}
 use Rattle.region_archive.specs.Bytes.{big, counted, sized}
 use Rattle.region_archive.specs.Image.{version, part-bytes, bundle-fields, connection-fields, body}
-use Rattle.region_archive.specs.RecordFields.{field-bytes, fields-bytes, first-width, Elem, fields-of, fields-in, ValuesAre, record-bytes, section-bytes}
+use Rattle.region_archive.specs.RecordFields.{field-bytes, fields-bytes, first-width, Elem, fields-of, fields-in, ValuesAre, record-bytes, section-bytes, elements, SectionRow}
 use Rattle.region_archive.specs.declared.record_fields.FieldValues.{FieldValues}
 use Rattle.region_archive.specs.declared.record_fields.Section.{Section}
 use Rattle.region_archive.specs.declared.record_fields.Section.the-variants as Section
@@ -37,6 +37,11 @@ pub body-sections : (m : Model)
 body-sections m = λ i.
     counted (big 1) (m .regions)
     ++ (counted (λ b. sym (bundle-record b) i) (m .bundles) ++ counted (λ c. sym (connection-record c) i) (m .connections))
+
+-- a section of a legal model has its elements in order
+pub legal-row : (s : Section) (m : Model) → Legal m → SectionRow s (m .regions) (elements s m)
+legal-row Section.Bundles m h = h .bundles-legal
+legal-row Section.Connections m h = h .connections-legal
 
 -- a value with the fields of an element has the element's record
 pub values-record : (s : Section) (e : FieldValues) (x : Elem s) → ValuesAre s e x → sized 2 (fields-bytes s) (fields-in e) ≡ record-bytes s x

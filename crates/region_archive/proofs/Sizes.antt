@@ -1,23 +1,21 @@
--- How many bytes the pieces of an archive take, and which piece comes next.
+-- How many bytes the pieces of an archive take.
 use mathlib.Core.Path.{_≡_, sym}
-use mathlib.Core.List.{_++_}
-use Prim.Native.Nat.{ℕ, _+_, _*_, _≤_, _<_}
+use Prim.Native.Nat.{ℕ, _+_, _*_, _≤_}
 use native.Mathlib.Omega.{arith}
 use borrow.Author.Tests.{eq-eqb, ne-eqb}
-use lib.ListN.{length, take}
-use lib.Seq.{length-take-le, take-length}
-use Rattle.region_graph.specs.Lists.{concat-map}
+use lib.ListN.{length}
+use lib.Seq.{length-take-le}
 use Rattle.region_graph.specs.Size.{most-bundles, everything-sign}
-use Rattle.region_graph.specs.Model.{Model, Part}
-use Rattle.region_graph.specs.Record.{Valid, meaning, numbers-of, part-in, no-bundle, no-connection}
+use Rattle.region_graph.specs.Model.{Part}
+use Rattle.region_graph.specs.Record.{Valid, meaning, numbers-of, part-in}
 use Rattle.region_graph.specs.declared.Graph.{Graph}
 use Rattle.region_graph.specs.declared.numbers.Numbers.{Numbers}
+use Rattle.region_graph.proofs.Lists.{concat-length}
 use Rattle.region_archive.specs.Bytes.{big, counted}
-use Rattle.region_archive.specs.RecordFields.{NumbersFit, first-width, field-count, record-bytes, elements}
+use Rattle.region_archive.specs.RecordFields.{NumbersFit, first-width, field-count, elements}
 use Rattle.region_archive.specs.declared.record_fields.Section.{Section}
 use Rattle.region_archive.specs.declared.record_fields.Section.the-variants as Section
-use Rattle.region_archive.proofs.Pieces.{big-length, concat-length, concat-next, concat-within}
-use Rattle.region_archive.proofs.Placed.{element-at}
+use Rattle.region_archive.proofs.Pieces.{big-length}
 
 -- the count of a list that fits is its length
 pub numbers-length : (n : Numbers) → NumbersFit n → n .count ≡ length (numbers-of n)
@@ -52,18 +50,3 @@ narrow-first Section.Connections = omega arith
 pub few-elements : (g : Graph) → Valid g → (s : Section) → length (elements s (meaning g)) ≤ most-bundles
 few-elements g v Section.Bundles = v .good .bundles-legal .few
 few-elements g v Section.Connections = omega (arith, v .good .connections-legal .few)
-
--- one record more of a section
-pub section-next : (s : Section) (m : Model) (i : ℕ) → i < length (elements s m)
-    → concat-map (record-bytes s) (take (i + 1) (elements s m)) ≡ concat-map (record-bytes s) (take i (elements s m)) ++ record-bytes s (element-at s m i)
-section-next Section.Bundles m i h = concat-next (record-bytes Section.Bundles) (m .bundles) i no-bundle h
-section-next Section.Connections m i h = concat-next (record-bytes Section.Connections) (m .connections) i no-connection h
-
--- a record is within the bytes of its section
-pub section-within : (s : Section) (m : Model) (i : ℕ) → i < length (elements s m)
-    → length (concat-map (record-bytes s) (take i (elements s m))) + length (record-bytes s (element-at s m i)) ≤ length (concat-map (record-bytes s) (elements s m))
-section-within s m i h = rw (take-length (elements s m)) at (within s h)
-  where
-    within : (k : Section) → i < length (elements k m) → length (concat-map (record-bytes k) (take i (elements k m))) + length (record-bytes k (element-at k m i)) ≤ length (concat-map (record-bytes k) (take (length (elements k m)) (elements k m)))
-    within Section.Bundles h = concat-within (record-bytes Section.Bundles) (m .bundles) i (length (m .bundles)) no-bundle h (omega arith)
-    within Section.Connections h = concat-within (record-bytes Section.Connections) (m .connections) i (length (m .connections)) no-connection h (omega arith)

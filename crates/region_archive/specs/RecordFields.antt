@@ -7,7 +7,7 @@ use lib.Dec.{leb, ltb, eqb}
 use lib.ListN.{length, getD}
 use Rattle.region_graph.specs.Size.{most-listed, most-provided, most-bundles, most-connections, everything-sign}
 use Rattle.region_graph.specs.Lists.{All, member}
-use Rattle.region_graph.specs.Model.{Model, Bundle, Part, Connection, Numbered, LegalBundle, LegalConnection}
+use Rattle.region_graph.specs.Model.{Model, Bundle, Part, Connection, Sorted, Numbered, LegalBundle, LegalConnection, bundle-before, connection-before}
 use Rattle.region_graph.specs.Flat.{Fields, fields-of-bundle, fields-of-connection, FlatPart, FlatFields, bundle-width, connection-width}
 use Rattle.region_graph.specs.Record.{part-in}
 use Rattle.region_graph.specs.declared.numbers.Numbers.{Numbers}
@@ -93,9 +93,18 @@ abbrev pub most-records : Section → ℕ
 most-records Section.Bundles = most-bundles
 most-records Section.Connections = most-connections
 
+-- their order
+abbrev pub element-before : (s : Section) → Elem s → Elem s → Bool
+element-before Section.Bundles = bundle-before
+element-before Section.Connections = connection-before
+
 abbrev pub LegalElem : (s : Section) → List ℕ → Elem s → Type 0
 LegalElem Section.Bundles rs b = LegalBundle rs b
 LegalElem Section.Connections rs c = LegalConnection rs c
+
+-- the elements of a section of a graph with regions rs
+abbrev pub SectionRow : (s : Section) → List ℕ → List (Elem s) → Type 0
+SectionRow s rs xs = Sorted (element-before s) (LegalElem s rs) (most-records s) xs
 
 abbrev pub elements : (s : Section) → Model → List (Elem s)
 elements Section.Bundles m = m .bundles

@@ -3,6 +3,7 @@ use mathlib.Core.Path.{_≡_}
 use mathlib.Core.Bool.{Bool, true, false}
 use mathlib.Core.List.{List, _++_}
 use Prim.Native.Nat.{ℕ, suc, _+_, _-_, _≤_, _<_, _^_}
+use lib.Dec.{ltb}
 use lib.ListN.{length, take, drop}
 use Rattle.region_graph.specs.Size.{regions}
 use Rattle.region_graph.specs.Sets.{members}
@@ -14,8 +15,8 @@ use Rattle.region_graph.specs.declared.Changed.{Changed}
 use Rattle.region_graph.specs.Flat.{Fields, FlatPart, Flat}
 use Rattle.region_archive.specs.Bytes.{big, counted}
 use Rattle.region_archive.specs.Image.{part-bytes, body}
-use Rattle.region_archive.specs.Parsing.{Parsed, AnswerInto, by-key}
-use Rattle.region_archive.specs.RecordFields.{SameTo, GoodTo, PartGood, FieldGood, field-bytes, FieldSame, FlatField, FlatElem, record-bytes, key, most-records, most-in, row-width, LegalElem}
+use Rattle.region_archive.specs.Parsing.{Parsed, Answer, AnswerInto}
+use Rattle.region_archive.specs.RecordFields.{SameTo, GoodTo, PartGood, FieldGood, field-bytes, FieldSame, FlatField, FlatElem, record-bytes, most-in, row-width, SectionRow}
 use Rattle.region_archive.specs.declared.record_fields.Section.{Section}
 use Rattle.region_archive.specs.declared.sections.FieldAt.{FieldAt}
 use Rattle.region_archive.specs.declared.sections.LengthAt.{LengthAt}
@@ -43,24 +44,27 @@ pub record LengthStands (bytes : List ℕ) (at : ℕ) (r : LengthAt) : Type 0 wh
   pub forward : r .next ≤ r .stop
   pub room : r .stop ≤ length bytes
 
-abbrev pub LengthOr : List ℕ → ℕ → LengthAt → Bool → Type 0
-LengthOr bytes at r true = LengthStands bytes at r
-LengthOr bytes at r false = (n : ℕ) (l : List ℕ) → n < 256 ^ 2 → n ≤ length l → drop at bytes ≡ big 2 n ++ l → ⊥
+-- or none does
+abbrev pub NoLength : List ℕ → ℕ → Type 0
+NoLength bytes at = (n : ℕ) (l : List ℕ) → n < 256 ^ 2 → n ≤ length l → drop at bytes ≡ big 2 n ++ l → ⊥
 
-abbrev pub LengthRead : List ℕ → ℕ → LengthAt → Type 0
-LengthRead bytes at r = LengthOr bytes at r (r .ok)
+pub record LengthRead (bytes : List ℕ) (at : ℕ) (r : LengthAt) : Type 0 where
+  pub found : r .ok ≡ true → LengthStands bytes at r
+  pub missing : r .ok ≡ false → NoLength bytes at
 
--- the regions were read at a place
+-- the regions were read at a place, into a list and a set
+abbrev pub RegionRow : List ℕ → Type 0
+RegionRow rs = Sorted ltb (λ r. r < regions) regions rs
+
 pub record RegionsRead (bytes : List ℕ) (at : ℕ) (list : List ℕ) (r : RegionsAt) : Type 0 where
   pub room : r .count ≤ length list
-  pub answer : AnswerInto (Sorted (by-key (λ n. n)) (λ n. n < regions) regions) (counted (big 1)) bytes at (r .ok)
-      (λ rs. (take (r .count) list ≡ rs) × (members (r .set) ≡ rs)) (r .next)
+  pub answer : Answer RegionRow (counted (big 1)) bytes at (r .ok) (members (r .set)) (r .next)
+  pub listed : r .ok ≡ true → take (r .count) list ≡ members (r .set)
 
 -- a section was read at a place, in a graph with regions rs
 pub record SectionRead (k : Section) (rs : List ℕ) (bytes : List ℕ) (at : ℕ) (rows : List ℕ) (r : SectionAt) : Type 0 where
   pub room : r .count ≤ length rows
-  pub answer : AnswerInto (Sorted (by-key (key k)) (LegalElem k rs) (most-records k)) (counted (record-bytes k)) bytes at (r .ok)
-      (Flat (row-width k) (FlatElem k) (take (r .count) rows)) (r .next)
+  pub answer : AnswerInto (SectionRow k rs) (counted (record-bytes k)) bytes at (r .ok) (Flat (row-width k) (FlatElem k) (take (r .count) rows)) (r .next)
 
 -- a body was read at a place, to the end: the graph of the model whose body it is, or a refusal and the empty graph where it is none's
 pub data BodyRead (s : List ℕ) (at : ℕ) (r : Changed) : Type 0 where

@@ -1,150 +1,132 @@
-use mathlib.Core.Path.{_≡_, refl, _∙_}
-use Prim.Native.Nat.{_≤_, _<_, _-_}
+use mathlib.Core.Path.{_≡_, refl, sym, _∙_}
+use mathlib.Core.Bool.{true}
+use Prim.Native.Nat.{_+_, _-_, _≤_, _<_}
 use native.Mathlib.Omega.{arith}
 use borrow.Author.Needs.{needs}
+use borrow.Author.Tests.{not-true, not-false}
 use lib.ListN.{length, set, length-set}
-use Rattle.region_graph.specs.Model.{Word, Numbered}
-use Rattle.region_archive.specs.Bytes.{big}
-use Rattle.region_archive.proofs.Delimits.{big-same, no-next, low-next}
-use Rattle.region_archive.proofs.CountedReads.{Count, count-stands, no-count, number-stands, number-fails}
+use Rattle.region_graph.proofs.Lists.{false-true}
+use Rattle.region_archive.proofs.Rows.{words, low-next, row-missing}
 use Rattle.region_archive.proofs.ListReads.{Numbering, numbering-start, numbering-more, list-end, list-stuck}
 use Rattle.region_archive.proofs.sections.list_at.Statement.{statement}
 use Rattle.region_archive.proofs.sections.list_at.Tie as tie
 
 abbrev Inv-loop : tie.InvT-loop
-Inv-loop bytes at most row₀ total to₀ least₀ n₀ row to least n = (n ≤ total) × ((total ≤ most) × Numbering most bytes to₀ total (length row₀) n row to least)
+Inv-loop bytes at most row₀ total to₀ least₀ n₀ row to least n =
+    (n ≤ total) × ((total ≤ most) × Numbering most bytes to₀ total (length row₀) n row to least)
 
 abbrev μ-loop : tie.MeasureT-loop
 μ-loop bytes at most row₀ total to₀ least₀ n₀ row to least n = total - n
 
--- a count of at most so many is a byte
-few : (c : tie.Start Inv-loop μ-loop) → c .args .most < 256
-few c = omega (arith, c .pre .1 .0)
+-- the places before the loop
+abbrev counted : tie.At-loop Inv-loop μ-loop → tie.After-count-at Inv-loop μ-loop
+counted c = c .before .before .before .before
 
--- the count stands at the place
-counts : (c : tie.Else1 Inv-loop μ-loop)
-    → (let s = c .before .before .before .before .before in let r = c .before .before .count-at .result in
-    Count (s .args .most) (few s) (s .args .bytes .now) (s .args .at) (r .number) (r .next))
-counts c =
-    let s = c .before .before .before .before .before in
-    let r = c .before .before .count-at in
-    count-stands (s .args .most) (few s) (s .args .bytes .now) (s .args .at) (r .result) (c .if1 .left) (r .ensures)
+abbrev start : tie.At-loop Inv-loop μ-loop → tie.Start Inv-loop μ-loop
+start c = counted c .before .before .before
+
+-- a count of at most so many is a byte, and stands at the place
+few : (c : tie.At-loop Inv-loop μ-loop) → start c .args .most < 256
+few c = omega (arith, start c .pre .1 .0)
+
+counts : (c : tie.At-loop Inv-loop μ-loop) → counted c .count-at .result .ok ≡ true
+counts c = not-false _ (c .before .before .if1 .left)
 
 -- the row is as long as it was
-kept : (c : tie.At-loop Inv-loop μ-loop) → length (c .loop .row) ≡ length (c .before .before .before .before .before .before .before .args .row .now)
-kept c =
-    c .loop .inv .1 .1 .size-is ∙ length-set (c .before .before .before .before .before .before .before .args .row .now) 0 (c .before .before .before .before .count-at .result .number)
+kept : (c : tie.At-loop Inv-loop μ-loop) → length (c .loop .row) ≡ length (start c .args .row .now)
+kept c = c .loop .inv .1 .1 .size-is ∙ length-set (start c .args .row .now) 0 (counted c .count-at .result .number)
 
 -- and has places for the numbers
-inside : (c : tie.At-loop Inv-loop μ-loop)
-    → c .loop .n < length (set (c .before .before .before .before .before .before .before .args .row .now) 0 (c .before .before .before .before .count-at .result .number))
-inside c = omega (arith, kept c, c .loop .inv .1 .1 .size-is, c .loop .inv .0, c .loop .inv .1 .0, c .before .before .before .before .before .before .before .pre .1 .1)
+inside : (c : tie.At-loop Inv-loop μ-loop) → c .loop .n < length (set (start c .args .row .now) 0 (counted c .count-at .result .number))
+inside c = omega (arith, kept c, c .loop .inv .1 .1 .size-is, c .loop .inv .0, c .loop .inv .1 .0, start c .pre .1 .1)
 
--- src/sections.rt:49:9
-count-at-requires : tie.Need-count-at-requires Inv-loop μ-loop
-count-at-requires c κs = (c .before .before .pre .0, omega (arith, c .before .before .pre .1 .0))
-
--- src/sections.rt:51:9
 returns : tie.Need-returns Inv-loop μ-loop
 returns c =
     let s = c .before .before .before .before .before in
-    let a = s .args in
-    let r = c .before .before .count-at in
-    record { size = refl; answer = no-count (a .most) (few s) (a .bytes .now) (a .at) (Numbered (a .most)) (big 4) (λ xs h. h .few) (r .result) (c .if1 .taken) (r .ensures) }
+    let small : s .args .most < 256 = omega (arith, s .pre .1 .0) in
+    record {
+      size = refl;
+      answer =
+          record {
+            found = λ e. false-true e;
+            missing = λ e. row-missing (words (s .args .most)) small (c .before .before .count-at .ensures) (not-true _ (c .if1 .taken));
+          };
+    }
 
--- src/sections.rt:56:17
--- src/sections.rt:57:5
--- src/sections.rt:61:5
 loop-holds : tie.Need-loop-holds Inv-loop μ-loop
 loop-holds c =
-    let p = counts (c .before) in
-    let a = c .before .before .before .before .before .before .args in
-    let r = c .before .before .before .count-at .result in
-    let one : 1 ≤ length (a .row .now) = omega (arith, c .before .before .before .before .before .before .pre .1 .1) in
-    (omega arith, (p .is-good, numbering-start (a .most) (a .bytes .now) (r .next) (r .number) (a .row .now) (p .room) one))
+    let s = c .before .before .before .before .before .before in
+    let r = c .before .before .before .count-at in
+    let p = r .ensures .found (not-false _ (c .before .if1 .left)) in
+    (omega arith, (p .is-good, numbering-start (p .room) (r .result .number) (s .args .row .now) (omega (arith, s .pre .1 .1))))
 
--- src/sections.rt:62:13
-number-at-requires : tie.Need-number-at-requires Inv-loop μ-loop
-number-at-requires c κs = (c .before .loop .inv .1 .1 .going .run .room, omega arith)
-
--- src/sections.rt:64:13
-same-length : tie.Need-same-length Inv-loop μ-loop
-same-length c = kept (c .before .before .before .before)
-
--- src/sections.rt:64:13
+-- no number stands there
 returns-2 : tie.Need-returns-2 Inv-loop μ-loop
 returns-2 c =
-    let a = c .before .before .before .before .before .before .before .before .before .before .before .args in
-    let l = c .before .before .before .before .loop in
-    let r = c .before .before .number-at in
+    let a = c .before .before .before .before in
+    let u = c .before .before .number-at .ensures .missing (not-true _ (c .if2 .taken)) in
     record {
-      size = kept (c .before .before .before .before);
+      size = kept a;
       answer =
-          list-stuck (a .most) (few (c .before .before .before .before .before .before .before .before .before .before .before)) (a .bytes .now) (a .at) (counts (c .before .before .before .before .before .before)) (l .inv .1 .1) (inside (c .before .before .before .before)) (c .before .before .before .loop-test .taken)
-          (no-next Word (big 4) (big-same 4) (λ n. n) (a .most) (a .bytes .now) (l .to) (number-fails 4 (a .bytes .now) (l .to) (r .result) (c .if2 .taken) (r .ensures)) (l .least));
+          record {
+            found = λ e. false-true e;
+            missing = λ e.
+                list-stuck (a .loop .inv .1 .1) (few a) (counted a .count-at .ensures) (counts a) (inside a) (c .before .before .before .loop-test .taken)
+                (λ z r h l f. u z r h f);
+          };
     }
 
--- src/sections.rt:69:22
--- src/sections.rt:71:13
-same-length-2 : tie.Need-same-length-2 Inv-loop μ-loop
-same-length-2 c = kept (c .before .before .before .before .before .before)
-
--- src/sections.rt:71:13
+-- or one that is too low
 returns-3 : tie.Need-returns-3 Inv-loop μ-loop
 returns-3 c =
-    let a = c .before .before .before .before .before .before .before .before .before .before .before .before .before .args in
-    let l = c .before .before .before .before .before .before .loop in
+    let a = c .before .before .before .before .before .before in
     let r = c .before .before .before .before .number-at in
+    let p = r .ensures .found (not-false _ (c .before .before .if2 .left)) in
     record {
-      size = kept (c .before .before .before .before .before .before);
+      size = kept a;
       answer =
-          list-stuck (a .most) (few (c .before .before .before .before .before .before .before .before .before .before .before .before .before)) (a .bytes .now) (a .at) (counts (c .before .before .before .before .before .before .before .before)) (l .inv .1 .1) (inside (c .before .before .before .before .before .before)) (c .before .before .before .before .before .loop-test .taken)
-          (low-next Word (big 4) (big-same 4) (λ n. n) (a .most) (r .result .number) (number-stands 4 (a .bytes .now) (l .to) (r .result) (c .before .before .if2 .left) (r .ensures)) (c .if3 .taken));
+          record {
+            found = λ e. false-true e;
+            missing = λ e.
+                list-stuck (a .loop .inv .1 .1) (few a) (counted a .count-at .ensures) (counts a) (inside a)
+                (c .before .before .before .before .before .loop-test .taken) (low-next (words (start a .args .most)) (r .result .number) p (c .if3 .taken));
+          };
     }
 
--- src/sections.rt:76:9
 -- src/sections.rt:77:9
+row-room : (c : tie.Else3 Inv-loop μ-loop) → (let a = c .before .before .before .before .before .before in a .loop .n + 1 < length (a .loop .row))
+row-room c =
+    let a = c .before .before .before .before .before .before in
+    omega (arith, kept a, a .loop .inv .1 .0, c .before .before .before .before .before .loop-test .taken, start a .pre .1 .1)
+
 mul-row : tie.Need-mul-row Inv-loop μ-loop
-mul-row c = omega (arith, c .before .before .before .before .before .before .loop .inv .1 .0, c .before .before .before .before .before .before .before .before .before .before .before .before .before .pre .1 .0, c .before .before .before .before .before .loop-test .taken)
+mul-row c =
+    let a = c .before .before .before .before .before .before in
+    omega (arith, a .loop .inv .1 .0, start a .pre .1 .0, c .before .before .before .before .before .loop-test .taken)
 
--- src/sections.rt:77:9
-slice-write-row-2 : tie.Need-slice-write-row-2 Inv-loop μ-loop
-slice-write-row-2 c = omega (arith, kept (c .before .before .before .before .before .before), c .before .before .before .before .before .before .loop .inv .1 .0, c .before .before .before .before .before .loop-test .taken, c .before .before .before .before .before .before .before .before .before .before .before .before .before .pre .1 .1)
-
--- src/sections.rt:79:17
 add-least : tie.Need-add-least Inv-loop μ-loop
 add-least c =
-    let a = c .before .before .before .before .before .before .before .before .before .before .before .before .before .args in
-    let r = c .before .before .before .before .number-at in
-    omega (arith, number-stands 4 (a .bytes .now) (c .before .before .before .before .before .before .loop .to) (r .result) (c .before .before .if2 .left) (r .ensures) .is-good)
+    omega (arith, c .before .before .before .before .number-at .ensures .found (not-false _ (c .before .before .if2 .left)) .is-good)
 
--- src/sections.rt:61:5
--- src/sections.rt:61:5
 loop-again : tie.Need-loop-again Inv-loop μ-loop
 loop-again c =
-    let a = c .before .before .before .before .before .before .before .before .before .before .before .before .before .args in
-    let l = c .before .before .before .before .before .before .loop in
-    let r = c .before .before .before .before .number-at in (
+    let a = c .before .before .before .before .before .before in
+    let p = c .before .before .before .before .number-at .ensures .found (not-false _ (c .before .before .if2 .left)) in (
       omega (arith, c .before .before .before .before .before .loop-test .taken),
-      (
-        l .inv .1 .0,
-        numbering-more (a .most) (l .inv .1 .1) (omega (arith, c .before .before .before .before .before .loop-test .taken, l .inv .1 .0, c .before .before .before .before .before .before .before .before .before .before .before .before .before .pre .1 .1, length-set (a .row .now) 0 (c .before .before .before .before .before .before .before .before .before .before .count-at .result .number)))
-            (number-stands 4 (a .bytes .now) (l .to) (r .result) (c .before .before .if2 .left) (r .ensures)) (c .if3 .left),
-      ),
+      (a .loop .inv .1 .0, numbering-more (a .loop .inv .1 .1) (omega (arith, row-room c, a .loop .inv .1 .1 .size-is)) p (c .if3 .left)),
     )
 
--- src/sections.rt:45:1
-same-length-3 : tie.Need-same-length-3 Inv-loop μ-loop
-same-length-3 c = kept (c .before)
-
--- src/sections.rt:45:1
 returns-4 : tie.Need-returns-4 Inv-loop μ-loop
 returns-4 c =
-    let a = c .before .before .before .before .before .before .before .before .args in
-    let l = c .before .loop in
+    let a = c .before in
+    let all : a .loop .n ≡ counted a .count-at .result .number = omega (arith, a .loop .inv .0, c .loop-test .left) in
     record {
-      size = kept (c .before);
-      answer = list-end (a .most) (few (c .before .before .before .before .before .before .before .before)) (a .bytes .now) (a .at) (counts (c .before .before .before)) (l .inv .1 .1) (inside (c .before)) (omega (arith, l .inv .0, c .loop-test .left));
+      size = kept a;
+      answer =
+          record {
+            found = λ e. list-end (a .loop .inv .1 .1) (few a) (counted a .count-at .ensures) (counts a) (inside a) all;
+            missing = λ e. false-true (sym e);
+          };
     }
 
 pub list-at-spec : {M : Type 1} → statement M
@@ -153,22 +135,22 @@ list-at-spec =
     (tie.spec
     Inv-loop
     μ-loop
-    count-at-requires
+    (λ c κs. (c .before .before .pre .0, omega (arith, c .before .before .pre .1 .0)))
     returns
     (λ c. search needs)
     (λ c. search needs)
     loop-holds
-    number-at-requires
-    same-length
+    (λ c κs. (c .before .loop .inv .1 .1 .going .room, omega arith))
+    (λ c. kept (c .before .before .before .before))
     returns-2
     (λ c. search needs)
-    same-length-2
+    (λ c. kept (c .before .before .before .before .before .before))
     returns-3
     (λ c. search needs)
     mul-row
-    slice-write-row-2
+    row-room
     add-least
     (λ c. search needs)
     loop-again
-    same-length-3
+    (λ c. kept (c .before))
     returns-4)

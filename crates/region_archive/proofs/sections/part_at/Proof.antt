@@ -4,11 +4,10 @@ use mathlib.Core.List.{_∷_}
 use Prim.Native.Nat.{ℕ, _+_}
 use native.Mathlib.Omega.{arith}
 use borrow.Author.Needs.{needs}
-use lib.ListN.{drop, set, length-set}
+use lib.ListN.{drop, length-set}
 use lib.Seq.{getD-set-same}
 use Rattle.region_archive.proofs.Digits.{drop-byte}
 use Rattle.region_archive.proofs.ListReads.{part-sign, part-from-list, not-everything}
-use borrow.Author.Needs.{needs}
 use Rattle.region_archive.proofs.sections.part_at.Statement.{statement}
 use Rattle.region_archive.proofs.sections.part_at.Tie as tie
 
@@ -16,12 +15,12 @@ returns : tie.Need-returns
 returns c =
     let s = c .before .before .before .before .before in
     let a = s .args in
+    let b = a .bytes .now in
     record {
       size = length-set (a .row .now) 0 255;
       answer =
-          part-sign (a .most) (s .pre .1 .0) (a .all) (a .bytes .now) (a .at)
-          (drop-byte (a .bytes .now) (a .at) (omega arith) ∙ ap (λ (n : ℕ). n ∷ drop (a .at + 1) (a .bytes .now)) (c .if2 .taken)) (omega arith)
-          (set (a .row .now) 0 255) (getD-set-same (a .row .now) 0 255 0 (omega (arith, s .pre .1 .1)));
+          part-sign (s .pre .1 .0) (a .all) (drop-byte b (a .at) (omega arith) ∙ ap (λ (n : ℕ). n ∷ drop (a .at + 1) b) (c .if2 .taken)) (omega arith)
+          (getD-set-same (a .row .now) 0 255 0 (omega (arith, s .pre .1 .1)));
     }
 
 returns-2 : tie.Need-returns-2
@@ -32,9 +31,10 @@ returns-2 c =
     record {
       size = r .ensures .size;
       answer =
-          part-from-list (a .most) (s .pre .1 .0) (a .all) (a .bytes .now) (a .at)
-          (not-everything (a .bytes .now) (a .at) (⊎-elim (λ w h e. w .2 .left e) (λ w h e. omega arith) (c .before .before .before .before .if1 .came)))
-          _ (r .result .ok) (r .result .next) (r .ensures .answer);
+          part-from-list (s .pre .1 .0) (a .all)
+          (not-everything (a .bytes .now) (a .at)
+          (⊎-elim (λ w h e. w .2 .left e) (λ w h e. omega arith) (c .before .before .before .before .if1 .came)))
+          (r .ensures .answer);
     }
 
 pub part-at-spec : {M : Type 1} → statement M

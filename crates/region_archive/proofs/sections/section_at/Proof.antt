@@ -5,40 +5,64 @@ use Prim.Native.Nat.{ℕ, _+_, _-_, _≤_}
 use native.Mathlib.Nat.{mul-le-mul-right}
 use native.Mathlib.Omega.{arith}
 use borrow.Author.Needs.{needs}
+use borrow.Author.Tests.{not-true, not-false}
 use borrow.Rule.Slice.PartMut.{midOf, mid-len, take-put, same-len-mid}
 use lib.ListN.{length, take}
 use lib.Seq.{length-take-le}
 use Rattle.region_graph.specs.Sets.{members}
 use Rattle.region_graph.proofs.FlatLaws.{members-small}
 use Rattle.region_archive.specs.Bytes.{big}
-use Rattle.region_archive.specs.Parsing.{Parsed, Answer}
-use Rattle.region_archive.specs.RecordFields.{bytes-to, GoodTo, FieldGood, field-bytes, field-count, row-width, most-records, key}
+use Rattle.region_archive.specs.Parsing.{Answer}
+use Rattle.region_archive.specs.RecordFields.{field-count, row-width, most-records, key}
 use Rattle.region_archive.specs.Sections.{LengthStands}
-use Rattle.region_archive.proofs.CountedReads.{count-stands}
-use Rattle.region_archive.proofs.RecordLaws.{Element, wide}
+use Rattle.region_archive.specs.declared.record_fields.Section.{Section}
+use Rattle.region_archive.proofs.RecordLaws.{wide, most-small}
 use Rattle.region_archive.proofs.Sizes.{few-fields}
-use Rattle.region_archive.proofs.LengthReads.{length-stands, length-fails}
-use Rattle.region_archive.proofs.RecordReads.{FieldsRead, fields-start, fields-more, fields-stuck, lengthless, no-field, misfit}
-use Rattle.region_archive.proofs.SectionReads.{Recording, recording-start, recording-more, read-element, order-is, key-small, most-small, rows-small, row-room, mid-put, section-missing, section-end}
+use Rattle.region_archive.proofs.RecordReads.{Source, FieldsRead, fields-start, fields-more, lengthless, no-field, misfit}
+use Rattle.region_archive.proofs.SectionReads.{Recording, RecordRead, recording-start, recording-more, read-element, order-is, key-small}
+use Rattle.region_archive.proofs.SectionReads.{rows-small, row-room, mid-put, section-missing, section-end}
 use Rattle.region_archive.proofs.sections.section_at.Statement.{statement}
 use Rattle.region_archive.proofs.sections.section_at.Tie as tie
 
+-- what the section is read from
+abbrev from-bytes : Section → ℕ → List ℕ → Source
+from-bytes section regions bytes = record { section = section; rs = members regions; small = members-small regions; bytes = bytes }
+
 abbrev Inv-fields : tie.InvT-fields
-Inv-fields bytes from section regions rows₀ most total field-count wide at least base n stop end to₀ field₀ rows to field =
-    (field ≤ field-count)
+Inv-fields bytes from section regions rows₀ most total fields wide at least base n stop end to₀ field₀ rows to field =
+    (field ≤ fields)
     × ((take base rows ≡ take base rows₀)
-    × ((length rows ≡ length rows₀) × FieldsRead section (members regions) least field (take stop bytes) to₀ (midOf base (end - base) rows) to))
+    × ((length rows ≡ length rows₀) × FieldsRead (from-bytes section regions bytes) least stop to₀ field (midOf base (end - base) rows) to))
 
 abbrev μ-fields : tie.MeasureT-fields
-μ-fields bytes from section regions rows₀ most total field-count wide at least base n stop end to₀ field₀ rows to field = field-count - field
+μ-fields bytes from section regions rows₀ most total fields wide at least base n stop end to₀ field₀ rows to field = fields - field
 
 abbrev Inv-records : tie.InvT-records
-Inv-records bytes from section regions rows₀ most total field-count wide at₀ least₀ base₀ n₀ rows at least base n =
+Inv-records bytes from section regions rows₀ most total fields wide at₀ least₀ base₀ n₀ rows at least base n =
     (n ≤ total)
-    × ((total ≤ most-records section) × ((length rows ≡ length rows₀) × Recording section (members regions) (members-small regions) bytes at₀ rows at least base n))
+    × ((total ≤ most-records section) × ((length rows ≡ length rows₀) × Recording (from-bytes section regions bytes) at₀ rows at least base n))
 
 abbrev μ-records : tie.MeasureT-records
-μ-records bytes from section regions rows₀ most total field-count wide at₀ least₀ base₀ n₀ rows at least base n = total - n
+μ-records bytes from section regions rows₀ most total fields wide at₀ least₀ base₀ n₀ rows at least base n = total - n
+
+-- the places of the two loops, and what stands before them
+abbrev counted-at : tie.At-records Inv-fields μ-fields Inv-records μ-records → tie.After-count-at Inv-fields μ-fields Inv-records μ-records
+counted-at c = c .before .before .before .before .before .before
+
+abbrev start : tie.At-records Inv-fields μ-fields Inv-records μ-records → tie.Start Inv-fields μ-fields Inv-records μ-records
+start c = counted-at c .before .before .before .before
+
+abbrev source : tie.At-records Inv-fields μ-fields Inv-records μ-records → Source
+source c = from-bytes (start c .args .section) (start c .args .regions) (start c .args .bytes .now)
+
+abbrev outer : tie.At-fields Inv-fields μ-fields Inv-records μ-records → tie.At-records Inv-fields μ-fields Inv-records μ-records
+outer c = c .before .before .before .before .before
+
+abbrev end-of : tie.At-records Inv-fields μ-fields Inv-records μ-records → ℕ
+end-of c = c .records .base + c .before .width .result
+
+abbrev whole : tie.After-field-key Inv-fields μ-fields Inv-records μ-records → tie.At-fields Inv-fields μ-fields Inv-records μ-records
+whole c = c .before .before .before .before .before
 
 -- the answer about the count, with the section's limit
 counted : (c : tie.After-count-at Inv-fields μ-fields Inv-records μ-records)
@@ -46,230 +70,166 @@ counted : (c : tie.After-count-at Inv-fields μ-fields Inv-records μ-records)
     Answer (λ m. m ≤ most-records (a .section)) (big 1) (a .bytes .now) (a .from) (r .ok) (r .number) (r .next))
 counted c =
     let a = c .before .before .before .before .args in
-    let r = c .count-at .result in
-    subst (λ (l : ℕ). Answer (λ m. m ≤ l) (big 1) (a .bytes .now) (a .from) (r .ok) (r .number) (r .next)) (c .before .most-records .ensures) (c .count-at .ensures)
+    let r = c .count-at in
+    subst (λ (l : ℕ). Answer (λ m. m ≤ l) (big 1) (a .bytes .now) (a .from) (r .result .ok) (r .result .number) (r .result .next))
+    (c .before .most-records .ensures) (r .ensures)
 
 -- the next row is within the rows
-room : (c : tie.In-records Inv-fields μ-fields Inv-records μ-records)
-    → (let end = c .before .records .base + c .before .before .width .result in (end ≤ length (c .before .records .rows)) × (end ≤ 2544))
+room : (c : tie.In-records Inv-fields μ-fields Inv-records μ-records) → (end-of (c .before) ≤ length (c .before .records .rows)) × (end-of (c .before) ≤ 2544)
 room c =
-    let s = c .before .before .before .before .before .before .before .before .before .before .before in
-    let l = c .before .records in
-    let h = row-room (s .args .section) (l .inv .1 .1 .1 .base-is) (omega (arith, l .inv .1 .0, c .records-test .taken)) in
-    (omega (arith, h, s .pre .1, l .inv .1 .1 .0, c .before .before .width .ensures), omega (arith, h, rows-small (s .args .section), c .before .before .width .ensures))
+    let s = start (c .before) in
+    let l = c .before .records .inv .1 in
+    let w = c .before .before .width .ensures in
+    let h = row-room (s .args .section) (l .1 .1 .base-is) (omega (arith, l .0, c .records-test .taken)) in
+    (omega (arith, h, s .pre .1, l .1 .0, w), omega (arith, h, rows-small (s .args .section), w))
+
+-- and of the rows as they are
+reached : (c : tie.At-fields Inv-fields μ-fields Inv-records μ-records) → end-of (outer c) ≤ length (c .fields .rows)
+reached c = omega (arith, room (c .before .before .before .before) .0, c .fields .inv .1 .1 .0)
 
 -- a length stands at the place
-stands : (c : tie.Else2 Inv-fields μ-fields Inv-records μ-records) → LengthStands (c .before .before .before .before .before .before .before .before .before .before .before .before .before .before .args .bytes .now) (c .before .before .before .before .records .at) (c .before .before .length-at .result)
-stands c = length-stands (c .before .before .before .before .before .before .before .before .before .before .before .before .before .before .args .bytes .now) (c .before .before .before .before .records .at) (c .before .before .length-at .result) (c .if2 .left) (c .before .before .length-at .ensures)
-
-count-at-requires : tie.Need-count-at-requires Inv-fields μ-fields Inv-records μ-records
-count-at-requires c κs = (c .before .before .before .pre .0, omega (arith, c .most-records .ensures, most-small (c .before .before .before .args .section)))
-
-returns : tie.Need-returns Inv-fields μ-fields Inv-records μ-records
-returns c =
-    let a = c .before .before .before .before .before .before .args in
-    section-missing (a .section) (members (a .regions)) (members-small (a .regions)) (a .bytes .now) (a .from) (c .before .before .count-at .result) (counted (c .before .before)) (c .if1 .taken) (a .rows .now)
+stands : (c : tie.Else2 Inv-fields μ-fields Inv-records μ-records)
+    → (let a = c .before .before .before .before in LengthStands (source a .bytes) (a .records .at) (c .before .before .length-at .result))
+stands c = c .before .before .length-at .ensures .found (not-false _ (c .if2 .left))
 
 records-holds : tie.Need-records-holds Inv-fields μ-fields Inv-records μ-records
 records-holds c =
-    let a = c .before .before .before .before .before .before .before .before .before .args in
-    let k = a .section in
-    let r = c .before .before .before .before .before .count-at .result in
-    let p = count-stands (most-records k) (most-small k) (a .bytes .now) (a .from) r (c .before .before .before .if1 .left) (counted (c .before .before .before .before .before)) in
-    (omega arith, (p .is-good, (refl, recording-start k (members (a .regions)) (members-small (a .regions)) (a .bytes .now) (r .next) (p .room) (a .rows .now))))
-
-length-at-requires : tie.Need-length-at-requires Inv-fields μ-fields Inv-records μ-records
-length-at-requires c κs = c .before .records .inv .1 .1 .1 .going .run .room
-
-add-end : tie.Need-add-end Inv-fields μ-fields Inv-records μ-records
-add-end c = omega (arith, room (c .before .before .before) .1)
+    let p = counted (c .before .before .before .before .before) .found (not-false _ (c .before .before .before .if1 .left)) in
+    (omega arith, (p .is-good, (refl, recording-start (p .room))))
 
 fields-holds : tie.Need-fields-holds Inv-fields μ-fields Inv-records μ-records
 fields-holds c =
-    let a = c .before .before .before .before .before .before .before .before .before .before .before .before .before .before .args in
-    let l = c .before .before .before .before .records in
-    let r = c .before .before .length-at .result in
     let p = stands c in
-    let h : r .next ≤ length (take (r .stop) (a .bytes .now)) = omega (arith, p .forward, length-take-le (r .stop) (a .bytes .now) (p .room)) in
-    (omega arith, (refl, (refl, fields-start (a .section) (members (a .regions)) (l .least) (take (r .stop) (a .bytes .now)) (r .next) h (midOf (l .base) (l .base + c .before .before .before .before .before .width .result - l .base) (l .rows)))))
+    let r = c .before .before .length-at .result in
+    let b = source (c .before .before .before .before) .bytes in
+    (omega arith, (refl, (refl, fields-start (omega (arith, p .forward, length-take-le (r .stop) b (p .room))))))
 
-slice-aggregate-field-at :
-    tie.Need-slice-aggregate-field-at Inv-fields μ-fields Inv-records μ-records
-slice-aggregate-field-at c = sym (length-take-le (c .before .before .before .before .before .length-at .result .stop) (c .before .before .before .before .before .before .before .before .before .before .before .before .before .before .before .before .before .args .bytes .now) (stands (c .before .before .before) .room))
-
-mul-field-at : tie.Need-mul-field-at Inv-fields μ-fields Inv-records μ-records
-mul-field-at c = omega (arith, room (c .before .before .before .before .before .before) .1)
-
-part-field-at-end : tie.Need-part-field-at-end Inv-fields μ-fields Inv-records μ-records
-part-field-at-end c = omega (arith, room (c .before .before .before .before .before .before) .0, c .before .before .fields .inv .1 .1 .0)
+slice-aggregate-field-at : tie.Need-slice-aggregate-field-at Inv-fields μ-fields Inv-records μ-records
+slice-aggregate-field-at c =
+    let e = c .before .before .before in
+    sym (length-take-le (e .before .before .length-at .result .stop) (source (e .before .before .before .before) .bytes) (stands e .room))
 
 field-at-requires : tie.Need-field-at-requires Inv-fields μ-fields Inv-records μ-records
 field-at-requires c κs =
-    let l = c .before .before .before .before .before .before .before .before .records in
-    let v = c .before .before .before .fields in
-    let end = l .base + c .before .before .before .before .before .before .before .before .before .width .result in
-    let h : end ≤ length (v .rows) = omega (arith, room (c .before .before .before .before .before .before .before) .0, v .inv .1 .1 .0) in
-    let w : end - l .base ≡ row-width (c .before .before .before .before .before .before .before .before .before .before .before .before .before .before .before .before .before .before .args .section) = omega (arith, c .before .before .before .before .before .before .before .before .before .width .ensures) in
-    (v .inv .1 .1 .1 .parsed .room, (omega (arith, c .before .before .fields-test .taken, c .before .before .before .before .before .before .before .before .before .before .field-count .ensures), mid-len (l .base) end (v .rows) h ∙ w))
-
-add-field : tie.Need-add-field Inv-fields μ-fields Inv-records μ-records
-add-field c = omega (arith, c .before .before .before .before .before .before .before .fields-test .taken, c .before .before .before .before .before .before .before .before .before .before .before .before .before .before .before .field-count .ensures, few-fields (c .before .before .before .before .before .before .before .before .before .before .before .before .before .before .before .before .before .before .before .before .before .before .before .args .section))
-
-fields-less : tie.Need-fields-less Inv-fields μ-fields Inv-records μ-records
-fields-less c = omega (arith, c .before .before .before .before .before .before .before .fields-test .taken)
+    let f = c .before .before .before in
+    let a = outer f in
+    let w : end-of a - a .records .base ≡ row-width (source a .section) = omega (arith, a .before .width .ensures) in (
+      f .fields .inv .1 .1 .1 .parsed .room,
+      (
+        omega (arith, c .before .before .fields-test .taken, a .before .before .field-count .ensures),
+        mid-len (a .records .base) (end-of a) (f .fields .rows) (reached f) ∙ w,
+      ),
+    )
 
 fields-again : tie.Need-fields-again Inv-fields μ-fields Inv-records μ-records
 fields-again c =
-    let a = c .before .before .before .before .before .before .before .before .before .before .before .before .before .before .before .before .before .before .before .before .before .before .before .args in
-    let l = c .before .before .before .before .before .before .before .before .before .before .before .before .before .records in
-    let v = c .before .before .before .before .before .before .before .before .fields in
     let r = c .before .before .before .before .field-at in
-    let end = l .base + c .before .before .before .before .before .before .before .before .before .before .before .before .before .before .width .result in
+    let f = c .before .before .before .before .before .before .before .before in
+    let v = f .fields in
+    let base = outer f .records .base in
+    let end = end-of (outer f) in
     let sub = r .last .1 .1 .1 .1 .1 .1 .0 in
-    let h : end ≤ length (v .rows) = omega (arith, room (c .before .before .before .before .before .before .before .before .before .before .before .before) .0, v .inv .1 .1 .0) in
-    let i : l .base ≤ length (v .rows) = omega (arith, h) in
-    let stop = c .before .before .before .before .before .before .before .before .before .before .before .length-at .result .stop in
-    let next = c .before .before .before .before .before .before .before .before .before .before .before .length-at .result .next in (
-      omega (arith, c .before .before .before .before .before .before .before .fields-test .taken),
+    let inside : base ≤ length (v .rows) = omega (arith, reached f) in
+    let s = f .before .before .before .length-at .result in
+    let t = c .before .before .before .before .before .before .before .fields-test .taken in (
+      omega (arith, t),
       (
-        take-put (l .base) (end - l .base) (v .rows) sub i ∙ v .inv .1 .0,
+        take-put base (end - base) (v .rows) sub inside ∙ v .inv .1 .0,
         (
-          same-len-mid (l .base) (end - l .base) (v .rows) sub (r .ensures .size) ∙ v .inv .1 .1 .0,
-          subst (λ (row : List ℕ). FieldsRead (a .section) (members (a .regions)) (l .least) (v .field + 1) (take stop (a .bytes .now)) next row (r .result .next))
-              (sym (mid-put (l .base) end (v .rows) sub i (r .ensures .size ∙ mid-len (l .base) end (v .rows) h)))
-              (fields-more (a .section) (members (a .regions)) (l .least) (take stop (a .bytes .now)) next (v .inv .1 .1 .1) (r .ensures) (c .if3 .left)),
+          same-len-mid base (end - base) (v .rows) sub (r .ensures .size) ∙ v .inv .1 .1 .0,
+          subst (λ (row : List ℕ). FieldsRead (source (outer f)) (outer f .records .least) (s .stop) (s .next) (v .field + 1) row (r .result .next))
+              (sym (mid-put base end (v .rows) sub inside (r .ensures .size ∙ mid-len base end (v .rows) (reached f))))
+              (fields-more (v .inv .1 .1 .1) (r .ensures) (not-false _ (c .if3 .left))),
         ),
       ),
     )
 
-mul-first : tie.Need-mul-first Inv-fields μ-fields Inv-records μ-records
-mul-first c = omega (arith, room (c .before .before .before .before .before .before) .1)
-
-slice-read-first : tie.Need-slice-read-first Inv-fields μ-fields Inv-records μ-records
-slice-read-first c = omega (arith, room (c .before .before .before .before .before .before .before) .0, c .before .before .before .fields .inv .1 .1 .0, c .before .before .before .before .before .before .before .before .before .width .ensures, wide (c .before .before .before .before .before .before .before .before .before .before .before .before .before .before .before .before .before .before .args .section))
-
-add-second : tie.Need-add-second Inv-fields μ-fields Inv-records μ-records
-add-second c = omega (arith, room (c .before .before .before .before .before .before .before) .1)
-
-mul-second : tie.Need-mul-second Inv-fields μ-fields Inv-records μ-records
-mul-second c = omega (arith, room (c .before .before .before .before .before .before .before) .1)
-
-slice-read-second : tie.Need-slice-read-second Inv-fields μ-fields Inv-records μ-records
-slice-read-second c = omega (arith, room (c .before .before .before .before .before .before .before .before) .0, c .before .before .before .before .fields .inv .1 .1 .0, c .before .before .before .before .before .before .before .before .before .before .width .ensures, wide (c .before .before .before .before .before .before .before .before .before .before .before .before .before .before .before .before .before .before .before .args .section))
-
--- all fields were read
+-- all fields of a record were read
 done : (c : tie.After-field-key Inv-fields μ-fields Inv-records μ-records)
-    → (let a = c .before .before .before .before .before .before .before .before .before .before .before .before .before .before .before .before .before .before .before .before .args in let l = c .before .before .before .before .before .before .before .before .before .before .records in let v = c .before .before .before .before .before .fields in let r = c .before .before .before .before .before .before .before .before .length-at .result in
-    FieldsRead (a .section) (members (a .regions)) (l .least) (field-count (a .section)) (take (r .stop) (a .bytes .now)) (r .next)
-    (midOf (l .base) (l .base + c .before .before .before .before .before .before .before .before .before .before .before .width .result - l .base) (v .rows)) (v .to))
+    → (let f = whole c in let a = outer f in
+    RecordRead (source a) (a .records .at) (a .records .least) (f .before .before .before .length-at .result) (a .records .base) (end-of a) (f .fields .rows)
+    (f .fields .to))
 done c =
-    let a = c .before .before .before .before .before .before .before .before .before .before .before .before .before .before .before .before .before .before .before .before .args in
-    let l = c .before .before .before .before .before .before .before .before .before .before .records in
-    let v = c .before .before .before .before .before .fields in
-    let r = c .before .before .before .before .before .before .before .before .length-at .result in
-    let e : v .field ≡ field-count (a .section) = omega (arith, c .before .before .before .before .before .before .before .before .before .before .before .before .field-count .ensures, v .inv .0, c .before .before .before .before .fields-test .left) in
-    subst
-    (λ (j : ℕ).
-    FieldsRead (a .section) (members (a .regions)) (l .least) j (take (r .stop) (a .bytes .now)) (r .next) (midOf (l .base) (l .base + c .before .before .before .before .before .before .before .before .before .before .before .width .result - l .base) (v .rows))
-    (v .to))
-    e (v .inv .1 .1 .1)
+    let f = whole c in
+    let a = outer f in
+    let v = f .fields in
+    let r = f .before .before .before .length-at .result in
+    let e : v .field ≡ field-count (source a .section) =
+    omega (arith, a .before .before .field-count .ensures, v .inv .0, c .before .before .before .before .fields-test .left) in
+    record {
+      stands = stands (f .before);
+      fields =
+          subst (λ (j : ℕ). FieldsRead (source a) (a .records .least) (r .stop) (r .next) j (midOf (a .records .base) (end-of a - a .records .base) (v .rows)) (v .to))
+          e (v .inv .1 .1 .1);
+      ends = ap (λ (n : ℕ). a .records .base + n) (a .before .width .ensures);
+      room = reached f;
+    }
 
--- the rows reach to the end of this one
-reached : (c : tie.After-field-key Inv-fields μ-fields Inv-records μ-records) → c .before .before .before .before .before .before .before .before .before .before .records .base + c .before .before .before .before .before .before .before .before .before .before .before .width .result ≤ length (c .before .before .before .before .before .fields .rows)
-reached c = omega (arith, room (c .before .before .before .before .before .before .before .before .before) .0, c .before .before .before .before .before .fields .inv .1 .1 .0)
-
-ends : (c : tie.After-field-key Inv-fields μ-fields Inv-records μ-records) → c .before .before .before .before .before .before .before .before .before .before .records .base + c .before .before .before .before .before .before .before .before .before .before .before .width .result ≡ c .before .before .before .before .before .before .before .before .before .before .records .base + row-width (c .before .before .before .before .before .before .before .before .before .before .before .before .before .before .before .before .before .before .before .before .args .section)
-ends c = ap (λ (n : ℕ). c .before .before .before .before .before .before .before .before .before .before .records .base + n) (c .before .before .before .before .before .before .before .before .before .before .before .width .ensures)
-
--- the element, and its order
-abbrev element : (c : tie.After-field-key Inv-fields μ-fields Inv-records μ-records) → Element (members (c .before .before .before .before .before .before .before .before .before .before .before .before .before .before .before .before .before .before .before .before .args .regions)) (c .before .before .before .before .before .before .before .before .before .before .records .least) (c .before .before .before .before .before .before .before .before .before .before .before .before .before .before .before .before .before .before .before .before .args .section) (done c .value)
-element c =
-    let a = c .before .before .before .before .before .before .before .before .before .before .before .before .before .before .before .before .before .before .before .before .args in
-    read-element (a .section) (members (a .regions)) (members-small (a .regions)) (a .bytes .now) (c .before .before .before .before .before .before .before .before .before .before .records .inv .1 .1 .1) (c .before .before .before .before .before .before .before .before .length-at .result) (stands (c .before .before .before .before .before .before))
-    (c .before .before .before .before .before .fields .rows) (ends c) (reached c) (done c)
-
-ordered : (c : tie.After-field-key Inv-fields μ-fields Inv-records μ-records) → c .field-key .result ≡ key (c .before .before .before .before .before .before .before .before .before .before .before .before .before .before .before .before .before .before .before .before .args .section) (element c .elem)
-ordered c =
-    let a = c .before .before .before .before .before .before .before .before .before .before .before .before .before .before .before .before .before .before .before .before .args in
-    order-is (a .section) (members (a .regions)) (members-small (a .regions)) (a .bytes .now) (c .before .before .before .before .before .before .before .before .before .before .records .inv .1 .1 .1) (c .before .before .before .before .before .before .before .before .length-at .result) (stands (c .before .before .before .before .before .before))
-    (c .before .before .before .before .before .fields .rows) (ends c) (reached c) (done c) refl refl (c .field-key .ensures) (wide (a .section))
+ordered : (c : tie.After-field-key Inv-fields μ-fields Inv-records μ-records)
+    → c .field-key .result ≡ key (source (outer (whole c)) .section) (read-element (done c) .elem)
+ordered c = order-is (done c) refl refl (c .field-key .ensures)
 
 add-least : tie.Need-add-least Inv-fields μ-fields Inv-records μ-records
-add-least c = let a = c .before .before .before .before .before .before .before .before .before .before .before .before .before .before .before .before .before .before .before .before .args in omega (arith, ordered c, key-small (a .section) (members (a .regions)) (members-small (a .regions)) (element c .elem) (element c .legal))
+add-least c =
+    let q = source (outer (whole c)) in
+    let x = read-element (done c) in
+    omega (arith, ordered c, key-small (q .section) (q .rs) (q .small) (x .elem) (x .legal))
 
 add-n : tie.Need-add-n Inv-fields μ-fields Inv-records μ-records
-add-n c = omega (arith, c .before .before .before .before .before .before .before .before .before .before .records .inv .1 .0, c .before .before .before .before .before .before .before .before .before .records-test .taken, most-small (c .before .before .before .before .before .before .before .before .before .before .before .before .before .before .before .before .before .before .before .before .args .section))
-
-records-less : tie.Need-records-less Inv-fields μ-fields Inv-records μ-records
-records-less c = omega (arith, c .before .before .before .before .before .before .before .before .before .records-test .taken)
+add-n c =
+    let a = outer (whole c) in
+    omega (arith, a .records .inv .1 .0, whole c .before .before .before .before .records-test .taken, most-small (source a .section))
 
 records-again : tie.Need-records-again Inv-fields μ-fields Inv-records μ-records
 records-again c =
-    let a = c .before .before .before .before .before .before .before .before .before .before .before .before .before .before .before .before .before .before .before .before .args in
-    let l = c .before .before .before .before .before .before .before .before .before .before .records in
-    let v = c .before .before .before .before .before .fields in (
-      omega (arith, c .before .before .before .before .before .before .before .before .before .records-test .taken),
-      (
-        l .inv .1 .0,
-        (
-          v .inv .1 .1 .0 ∙ l .inv .1 .1 .0,
-          recording-more (a .section) (members (a .regions)) (members-small (a .regions)) (a .bytes .now) (l .inv .1 .1 .1) (c .before .before .before .before .before .before .before .before .length-at .result) (stands (c .before .before .before .before .before .before))
-              (v .rows) (ends c) (reached c) (done c) (c .before .before .before .if4 .left) (v .inv .1 .0) (ordered c),
-        ),
-      ),
+    let l = outer (whole c) .records .inv .1 in
+    let v = whole c .fields .inv .1 in (
+      omega (arith, whole c .before .before .before .before .records-test .taken),
+      (l .0, (v .1 .0 ∙ l .1 .0, recording-more (done c) (l .1 .1) (c .before .before .before .if4 .left) (v .0) (ordered c))),
     )
 
 -- the rows are as many as they were
-kept : (c : tie.Left-records Inv-fields μ-fields Inv-records μ-records) → length (c .records-test .rows) ≡ length (c .before .before .before .before .before .before .before .before .before .before .before .args .rows .now)
+kept : (c : tie.Left-records Inv-fields μ-fields Inv-records μ-records) → length (c .records-test .rows) ≡ length (start (c .before) .args .rows .now)
 kept c =
-    let l = c .before .records in
-    let same = l .inv .1 .1 .0 in
+    let base = c .before .records .base in
+    let same = c .before .records .inv .1 .1 .0 in
     ⊎-elim (λ w. ap length (w .1) ∙ same)
     (⊎-elim (λ w. ap length (w .4) ∙ same)
     (⊎-elim
     (λ w.
-    let end = l .base + c .before .before .width .result in
-    ap length (w .13) ∙ same-len-mid (l .base) (end - l .base) (w .4 .rows) (w .8 .last .1 .1 .1 .1 .1 .1 .0) (w .8 .ensures .size) ∙ w .4 .inv .1 .1 .0 ∙ same)
+    ap length (w .13) ∙ same-len-mid base (end-of (c .before) - base) (w .4 .rows) (w .8 .last .1 .1 .1 .1 .1 .1 .0) (w .8 .ensures .size)
+    ∙ w .4 .inv .1 .1 .0 ∙ same)
     (λ w. ap length (w .7) ∙ w .4 .inv .1 .1 .0 ∙ same)))
     (c .records-test .came)
 
 -- the rows that were read lie within what was lent
 base-room : (c : tie.Left-records Inv-fields μ-fields Inv-records μ-records) → c .before .records .base ≤ length (c .records-test .rows)
 base-room c =
-    let s = c .before .before .before .before .before .before .before .before .before .before .before in
+    let s = start (c .before) in
     let l = c .before .records in
     let n : l .n ≤ most-records (s .args .section) = omega (arith, l .inv .0, l .inv .1 .0) in
     omega (arith, l .inv .1 .1 .1 .base-is, mul-le-mul-right (row-width (s .args .section)) n, s .pre .1, kept c)
 
-same-length : tie.Need-same-length Inv-fields μ-fields Inv-records μ-records
-same-length c = kept c
-
 returns-2 : tie.Need-returns-2 Inv-fields μ-fields Inv-records μ-records
 returns-2 c =
-    let s = c .before .before .before .before .before .before .before .before .before .before .before in
-    let k = s .args .section in
-    let rs = members (s .args .regions) in
-    let z = members-small (s .args .regions) in
-    let b = s .args .bytes .now in
-    let l = c .before .records in
-    let at = l .at in
-    let count = c .before .before .before .field-count .ensures in
-    section-end k rs z b (s .args .from) (c .before .before .before .before .before .before .before .count-at .result) (counted (c .before .before .before .before .before .before .before)) (c .before .before .before .before .before .if1 .left) (l .inv .1 .1 .1) (l .inv .0) (base-room c)
-    (λ e. ⊎-elim (λ w. w .1) (⊎-elim (λ w. absurd (omega (arith, e, w .0 .taken))) (⊎-elim (λ w. absurd (omega (arith, e, w .0 .taken))) (λ w. absurd (omega (arith, e, w .0 .taken))))) (c .records-test .came))
+    let a = c .before in
+    let l = a .records in
+    let count = a .before .before .field-count .ensures in
+    section-end (source a) (counted (counted-at a)) (not-false _ (a .before .before .before .before .if1 .left)) (l .inv .1 .1 .1) (l .inv .0) (base-room c)
+    (λ e.
+    ⊎-elim (λ w. w .1)
+    (⊎-elim (λ w. absurd (omega (arith, e, w .0 .taken)))
+    (⊎-elim (λ w. absurd (omega (arith, e, w .0 .taken))) (λ w. absurd (omega (arith, e, w .0 .taken)))))
+    (c .records-test .came))
     (λ h.
     ⊎-elim (λ w. absurd (omega (arith, h, w .0 .left)))
-    (⊎-elim (λ w. lengthless k rs z b at (length-fails b at (w .1 .result) (w .3 .taken) (w .1 .ensures)) (l .least))
+    (⊎-elim (λ w. lengthless (w .1 .ensures .missing (not-true _ (w .3 .taken))))
     (⊎-elim
     (λ w.
-    let r = w .1 .result in
-    no-field k rs z b at r (length-stands b at r (w .3 .left) (w .1 .ensures)) (l .least) {j = w .4 .field} (omega (arith, w .5 .taken, count)) (w .4 .inv .1 .1 .1 .parsed)
-    (fields-stuck k rs (l .least) (take (r .stop) b) (r .next) (w .4 .inv .1 .1 .1) (w .8 .ensures) (w .12 .taken)))
+    no-field (w .1 .ensures .found (not-false _ (w .3 .left))) (w .4 .inv .1 .1 .1) (w .8 .ensures) (not-true _ (w .12 .taken))
+    (omega (arith, w .5 .taken, count)))
     (λ w.
-    let r = w .1 .result in
-    let e : w .4 .field ≡ field-count k = omega (arith, w .4 .inv .0, w .5 .left, count) in
-    misfit k rs z b at r (length-stands b at r (w .3 .left) (w .1 .ensures)) (l .least)
-    (subst (λ (j : ℕ). Parsed (GoodTo (FieldGood k rs (l .least)) j) (bytes-to (field-bytes k) j) (take (r .stop) b) (r .next) (w .4 .inv .1 .1 .1 .value) (w .4 .to)) e (w .4 .inv .1 .1 .1 .parsed))
-    (w .6 .taken))))
+    misfit (w .1 .ensures .found (not-false _ (w .3 .left))) (w .4 .inv .1 .1 .1) (omega (arith, w .4 .inv .0, w .5 .left, count)) (w .6 .taken))))
     (c .records-test .came))
 
 pub section-at-spec : {M : Type 1} → statement M
@@ -281,33 +241,41 @@ section-at-spec =
     Inv-records
     μ-records
     (λ c κs. search needs)
-    count-at-requires
-    returns
+    (λ c κs. let s = c .before .before .before in (s .pre .0, omega (arith, c .most-records .ensures, most-small (s .args .section))))
+    (λ c.
+    let a = c .before .before .before .before .before .before .args in
+    section-missing (from-bytes (a .section) (a .regions) (a .bytes .now)) (counted (c .before .before)) (not-true _ (c .if1 .taken)))
     (λ c. search needs)
     (λ c κs. search needs)
     (λ c κs. search needs)
     records-holds
-    length-at-requires
-    add-end
+    (λ c κs. c .before .records .inv .1 .1 .1 .going .room)
+    (λ c. omega (arith, room (c .before .before .before) .1))
     fields-holds
     slice-aggregate-field-at
-    mul-field-at
+    (λ c. omega (arith, room (c .before .before .before .before .before .before) .1))
     (λ c. omega arith)
     (λ c. omega arith)
-    part-field-at-end
+    (λ c. reached (c .before .before))
     field-at-requires
-    add-field
-    fields-less
+    (λ c.
+    let f = c .before .before .before .before .before .before .before .before in
+    omega (arith, c .before .before .before .before .before .before .before .fields-test .taken, outer f .before .before .field-count .ensures, few-fields (source (outer f) .section)))
+    (λ c. omega (arith, c .before .before .before .before .before .before .before .fields-test .taken))
     fields-again
-    mul-first
-    slice-read-first
-    add-second
-    mul-second
-    slice-read-second
+    (λ c. omega (arith, room (c .before .before .before .before .before .before) .1))
+    (λ c.
+    let f = c .before .before .before in
+    omega (arith, reached f, outer f .before .width .ensures, wide (source (outer f) .section)))
+    (λ c. omega (arith, room (c .before .before .before .before .before .before .before) .1))
+    (λ c. omega (arith, room (c .before .before .before .before .before .before .before) .1))
+    (λ c.
+    let f = c .before .before .before .before in
+    omega (arith, reached f, outer f .before .width .ensures, wide (source (outer f) .section)))
     (λ c κs. search needs)
     add-least
     add-n
-    records-less
+    (λ c. omega (arith, whole c .before .before .before .before .records-test .taken))
     records-again
-    same-length
+    kept
     returns-2)

@@ -1,16 +1,15 @@
 -- Laws of `All`, `Ascends`, `keep`, `concat-map`, `bytes-to` and `big`, for any element.
 use mathlib.Core.Path.{_≡_, refl, sym, ap, _∙_}
 use mathlib.Core.Bool.{Bool, true, false}
-use mathlib.Core.List.{List, [], _∷_, _++_, append-nil, append-assoc, map}
-use Prim.Native.Nat.{ℕ, zero, suc, _+_, _*_, _/_, _%_, _^_, _≤_, _<_}
+use mathlib.Core.List.{List, [], _∷_, _++_}
+use Prim.Native.Nat.{ℕ, zero, suc, _+_, _/_, _%_, _^_, _≤_, _<_}
 use native.Mathlib.Numerals.{add-one}
-use native.Mathlib.Nat.{zero-mul, suc-mul, pow-suc, div-one, mod-eq-of-lt, div-div-eq-div-mul}
+use native.Mathlib.Nat.{pow-suc, div-one, mod-eq-of-lt, div-div-eq-div-mul}
 use native.Mathlib.Decide.{decLt}
 use native.Mathlib.Omega.{arith}
 use lib.ListN.{length, getD, take, drop, length-append, take-append-drop}
-use lib.Seq.{take-suc, take-all}
-use borrow.Author.Tests.{lt-ltb, ltb-true}
-use Rattle.region_graph.specs.Lists.{All, keep, count-from, ascends, concat-map}
+use lib.Seq.{take-all}
+use Rattle.region_graph.specs.Lists.{All, keep, count-from, concat-map}
 use Rattle.region_graph.proofs.Lists.{keep-append, keep-took, keep-left, concat-length}
 use Rattle.region_archive.specs.Bytes.{big}
 use Rattle.region_archive.specs.RecordFields.{bytes-to}

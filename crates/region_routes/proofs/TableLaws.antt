@@ -157,8 +157,15 @@ module _ {A B : Type 0} {store : A → B} {none : B} {size w : ℕ} {out : B →
           let here = filled-inside (s .filled) i l in
           let within : suc i ≤ size = omega (arith, here, s .filled .room) in
           rw (filled-means (s .filled) out (s .back) i e d l)
-          (omega (arith, put .counted, g .long, concat-few f w xs (s .few) i, all-at (λ x. length (f x) ≤ w) xs i d here (s .few),
-              mul-le-mul-right w within, s .fits))
+          (omega (
+            arith,
+            put .counted,
+            g .long,
+            concat-few f w xs (s .few) i,
+            all-at (λ x. length (f x) ≤ w) xs i d here (s .few),
+            mul-le-mul-right w within,
+            s .fits,
+          ))
 
       pub gathering-next : {after : List ℕ} {k : ℕ} → length after ≡ length items → Appended items n (f (out (getD places i e))) after k
           → Gathering out f places count before (i + 1) after k
@@ -255,7 +262,7 @@ module _ (m : Model) (h : Legal m) where
   offers-few : (k : ℕ) → All (λ b. length (offer k b) ≤ most-provided) (m .bundles)
   offers-few k =
       all-map (LegalBundle (m .regions)) (λ b. length (offer k b) ≤ most-provided) (λ b l. rw length-map (few-provided k b l)) (m .bundles)
-          (h .bundles-legal .each)
+      (h .bundles-legal .each)
 
   -- the place of a location in the table of the bundles is its region
   place-offers : (l : ℕ) → place-at (offers 0 (m .bundles)) l ≡ place-of (m .bundles) l
@@ -311,7 +318,7 @@ module _ (m : Model) (h : Legal m) where
   crosses-passages k n r s =
       let test : ℕ → Bool = λ e. (eqb (source-in e) r && eqb (target-in e) s) && (eqb (number-in e) everything-number || eqb (number-in e) n) in
       exists-either (λ e. eqb (source-in e) r && eqb (target-in e) s) (λ e. eqb (number-in e) everything-number) (λ e. eqb (number-in e) n)
-          (passages k (m .connections))
+      (passages k (m .connections))
       ∙ exists-gather (passage k) test (m .connections)
       ∙ exists-each (passage k) (LegalConnection (m .regions)) (λ c. exists test (passage k c))
       (λ c. (eqb (c .source) r && eqb (c .target) s) && passes (item k n) (c .filter)) (passage-says k n r s) (m .connections) (h .connections-legal .each)

@@ -22,7 +22,7 @@ asked c =
     sym
     (c .all-installed .ensures
     ∙ placed-installed (meaning (s .args .graph)) (place-table (s .pre .good) (c .before .before .before .before .before .before .offers .ensures .table))
-        (s .args .listeners .now))
+    (s .args .listeners .now))
 
 installed : (c : tie.Else1) → (let s = c .before .before .before .before .before .before .before .before .before .before .before .args in
     all-installed (meaning (s .graph)) (s .listeners .now) ≡ true)

@@ -359,26 +359,29 @@ module _ (m : Model) (h : Legal m) where
       fits = omega arith;
     }
 
-  -- each is stored in the one way, and a connection's ends are regions
-  module _ {items : List StoredBundle} {count : ℕ} (f : Filled store-bundle (store-bundle no-bundle) most-bundles items count (m .bundles)) where
-    pub bundle-placed : (i : ℕ) (e : StoredBundle) → i < count → BundleStored (getD items i e)
-    bundle-placed i e l =
-        stored-as store-bundle bundle-in ShortBundle (λ b s. bundle-back b) (getD (m .bundles) i no-bundle) (filled-at f i e no-bundle l)
-        (short-bundle (all-at (LegalBundle (m .regions)) (m .bundles) i no-bundle (filled-inside f i l) (h .bundles-legal .each)))
+    -- what is asked of the place of which entries are put: it is stored in the one way, a connection's ends are regions, and there is room
+    pub offers-asked : {items : List StoredBundle} {count : ℕ} {before out : List ℕ} {i n : ℕ} → OffersFrom items count
+        → Gathering bundle-in (offer k) items count before i out n → (e : StoredBundle) → i < count
+        → BundleStored (getD items i e) × (n + length (offer k (bundle-in (getD items i e))) ≤ length out)
+    offers-asked {i = i} s g e l =
+        let f = s .filled in
+        let b = getD (m .bundles) i no-bundle in (
+          stored-as store-bundle bundle-in ShortBundle (λ b s. bundle-back b) b (filled-at f i e no-bundle l)
+              (short-bundle (all-at (LegalBundle (m .regions)) (m .bundles) i no-bundle (filled-inside f i l) (h .bundles-legal .each))),
+          gathering-room s g e no-bundle l,
+        )
 
-  module _ {items : List StoredConnection} {count : ℕ}
-      (f : Filled store-connection (store-connection no-connection) most-connections items count (m .connections))
-      (i : ℕ) (e : StoredConnection) (l : i < count) where
-    connection-legal : LegalConnection (m .regions) (getD (m .connections) i no-connection)
-    connection-legal = all-at (LegalConnection (m .regions)) (m .connections) i no-connection (filled-inside f i l) (h .connections-legal .each)
-
-    pub connection-placed : ConnectionStored (getD items i e)
-    connection-placed =
-        stored-as store-connection connection-in ShortConnection connection-back (getD (m .connections) i no-connection) (filled-at f i e no-connection l)
-        (short-connection connection-legal)
-
-    pub connection-ends : (getD items i e .source < regions) × (getD items i e .target < regions)
-    connection-ends = rw (filled-at f i e no-connection l) (source-inside connection-legal, target-inside connection-legal)
+    pub passages-asked : {items : List StoredConnection} {count : ℕ} {before out : List ℕ} {i n : ℕ} → PassagesFrom items count
+        → Gathering connection-in (passage k) items count before i out n → (e : StoredConnection) → i < count
+        → ConnectionStored (getD items i e) × (((getD items i e .source < regions) × (getD items i e .target < regions))
+        × (n + length (passage k (connection-in (getD items i e))) ≤ length out))
+    passages-asked {i = i} s g e l =
+        let f = s .filled in
+        let c = getD (m .connections) i no-connection in
+        let legal = all-at (LegalConnection (m .regions)) (m .connections) i no-connection (filled-inside f i l) (h .connections-legal .each) in (
+          stored-as store-connection connection-in ShortConnection connection-back c (filled-at f i e no-connection l) (short-connection legal),
+          (rw (filled-at f i e no-connection l) (source-inside {c = c} legal, target-inside {c = c} legal), gathering-room s g e no-connection l),
+        )
 
 -- the places in the table of the bundles are the regions of the locations
 pub place-table : {m : Model} → Legal m → {es : List ℕ} → es ≡ offers 0 (m .bundles) → (l : ℕ) → place-at es l ≡ place-of (m .bundles) l

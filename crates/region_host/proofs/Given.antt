@@ -85,7 +85,7 @@ module _ (cross : ℕ → ℕ → Bool) (ends : ℕ → Bool) where
   exactly-long (suc k) r =
       before-long (suc k) r (first-of (λ s. guarded (cross r s) (exactly cross ends k s)) (count-from 0 regions))
       (first-long (suc k) (λ s. guarded (cross r s) (exactly cross ends k s)) (λ s. guarded-long (suc k) (cross r s) (exactly cross ends k s)
-          (exactly-long k s)) (count-from 0 regions))
+      (exactly-long k s)) (count-from 0 regions))
 
   from-short : (r k n : ℕ) → k + n ≤ regions → AtMostRegions (from cross ends r k n)
   from-short r k zero h = tt

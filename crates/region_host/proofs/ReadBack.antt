@@ -69,7 +69,7 @@ routed-back Routed.Hidden g = refl
 routed-back (Routed.Count n) g = count-back Routed.Count unseen n g
 routed-back (Routed.Refused n) g =
     number-back Routed.Count unseen n (g .0) (omega (arith, g .1))
-        ∙ pick-no Routed.Hidden (Routed.Refused n) (ne-eqb n hidden-number (λ e. omega (arith, e, g .1)))
+    ∙ pick-no Routed.Hidden (Routed.Refused n) (ne-eqb n hidden-number (λ e. omega (arith, e, g .1)))
 
 pub kept-back : (a : Kept) → KeptGiven a → kept-of (kept-value a) ≡ a
 kept-back (Kept.Wrote n) g = count-back Kept.Wrote Kept.Refused n g

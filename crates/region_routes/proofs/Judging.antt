@@ -139,7 +139,7 @@ module _ {cross : ℕ → ℕ → Bool} {ends : ℕ → Bool} {pred : List ℕ} 
       walked-by {d} {entry} {exit} w =
           let b : Best (λ r s. cross r s ≡ true) (λ r. ends r ≡ true) r (w .path)
           = carry-best (tied .conn-cross) (λ n k. tied .in-ends n (f .layered .holds n k)) (tied .cross-conn)
-              (λ n k. f .layered .base n (tied .ends-in n k)) (w .best) in
+          (λ n k. f .layered .base n (tied .ends-in n k)) (w .best) in
           let e : chosen-by cross ends r ≡ some (w .path) = by-best cross ends (tied .inside) r (w .path) b in
           let n : length (w .path) - 1 ≡ d = omega (arith, w .counted) in
           rw e (λ j. routed (Count (sym n j)) (w .exit-is j))

@@ -50,7 +50,7 @@ module _ {old new : List ℕ} {at next : ℕ} {xs : List ℕ} where
       back : drop end new ≡ drop end old
       back =
           ap (λ (n : ℕ). drop n new) e ∙ ap (drop (length (take at old ++ xs) + length ys)) split
-              ∙ drop-append-add (take at old ++ xs) (drop next old) (length ys)
+          ∙ drop-append-add (take at old ++ xs) (drop next old) (length ys)
           ∙ drop-drop (length ys) next old ∙ ap (λ (n : ℕ). drop n old) (sym (w .ends))
 
 -- nothing more is written yet

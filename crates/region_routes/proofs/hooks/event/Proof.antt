@@ -8,7 +8,8 @@ use Rattle.region_graph.specs.Sets.{set-of}
 use Rattle.region_graph.specs.Record.{meaning}
 use Rattle.region_routes.specs.Chosen.{sees}
 use Rattle.region_routes.specs.Hooks.{item, kind-number, kept-outcome, all-installed}
-use Rattle.region_routes.proofs.TableLaws.{holding-long, holding-few, place-table, placed-installed}
+use Rattle.region_routes.proofs.TableLoops.{holding-long, holding-few}
+use Rattle.region_routes.proofs.TableLaws.{place-table, placed-installed}
 use Rattle.region_routes.proofs.Judging.{keep-stands}
 use Rattle.region_routes.proofs.Answering.{event-not-installed, event-no-place, event-answers}
 use Rattle.region_routes.proofs.hooks.event.Statement.{statement}
@@ -22,7 +23,7 @@ asked c =
     sym
     (c .all-installed .ensures
     ∙ placed-installed (meaning (s .args .graph)) (place-table (s .pre .good) (c .before .before .before .before .before .before .offers .ensures .table))
-        (s .args .listeners .now))
+    (s .args .listeners .now))
 
 installed : (c : tie.Else1) → (let s = c .before .before .before .before .before .before .before .before .before .before .before .args in
     all-installed (meaning (s .graph)) (s .listeners .now) ≡ true)

@@ -86,7 +86,7 @@ walk-requires c κs =
     let e = f .search-for .ensures in (
       (ap length (e .0) ∙ predecessors-sets (model q) (wanted q) .long, q .if2 .left),
       rw (e .0) (walkable (model q) (wanted q) (start q .pre .good) (e .1) (region (q .before .before)) (inside (q .before .before))
-      (c .before .before .distance .ensures)),
+          (c .before .before .distance .ensures)),
     )
 
 returns-5 : tie.Need-returns-5

@@ -5,7 +5,8 @@ use borrow.Author.Needs.{needs}
 use Rattle.region_graph.specs.Record.{meaning, bundle-in, no-bundle}
 use Rattle.region_routes.specs.Hooks.{kind-number}
 use Rattle.region_routes.specs.Tables.{offer}
-use Rattle.region_routes.proofs.TableLaws.{Gathering, gathering-start, gathering-next, gathering-end, OffersFrom, offers-from, offers-asked}
+use Rattle.region_routes.proofs.TableLoops.{Gathering, gathering-start, gathering-next, gathering-end}
+use Rattle.region_routes.proofs.TableLaws.{OffersFrom, offers-from, offers-asked}
 use Rattle.region_routes.proofs.tables.offers.Statement.{statement}
 use Rattle.region_routes.proofs.tables.offers.Tie as tie
 

@@ -5,7 +5,8 @@ use borrow.Author.Needs.{needs}
 use Rattle.region_graph.specs.Record.{meaning, connection-in, no-connection}
 use Rattle.region_routes.specs.Hooks.{kind-number}
 use Rattle.region_routes.specs.Tables.{passage}
-use Rattle.region_routes.proofs.TableLaws.{Gathering, gathering-start, gathering-next, gathering-end, PassagesFrom, passages-from, passages-asked}
+use Rattle.region_routes.proofs.TableLoops.{Gathering, gathering-start, gathering-next, gathering-end}
+use Rattle.region_routes.proofs.TableLaws.{PassagesFrom, passages-from, passages-asked}
 use Rattle.region_routes.proofs.tables.passages.Statement.{statement}
 use Rattle.region_routes.proofs.tables.passages.Tie as tie
 

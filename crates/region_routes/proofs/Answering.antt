@@ -21,43 +21,43 @@ use Rattle.region_routes.specs.declared.Kept.{Kept}
 use Rattle.region_routes.specs.declared.Kept.the-variants as Kept
 
 module _ (m : Model) (l kind number : ℕ) (entry : List ℕ) where
-  pub route-outside : place-of (m .bundles) l ≡ Nowhere
+  pub route-not-installed : place-of (m .bundles) l ≡ Nowhere
       → _≡_ {A = Outcome Routed} (routed (Routed.Refused not-installed) entry) (route-outcome m l kind number entry)
-  route-outside e = rw e
+  route-not-installed e = rw e
 
   module _ {r : ℕ} (e : place-of (m .bundles) l ≡ Within r) where
-    pub route-unknown : 2 < kind → _≡_ {A = Outcome Routed} (routed (Routed.Refused not-a-kind) entry) (route-outcome m l kind number entry)
-    route-unknown k = rw (e, lt-leb kind 2 k)
+    pub route-not-a-kind : 2 < kind → _≡_ {A = Outcome Routed} (routed (Routed.Refused not-a-kind) entry) (route-outcome m l kind number entry)
+    route-not-a-kind k = rw (e, lt-leb kind 2 k)
 
-    pub route-cramped : kind ≤ 2 → length entry < regions
+    pub route-no-place : kind ≤ 2 → length entry < regions
         → _≡_ {A = Outcome Routed} (routed (Routed.Refused no-place) entry) (route-outcome m l kind number entry)
-    route-cramped k h = rw (e, le-leb kind 2 k, lt-leb regions (length entry) h)
+    route-no-place k h = rw (e, le-leb kind 2 k, lt-leb regions (length entry) h)
 
     pub route-answers : {a : Outcome Routed} → kind ≤ 2 → regions ≤ length entry → a ≡ shown (chosen m (item kind number) r) entry
         → a ≡ route-outcome m l kind number entry
     route-answers k h q = rw (e, le-leb kind 2 k, le-leb regions (length entry) h) q
 
 module _ (m : Model) (kind : Kind) (l : ℕ) (xs entry : List ℕ) where
-  pub find-outside : place-of (m .bundles) l ≡ Nowhere
+  pub find-not-installed : place-of (m .bundles) l ≡ Nowhere
       → _≡_ {A = Outcome Kept} (kept (Kept.Refused not-installed) entry) (find-outcome m kind l xs entry)
-  find-outside e = rw e
+  find-not-installed e = rw e
 
   module _ {r : ℕ} (e : place-of (m .bundles) l ≡ Within r) where
-    pub find-cramped : length entry < length xs → _≡_ {A = Outcome Kept} (kept (Kept.Refused no-place) entry) (find-outcome m kind l xs entry)
-    find-cramped h = rw (e, lt-leb (length xs) (length entry) h)
+    pub find-no-place : length entry < length xs → _≡_ {A = Outcome Kept} (kept (Kept.Refused no-place) entry) (find-outcome m kind l xs entry)
+    find-no-place h = rw (e, lt-leb (length xs) (length entry) h)
 
     pub find-answers : {a : Outcome Kept} → length xs ≤ length entry
         → a ≡ kept-outcome (keep (λ n. sees m (item (kind-number kind) n) r) xs) entry → a ≡ find-outcome m kind l xs entry
     find-answers h q = rw (e, le-leb (length xs) (length entry) h) q
 
 module _ (m : Model) (kind : Kind) (ls : List ℕ) (number : ℕ) (entry : List ℕ) where
-  pub event-outside : all-installed m ls ≡ false
+  pub event-not-installed : all-installed m ls ≡ false
       → _≡_ {A = Outcome Kept} (kept (Kept.Refused not-installed) entry) (event-outcome m kind ls number entry)
-  event-outside e = rw e
+  event-not-installed e = rw e
 
-  pub event-cramped : all-installed m ls ≡ true → length entry < length ls
+  pub event-no-place : all-installed m ls ≡ true → length entry < length ls
       → _≡_ {A = Outcome Kept} (kept (Kept.Refused no-place) entry) (event-outcome m kind ls number entry)
-  event-cramped e h = rw (e, lt-leb (length ls) (length entry) h)
+  event-no-place e h = rw (e, lt-leb (length ls) (length entry) h)
 
   pub event-answers : {a : Outcome Kept} → all-installed m ls ≡ true → length ls ≤ length entry
       → a ≡ kept-outcome (keep (λ l. sees-from m (item (kind-number kind) number) (place-of (m .bundles) l)) ls) entry

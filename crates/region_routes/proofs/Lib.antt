@@ -5,6 +5,7 @@ pub mod Layers
 pub mod SearchLoops
 pub mod Walking
 pub mod Judging
+pub mod TableLoops
 pub mod TableLaws
 pub mod Chaining
 pub mod Lookups

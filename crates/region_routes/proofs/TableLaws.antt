@@ -1,194 +1,35 @@
--- Tables: how a loop fills one, what an entry says, and what a table says of the model whose table it is.
+-- Tables: what an entry says, what a table says of the model whose table it is, and what a loop puts it together from.
 use mathlib.Core.Path.{_≡_, refl, sym, ap, ap₂, _∙_}
 use mathlib.Core.Bool.{Bool, true, false, _&&_, _||_, and-false, or-true}
-use mathlib.Core.List.{List, [], _∷_, _++_, map, append-assoc, append-nil}
-use Prim.Native.Nat.{ℕ, zero, suc, _+_, _*_, _-_, _≤_, _<_, _^_}
-use native.Mathlib.Numerals.{add-one}
-use native.Mathlib.Nat.{mul-le-mul-right}
+use mathlib.Core.List.{List, [], _∷_, map}
+use Prim.Native.Nat.{ℕ, zero, suc, _+_, _-_, _≤_, _<_, _^_}
 use native.Mathlib.Omega.{arith}
 use lib.Dec.{eqb}
-use lib.ListN.{length, getD, take, set, replicate, length-append, length-map}
-use lib.Seq.{take-suc, take-suc-set, length-take-le, take-at, take-all}
+use lib.ListN.{length, getD, replicate, length-map}
 use borrow.Author.Tests.{ne-eqb}
-use Rattle.region_graph.specs.Size.{regions, most-bundles, most-connections, most-provided, most-listed, everything-sign}
+use Rattle.region_graph.specs.Size.{regions, most-bundles, most-connections, most-provided, most-listed}
 use Rattle.region_graph.specs.Lists.{exists, All, member, concat-map}
 use Rattle.region_graph.specs.Sets.{set-of}
 use Rattle.region_graph.specs.Model.{Model, Bundle, Filter, Part, Connection, Word, NumberedPart, Legal, LegalBundle, LegalFilter, LegalConnection}
 use Rattle.region_graph.specs.Items.{provided, part-of, part-passes, provides, passes, crosses}
 use Rattle.region_graph.specs.Record.{places, store-bundle, store-connection, bundle-in, connection-in, no-bundle, no-connection}
-use Rattle.region_graph.specs.Places.{ShortBundle, ShortConnection, PartStored, BundleStored, ConnectionStored}
+use Rattle.region_graph.specs.Places.{ShortBundle, ShortConnection, BundleStored, ConnectionStored}
 use Rattle.region_graph.specs.Promise.{place-of, holder-set, predecessor-sets}
 use Rattle.region_graph.specs.declared.Place.{Place}
-use Rattle.region_graph.specs.declared.numbers.Numbers.{Numbers}
 use Rattle.region_graph.specs.declared.bundles.StoredBundle.{StoredBundle}
 use Rattle.region_graph.specs.declared.connections.StoredConnection.{StoredConnection}
-use Rattle.region_graph.proofs.Lists.{exists-append, all-at, all-map, member-all, map-append, eqb-sym}
+use Rattle.region_graph.proofs.Lists.{exists-append, all-at, all-map, member-all, eqb-sym}
 use Rattle.region_graph.proofs.Bits.{set-below-lt, set-none}
-use Rattle.region_graph.proofs.Arrays.{Filled, filled-length, filled-at, filled-inside, filled-means}
-use Rattle.region_graph.proofs.Storing.{map-back, stored-as, bundle-back, connection-back, bundles-each, connections-each}
+use Rattle.region_graph.proofs.Arrays.{filled-at, filled-inside}
+use Rattle.region_graph.proofs.Storing.{stored-as, bundle-back, connection-back, bundles-each, connections-each}
 use Rattle.region_graph.proofs.Storing.{short-bundle, short-connection, short-connections}
-use Rattle.region_graph.proofs.Storing.{numbers-filled, provided-filled, packages-stored, services-stored, named-stored, listed-stored}
 use Rattle.region_routes.specs.Hooks.{item, is-installed, all-installed}
 use Rattle.region_routes.specs.Search.{RegionSets}
-use Rattle.region_routes.specs.Tables.{width, everything-number, packed, number-in, place-in, ends, source-in, target-in, most-entries}
-use Rattle.region_routes.specs.Tables.{passed, offer, passage, offers, passages, Appended, Holding, held-in, step-in, step-or, predecessors-by}
+use Rattle.region_routes.specs.Tables.{width, everything-number, packed, number-in, place-in, ends, source-in, target-in}
+use Rattle.region_routes.specs.Tables.{passed, offer, passage, offers, passages, held-in, step-in, step-or, predecessors-by}
 use Rattle.region_routes.specs.Tables.{place-at, all-placed, Tables}
 use Rattle.region_routes.proofs.SetLaws.{counted-sets}
-
--- what is put at the end of what stands in a buffer
-
-pub appended-none : {before : List ℕ} {at : ℕ} → Appended before at [] before at
-appended-none {before} {at} = record { counted = omega arith; kept = sym (append-nil (take at before)) }
-
-pub appended-one : {before : List ℕ} {at x y : ℕ} → at < length before → x ≡ y → Appended before at (y ∷ []) (set before at x) (at + 1)
-appended-one {before} {at} {x} {y} h e = record { counted = refl; kept = rw (add-one, ← e) (take-suc-set before at x h) }
-
-pub appended-then : {before mid after : List ℕ} {at j k : ℕ} {xs ys : List ℕ} → Appended before at xs mid j → Appended mid j ys after k
-    → Appended before at (xs ++ ys) after k
-appended-then {before} {mid} {after} {at} {j} {k} {xs} {ys} a b = record {
-  counted = rw length-append (omega (arith, a .counted, b .counted));
-  kept = b .kept ∙ ap (λ (l : List ℕ). l ++ ys) (a .kept) ∙ append-assoc (take at before) xs ys;
-}
-
--- a loop has put the entries of the first i numbers of a list
-pub record Appending (f : ℕ → ℕ) (xs before : List ℕ) (at i : ℕ) (out : List ℕ) (n : ℕ) : Type 0 where
-  pub upto : i ≤ length xs
-  pub long : length out ≡ length before
-  pub done : Appended before at (map f (take i xs)) out n
-
-module _ {f : ℕ → ℕ} {xs before : List ℕ} {at : ℕ} where
-  pub appending-start : Appending f xs before at 0 before at
-  appending-start = record { upto = omega arith; long = refl; done = appended-none }
-
-  module _ {i n : ℕ} {out : List ℕ} (a : Appending f xs before at i out n) where
-    pub appending-room : i < length xs → at + length (map f xs) ≤ length before → n < length out
-    appending-room l r = omega (arith, a .long, a .done .counted, length-map xs f, length-map (take i xs) f, length-take-le i xs (omega arith))
-
-    pub appending-next : {after : List ℕ} {k x : ℕ} → i < length xs → x ≡ f (getD xs i 0) → length after ≡ length before → Appended out n (x ∷ []) after k
-        → Appending f xs before at (i + 1) after k
-    appending-next l e h b = record {
-      upto = omega arith;
-      long = h;
-      done = rw (add-one, take-suc xs i 0 l, map-append, ← e) (appended-then (a .done) b);
-    }
-
-    pub appending-end : length xs ≤ i → Appended before at (map f xs) out n
-    appending-end l = rw (take-all i xs l) at (a .done)
-
--- the numbers of a list stand in its first places
-filled-within : {size count : ℕ} {items xs : List ℕ} → Filled (λ x. x) 0 size items count xs → count ≤ length items
-filled-within h = omega (arith, h .counted, h .room, filled-length h)
-
-pub packages-within : (b : StoredBundle) → BundleStored b → b .packages .count ≤ length (b .packages .items)
-packages-within b h = filled-within (provided-filled (b .packages) (packages-stored b h))
-
-pub services-within : (b : StoredBundle) → BundleStored b → b .services .count ≤ length (b .services .items)
-services-within b h = filled-within (provided-filled (b .services) (services-stored b h))
-
-pub named-within : (c : StoredConnection) → ConnectionStored c → c .bundles .count ≤ length (c .bundles .items)
-named-within c h = filled-within (numbers-filled (c .bundles) (named-stored c h))
-
-pub listed-within : (p : Numbers) → PartStored p → (p .count ≡ everything-sign → ⊥) → p .count ≤ length (p .items)
-listed-within p h e = filled-within (numbers-filled p (listed-stored p h e))
-
-pub within-long : (count : ℕ) (items : List ℕ) → count ≤ length items → count ≡ length (take count items)
-within-long count items h = sym (length-take-le count items h)
-
--- the entries of each element
-
-module _ {A : Type 0} (f : A → List ℕ) where
-  concat-append : (xs ys : List A) → concat-map f (xs ++ ys) ≡ concat-map f xs ++ concat-map f ys
-  concat-append [] ys = refl
-  concat-append (x ∷ xs) ys = ap (λ (l : List ℕ). f x ++ l) (concat-append xs ys) ∙ sym (append-assoc (f x) (concat-map f xs) (concat-map f ys))
-
-  concat-more : (xs : List A) (i : ℕ) (d : A) → i < length xs → concat-map f (take (i + 1) xs) ≡ concat-map f (take i xs) ++ f (getD xs i d)
-  concat-more xs i d h =
-      rw (add-one, take-suc xs i d h)
-      (concat-append (take i xs) (getD xs i d ∷ []) ∙ ap (λ (l : List ℕ). concat-map f (take i xs) ++ l) (append-nil (f (getD xs i d))))
-
-  -- with at most w entries of each element
-  concat-few : (w : ℕ) (xs : List A) → All (λ x. length (f x) ≤ w) xs → (i : ℕ) → length (concat-map f (take i xs)) ≤ i * w
-  concat-few w xs h zero = omega arith
-  concat-few w [] h (suc i) = omega arith
-  concat-few w (x ∷ xs) h (suc i) = rw length-append (omega (arith, h .0, concat-few w xs (h .1) i))
-
-  exists-gather : (p : ℕ → Bool) (xs : List A) → exists p (concat-map f xs) ≡ exists (λ x. exists p (f x)) xs
-  exists-gather p [] = refl
-  exists-gather p (x ∷ xs) = exists-append p (f x) (concat-map f xs) ∙ ap (λ (b : Bool). exists p (f x) || b) (exists-gather p xs)
-
-  -- tests that agree on each element
-  exists-each : (P : A → Type 0) (p q : A → Bool) → ((x : A) → P x → p x ≡ q x) → (xs : List A) → All P xs → exists p xs ≡ exists q xs
-  exists-each P p q e [] h = refl
-  exists-each P p q e (x ∷ xs) h = ap₂ _||_ (e x (h .0)) (exists-each P p q e xs (h .1))
-
--- the first places of an array hold the elements of a list, each of which has at most w entries; a table has room for those of all
-pub record Source {A B : Type 0} (store : A → B) (none : B) (size : ℕ) (out : B → A) (f : A → List ℕ) (w : ℕ)
-    (places : List B) (count : ℕ) (xs : List A) : Type 0 where
-  pub filled : Filled store none size places count xs
-  pub back : All (λ x. out (store x) ≡ x) xs
-  pub few : All (λ x. length (f x) ≤ w) xs
-  pub fits : size * w ≤ most-entries
-
--- a loop over them has put the entries of the first i elements
-pub record Gathering {A B : Type 0} (out : B → A) (f : A → List ℕ) (places : List B) (count : ℕ) (before : List ℕ)
-    (i : ℕ) (items : List ℕ) (n : ℕ) : Type 0 where
-  pub upto : i ≤ count
-  pub long : length items ≡ most-entries
-  pub done : Appended before 0 (concat-map f (take i (map out (take count places)))) items n
-
-pub gathering-start : {A B : Type 0} {out : B → A} {f : A → List ℕ} {places : List B} {count : ℕ} {before : List ℕ} → length before ≡ most-entries
-    → Gathering out f places count before 0 before 0
-gathering-start e = record { upto = omega arith; long = e; done = appended-none }
-
-module _ {A B : Type 0} {store : A → B} {none : B} {size w : ℕ} {out : B → A} {f : A → List ℕ} {places : List B} {count : ℕ} {xs : List A}
-    (s : Source store none size out f w places count xs) where
-  source-read : map out (take count places) ≡ xs
-  source-read =
-      rw (s .filled .shape, s .filled .counted)
-      (ap (map out) (take-at (map store xs) (replicate (size - length xs) none) (length xs) (length-map xs store)) ∙ map-back store out xs (s .back))
-
-  module _ {before items : List ℕ} {i n : ℕ} (g : Gathering out f places count before i items n) where
-    put : Appended before 0 (concat-map f (take i xs)) items n
-    put = rw source-read at (g .done)
-
-    module _ (e : B) (d : A) (l : i < count) where
-      pub gathering-room : n + length (f (out (getD places i e))) ≤ length items
-      gathering-room =
-          let here = filled-inside (s .filled) i l in
-          let within : suc i ≤ size = omega (arith, here, s .filled .room) in
-          rw (filled-means (s .filled) out (s .back) i e d l)
-          (omega (
-            arith,
-            put .counted,
-            g .long,
-            concat-few f w xs (s .few) i,
-            all-at (λ x. length (f x) ≤ w) xs i d here (s .few),
-            mul-le-mul-right w within,
-            s .fits,
-          ))
-
-      pub gathering-next : {after : List ℕ} {k : ℕ} → length after ≡ length items → Appended items n (f (out (getD places i e))) after k
-          → Gathering out f places count before (i + 1) after k
-      gathering-next h a = record {
-        upto = omega arith;
-        long = h ∙ g .long;
-        done =
-            rw (source-read, concat-more f xs i d (filled-inside (s .filled) i l), ← filled-means (s .filled) out (s .back) i e d l) (appended-then put a);
-      }
-
-    pub gathering-end : count ≤ i → Holding (concat-map f xs) items n
-    gathering-end l =
-        let within : i ≤ size = omega (arith, g .upto, s .filled .counted, s .filled .room) in
-        let m : n ≤ most-entries = omega (arith, put .counted, concat-few f w xs (s .few) i, mul-le-mul-right w within, s .fits) in
-        record { few = m; room = omega (arith, m, g .long); table = put .kept ∙ ap (concat-map f) (take-all i xs (omega (arith, s .filled .counted))) }
-
--- the part of an array that holds a table
-module _ {xs items : List ℕ} {count : ℕ} (h : Holding xs items count) where
-  pub holding-long : count ≡ length (take count items)
-  holding-long = sym (length-take-le count items (h .room))
-
-  pub holding-few : length (take count items) ≤ most-entries
-  holding-few = omega (arith, h .few, holding-long)
+use Rattle.region_routes.proofs.TableLoops.{Source, Gathering, gathering-room}
 
 -- what an entry says
 
@@ -207,6 +48,17 @@ module _ {a b : ℕ} (h : a < regions) (k : b < regions) where
 
   packed-target : (n : ℕ) → target-in (packed n (ends a b)) ≡ b
   packed-target n = rw (packed-place n (ends a b) (omega arith)) (omega arith)
+
+-- tests of the entries of each element
+module _ {A : Type 0} (f : A → List ℕ) where
+  exists-gather : (p : ℕ → Bool) (xs : List A) → exists p (concat-map f xs) ≡ exists (λ x. exists p (f x)) xs
+  exists-gather p [] = refl
+  exists-gather p (x ∷ xs) = exists-append p (f x) (concat-map f xs) ∙ ap (λ (b : Bool). exists p (f x) || b) (exists-gather p xs)
+
+  -- tests that agree on each element
+  exists-each : (P : A → Type 0) (p q : A → Bool) → ((x : A) → P x → p x ≡ q x) → (xs : List A) → All P xs → exists p xs ≡ exists q xs
+  exists-each P p q e [] h = refl
+  exists-each P p q e (x ∷ xs) h = ap₂ _||_ (e x (h .0)) (exists-each P p q e xs (h .1))
 
 -- a test that a fixed one and one of each element make up
 both : (a b c : Bool) → ((a && b) || (a && c)) ≡ (a && (b || c))
@@ -366,26 +218,29 @@ module _ (m : Model) (h : Legal m) where
       fits = omega arith;
     }
 
-  -- each is stored in the one way, and a connection's ends are regions
-  module _ {items : List StoredBundle} {count : ℕ} (f : Filled store-bundle (store-bundle no-bundle) most-bundles items count (m .bundles)) where
-    pub bundle-placed : (i : ℕ) (e : StoredBundle) → i < count → BundleStored (getD items i e)
-    bundle-placed i e l =
-        stored-as store-bundle bundle-in ShortBundle (λ b s. bundle-back b) (getD (m .bundles) i no-bundle) (filled-at f i e no-bundle l)
-        (short-bundle (all-at (LegalBundle (m .regions)) (m .bundles) i no-bundle (filled-inside f i l) (h .bundles-legal .each)))
+    -- what is asked of the place of which entries are put: it is stored in the one way, a connection's ends are regions, and there is room
+    pub offers-asked : {items : List StoredBundle} {count : ℕ} {before out : List ℕ} {i n : ℕ} → OffersFrom items count
+        → Gathering bundle-in (offer k) items count before i out n → (e : StoredBundle) → i < count
+        → BundleStored (getD items i e) × (n + length (offer k (bundle-in (getD items i e))) ≤ length out)
+    offers-asked {i = i} s g e l =
+        let f = s .filled in
+        let b = getD (m .bundles) i no-bundle in (
+          stored-as store-bundle bundle-in ShortBundle (λ b s. bundle-back b) b (filled-at f i e no-bundle l)
+              (short-bundle (all-at (LegalBundle (m .regions)) (m .bundles) i no-bundle (filled-inside f i l) (h .bundles-legal .each))),
+          gathering-room s g e no-bundle l,
+        )
 
-  module _ {items : List StoredConnection} {count : ℕ}
-      (f : Filled store-connection (store-connection no-connection) most-connections items count (m .connections))
-      (i : ℕ) (e : StoredConnection) (l : i < count) where
-    connection-legal : LegalConnection (m .regions) (getD (m .connections) i no-connection)
-    connection-legal = all-at (LegalConnection (m .regions)) (m .connections) i no-connection (filled-inside f i l) (h .connections-legal .each)
-
-    pub connection-placed : ConnectionStored (getD items i e)
-    connection-placed =
-        stored-as store-connection connection-in ShortConnection connection-back (getD (m .connections) i no-connection) (filled-at f i e no-connection l)
-        (short-connection connection-legal)
-
-    pub connection-ends : (getD items i e .source < regions) × (getD items i e .target < regions)
-    connection-ends = rw (filled-at f i e no-connection l) (source-inside connection-legal, target-inside connection-legal)
+    pub passages-asked : {items : List StoredConnection} {count : ℕ} {before out : List ℕ} {i n : ℕ} → PassagesFrom items count
+        → Gathering connection-in (passage k) items count before i out n → (e : StoredConnection) → i < count
+        → ConnectionStored (getD items i e) × (((getD items i e .source < regions) × (getD items i e .target < regions))
+        × (n + length (passage k (connection-in (getD items i e))) ≤ length out))
+    passages-asked {i = i} s g e l =
+        let f = s .filled in
+        let c = getD (m .connections) i no-connection in
+        let legal = all-at (LegalConnection (m .regions)) (m .connections) i no-connection (filled-inside f i l) (h .connections-legal .each) in (
+          stored-as store-connection connection-in ShortConnection connection-back c (filled-at f i e no-connection l) (short-connection legal),
+          (rw (filled-at f i e no-connection l) (source-inside {c = c} legal, target-inside {c = c} legal), gathering-room s g e no-connection l),
+        )
 
 -- the places in the table of the bundles are the regions of the locations
 pub place-table : {m : Model} → Legal m → {es : List ℕ} → es ≡ offers 0 (m .bundles) → (l : ℕ) → place-at es l ≡ place-of (m .bundles) l

@@ -8,9 +8,10 @@ use Rattle.region_graph.specs.Sets.{set-of}
 use Rattle.region_graph.specs.Record.{meaning}
 use Rattle.region_routes.specs.Chosen.{sees}
 use Rattle.region_routes.specs.Hooks.{item, kind-number, kept-outcome, all-installed}
-use Rattle.region_routes.proofs.TableLaws.{holding-long, holding-few, place-table, placed-installed}
+use Rattle.region_routes.proofs.TableLoops.{holding-long, holding-few}
+use Rattle.region_routes.proofs.TableLaws.{place-table, placed-installed}
 use Rattle.region_routes.proofs.Judging.{keep-stands}
-use Rattle.region_routes.proofs.Answering.{event-outside, event-cramped, event-answers}
+use Rattle.region_routes.proofs.Answering.{event-not-installed, event-no-place, event-answers}
 use Rattle.region_routes.proofs.hooks.event.Statement.{statement}
 use Rattle.region_routes.proofs.hooks.event.Tie as tie
 
@@ -31,12 +32,12 @@ installed c = asked (c .before) ∙ not-false _ (c .if1 .left)
 returns : tie.Need-returns
 returns c =
     let s = c .before .before .before .before .before .before .before .before .before .before .before .args in
-    event-outside (meaning (s .graph)) (s .kind) (s .listeners .now) (s .number) (s .out .now) (asked (c .before) ∙ not-true _ (c .if1 .taken))
+    event-not-installed (meaning (s .graph)) (s .kind) (s .listeners .now) (s .number) (s .out .now) (asked (c .before) ∙ not-true _ (c .if1 .taken))
 
 returns-2 : tie.Need-returns-2
 returns-2 c =
     let s = c .before .before .before .before .before .before .before .before .before .before .before .before .args in
-    event-cramped (meaning (s .graph)) (s .kind) (s .listeners .now) (s .number) (s .out .now) (installed (c .before)) (c .if2 .taken)
+    event-no-place (meaning (s .graph)) (s .kind) (s .listeners .now) (s .number) (s .out .now) (installed (c .before)) (c .if2 .taken)
 
 returns-3 : tie.Need-returns-3
 returns-3 c =

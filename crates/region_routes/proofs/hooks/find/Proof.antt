@@ -11,7 +11,7 @@ use Rattle.region_routes.specs.Chosen.{sees}
 use Rattle.region_routes.specs.Hooks.{Outcome, item, kind-number, kept-outcome, find-outcome}
 use Rattle.region_routes.specs.declared.Kept.{Kept}
 use Rattle.region_routes.proofs.Judging.{region-inside}
-use Rattle.region_routes.proofs.Answering.{find-outside, find-cramped, find-answers}
+use Rattle.region_routes.proofs.Answering.{find-not-installed, find-no-place, find-answers}
 use Rattle.region_routes.proofs.hooks.find.Statement.{statement}
 use Rattle.region_routes.proofs.hooks.find.Tie as tie
 
@@ -37,13 +37,13 @@ answers c a e =
 returns : tie.Need-returns
 returns c =
     let s = c .before .before .before .before .before .args in
-    find-outside (meaning (s .graph)) (s .kind) (s .location) (s .candidates .now) (s .out .now)
+    find-not-installed (meaning (s .graph)) (s .kind) (s .location) (s .candidates .now) (s .out .now)
     (sym (c .before .before .region-of .ensures) ∙ c .enum-told .given .1)
 
 returns-2 : tie.Need-returns-2
 returns-2 c =
     let s = c .before .before .before .before .before .before .before .args in
-    find-cramped (meaning (s .graph)) (s .kind) (s .location) (s .candidates .now) (s .out .now) (place (c .before)) (c .if1 .taken)
+    find-no-place (meaning (s .graph)) (s .kind) (s .location) (s .candidates .now) (s .out .now) (place (c .before)) (c .if1 .taken)
 
 pub find-spec : {M : Type 1} → statement M
 find-spec =

@@ -2,7 +2,7 @@ use borrow.Author.Needs.{needs}
 use mathlib.Core.Path.{refl}
 use Rattle.region_graph.specs.Record.{meaning}
 use Rattle.region_routes.specs.Hooks.{kind-number}
-use Rattle.region_routes.proofs.TableLaws.{holding-long, holding-few}
+use Rattle.region_routes.proofs.TableLoops.{holding-long, holding-few}
 use Rattle.region_routes.proofs.hooks.keep_many.Statement.{statement}
 use Rattle.region_routes.proofs.hooks.keep_many.Tie as tie
 

@@ -15,7 +15,7 @@ use Rattle.region_routes.specs.Chosen.{chosen}
 use Rattle.region_routes.specs.Hooks.{Outcome, item, shown, route-outcome}
 use Rattle.region_routes.specs.declared.Routed.{Routed}
 use Rattle.region_routes.proofs.Judging.{region-inside, predecessors-sets, unreached, reached-layer, walkable, walked-chosen}
-use Rattle.region_routes.proofs.Answering.{route-outside, route-unknown, route-cramped, route-answers}
+use Rattle.region_routes.proofs.Answering.{route-not-installed, route-not-a-kind, route-no-place, route-answers}
 use Rattle.region_routes.proofs.routes.route.Statement.{statement}
 use Rattle.region_routes.proofs.routes.route.Tie as tie
 
@@ -50,17 +50,18 @@ answers c e =
 returns : tie.Need-returns
 returns c =
     let s = c .before .before .before .before .args in
-    route-outside (meaning (s .graph)) (s .location) (s .kind) (s .number) (s .out .now) (sym (c .before .before .region-of .ensures) ∙ c .enum-told .given .1)
+    route-not-installed (meaning (s .graph)) (s .location) (s .kind) (s .number) (s .out .now)
+    (sym (c .before .before .region-of .ensures) ∙ c .enum-told .given .1)
 
 returns-2 : tie.Need-returns-2
 returns-2 c =
     let s = c .before .before .before .before .before .before .args in
-    route-unknown (meaning (s .graph)) (s .location) (s .kind) (s .number) (s .out .now) (place (c .before)) (c .if1 .taken)
+    route-not-a-kind (meaning (s .graph)) (s .location) (s .kind) (s .number) (s .out .now) (place (c .before)) (c .if1 .taken)
 
 returns-3 : tie.Need-returns-3
 returns-3 c =
     let s = c .before .before .before .before .before .before .before .args in
-    route-cramped (meaning (s .graph)) (s .location) (s .kind) (s .number) (s .out .now) (place (c .before .before)) (c .before .if1 .left) (c .if2 .taken)
+    route-no-place (meaning (s .graph)) (s .location) (s .kind) (s .number) (s .out .now) (place (c .before .before)) (c .before .if1 .left) (c .if2 .taken)
 
 returns-4 : tie.Need-returns-4
 returns-4 c =

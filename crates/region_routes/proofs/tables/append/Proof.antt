@@ -4,7 +4,7 @@ use native.Mathlib.Omega.{arith}
 use borrow.Author.Needs.{needs}
 use lib.ListN.{length}
 use Rattle.region_routes.specs.Tables.{packed}
-use Rattle.region_routes.proofs.TableLaws.{Appending, appending-start, appending-room, appending-next, appending-end}
+use Rattle.region_routes.proofs.TableLoops.{Appending, appending-start, appending-room, appending-next, appending-end}
 use Rattle.region_routes.proofs.tables.append.Statement.{statement}
 use Rattle.region_routes.proofs.tables.append.Tie as tie
 

@@ -1,7 +1,7 @@
 use borrow.Author.Needs.{needs}
 use native.Mathlib.Omega.{arith}
 use Rattle.region_graph.specs.Record.{provided-of}
-use Rattle.region_routes.proofs.TableLaws.{packages-within, services-within, within-long}
+use Rattle.region_routes.proofs.TableLoops.{packages-within, services-within, within-long}
 use Rattle.region_routes.proofs.tables.append_offer.Statement.{statement}
 use Rattle.region_routes.proofs.tables.append_offer.Tie as tie
 

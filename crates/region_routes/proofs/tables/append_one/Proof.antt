@@ -2,7 +2,7 @@ use borrow.Author.Needs.{needs}
 use mathlib.Core.Path.{ap}
 use Prim.Native.Nat.{ℕ, _+_, _*_}
 use Rattle.region_routes.specs.Tables.{width}
-use Rattle.region_routes.proofs.TableLaws.{appended-one}
+use Rattle.region_routes.proofs.TableLoops.{appended-one}
 use Rattle.region_routes.proofs.tables.append_one.Statement.{statement}
 use Rattle.region_routes.proofs.tables.append_one.Tie as tie
 

@@ -2,7 +2,7 @@ use borrow.Author.Needs.{needs}
 use borrow.Author.Tests.{eq-eqb, ne-eqb}
 use native.Mathlib.Omega.{arith}
 use Rattle.region_graph.specs.Record.{numbers-of}
-use Rattle.region_routes.proofs.TableLaws.{listed-within, within-long}
+use Rattle.region_routes.proofs.TableLoops.{listed-within, within-long}
 use Rattle.region_routes.proofs.tables.append_part.Statement.{statement}
 use Rattle.region_routes.proofs.tables.append_part.Tie as tie
 

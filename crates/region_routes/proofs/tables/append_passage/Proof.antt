@@ -1,7 +1,7 @@
 use borrow.Author.Needs.{needs}
 use Rattle.region_graph.specs.Record.{numbers-of}
 use Rattle.region_graph.proofs.Storing.{package-part-stored, service-part-stored}
-use Rattle.region_routes.proofs.TableLaws.{named-within, within-long}
+use Rattle.region_routes.proofs.TableLoops.{named-within, within-long}
 use Rattle.region_routes.proofs.tables.append_passage.Statement.{statement}
 use Rattle.region_routes.proofs.tables.append_passage.Tie as tie
 

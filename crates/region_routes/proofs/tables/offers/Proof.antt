@@ -5,8 +5,8 @@ use borrow.Author.Needs.{needs}
 use Rattle.region_graph.specs.Record.{meaning, bundle-in, no-bundle}
 use Rattle.region_routes.specs.Hooks.{kind-number}
 use Rattle.region_routes.specs.Tables.{offer}
-use Rattle.region_routes.proofs.TableLaws.{Gathering, gathering-start, gathering-room, gathering-next, gathering-end}
-use Rattle.region_routes.proofs.TableLaws.{OffersFrom, offers-from, bundle-placed}
+use Rattle.region_routes.proofs.TableLoops.{Gathering, gathering-start, gathering-next, gathering-end}
+use Rattle.region_routes.proofs.TableLaws.{OffersFrom, offers-from, offers-asked}
 use Rattle.region_routes.proofs.tables.offers.Statement.{statement}
 use Rattle.region_routes.proofs.tables.offers.Tie as tie
 
@@ -26,10 +26,8 @@ append-offer-requires : tie.Need-append-offer-requires Inv-loop μ-loop
 append-offer-requires c κs =
     let t = c .before .before in
     let s = t .before .before .before .before .before in
-    let f = from (t .before .before) in (
-      bundle-placed (meaning (s .args .graph)) (s .pre .0 .good) (f .filled) (t .before .loop .i) _ (t .loop-test .taken),
-      gathering-room f (t .before .loop .inv) _ no-bundle (t .loop-test .taken),
-    )
+    offers-asked (meaning (s .args .graph)) (s .pre .0 .good) (kind-number (s .args .kind)) (from (t .before .before)) (t .before .loop .inv) _
+    (t .loop-test .taken)
 
 loop-again : tie.Need-loop-again Inv-loop μ-loop
 loop-again c =
@@ -39,9 +37,7 @@ loop-again c =
 pub offers-spec : {M : Type 1} → statement M
 offers-spec =
     tie.close
-    (tie.spec Inv-loop μ-loop
-    (λ c κs. c .before .pre .0)
-    (λ c κs. c .before .before .pre .0)
+    (tie.spec Inv-loop μ-loop (λ c κs. c .before .pre .0) (λ c κs. c .before .before .pre .0)
     (λ c. gathering-start (c .before .before .before .pre .1))
     (λ c. search needs) (λ c. search needs) (λ c. search needs)
     append-offer-requires

@@ -5,8 +5,8 @@ use borrow.Author.Needs.{needs}
 use Rattle.region_graph.specs.Record.{meaning, connection-in, no-connection}
 use Rattle.region_routes.specs.Hooks.{kind-number}
 use Rattle.region_routes.specs.Tables.{passage}
-use Rattle.region_routes.proofs.TableLaws.{Gathering, gathering-start, gathering-room, gathering-next, gathering-end}
-use Rattle.region_routes.proofs.TableLaws.{PassagesFrom, passages-from, connection-placed, connection-ends}
+use Rattle.region_routes.proofs.TableLoops.{Gathering, gathering-start, gathering-next, gathering-end}
+use Rattle.region_routes.proofs.TableLaws.{PassagesFrom, passages-from, passages-asked}
 use Rattle.region_routes.proofs.tables.passages.Statement.{statement}
 use Rattle.region_routes.proofs.tables.passages.Tie as tie
 
@@ -28,22 +28,14 @@ from c =
 append-passage-requires : tie.Need-append-passage-requires Inv-loop μ-loop
 append-passage-requires c κs =
     let t = c .before .before in
-    let m = meaning (t .before .before .before .before .before .args .graph) in
-    let g = t .before .before .before .before .before .pre .0 .good in
-    let f = from (t .before .before) in (
-      connection-placed m g (f .filled) (t .before .loop .i) _ (t .loop-test .taken),
-      (
-        connection-ends m g (f .filled) (t .before .loop .i) _ (t .loop-test .taken),
-        gathering-room f (t .before .loop .inv) _ no-connection (t .loop-test .taken),
-      ),
-    )
+    let s = t .before .before .before .before .before in
+    passages-asked (meaning (s .args .graph)) (s .pre .0 .good) (kind-number (s .args .kind)) (from (t .before .before)) (t .before .loop .inv) _
+    (t .loop-test .taken)
 
 pub passages-spec : {M : Type 1} → statement M
 passages-spec =
     tie.close
-    (tie.spec Inv-loop μ-loop
-    (λ c κs. c .before .pre .0)
-    (λ c κs. c .before .before .pre .0)
+    (tie.spec Inv-loop μ-loop (λ c κs. c .before .pre .0) (λ c κs. c .before .before .pre .0)
     (λ c. gathering-start (c .before .before .before .pre .1))
     (λ c. search needs) (λ c. search needs) (λ c. search needs)
     append-passage-requires

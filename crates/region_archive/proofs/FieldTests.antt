@@ -39,5 +39,6 @@ module _ {s : Section} (x a : ℕ) where
     pub second-bundle : s ≡ Section.Bundles → {t : Bool} → t ≡ has x b → t ≡ (ends-differ s a b && member b (members x))
     second-bundle f = second-has x b (ap (λ (t : Section). ends-differ t a b) f)
 
-    pub second-connection : s ≡ Section.Connections → (a ≡ b → ⊥) → {t : Bool} → t ≡ has x b → t ≡ (ends-differ s a b && member b (members x))
+    pub second-connection : s ≡ Section.Connections → (a ≡ b → ⊥) → {t : Bool} → t ≡ has x b
+        → t ≡ (ends-differ s a b && member b (members x))
     second-connection f g = second-has x b (ap (λ (t : Section). ends-differ t a b) f ∙ ap not (ne-eqb a b g))

@@ -28,9 +28,4 @@ front-spec =
     tie.close
     (tie.spec
     (λ c. front-short (c .before .before .args .bytes .now) (c .if1 .taken))
-    (λ c κs. search needs)
-    returns-2
-    (λ c κs. search needs)
-    (λ c. search needs)
-    returns-3
-    returns-4)
+    (λ c κs. search needs) returns-2 (λ c κs. search needs) (λ c. search needs) returns-3 returns-4)

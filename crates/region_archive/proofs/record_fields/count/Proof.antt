@@ -16,9 +16,6 @@ pub count-spec : {M : Type 1} → statement M
 count-spec =
     tie.close
     (tie.spec
-    (λ c. search needs)
-    (λ c κs. search needs)
-    (λ c. search needs)
-    (λ c κs. search needs)
+    (λ c. search needs) (λ c κs. search needs) (λ c. search needs) (λ c κs. search needs)
     (λ c. c .bundle-count .ensures ∙ by-section (c .before .before .before) (c .before .enum-told .given .1))
     (λ c. c .connection-count .ensures ∙ by-section (c .before .before .before) (c .before .enum-told2 .given .1)))

@@ -37,12 +37,5 @@ pub second-good-spec : {M : Type 1} → statement M
 second-good-spec =
     tie.close
     (tie.spec
-    (λ c κs. search needs)
-    returns
-    (λ c. search needs)
-    (λ c κs. search needs)
-    (λ c. search needs)
-    returns-2
-    (λ c κs. search needs)
-    returns-3
+    (λ c κs. search needs) returns (λ c. search needs) (λ c κs. search needs) (λ c. search needs) returns-2 (λ c κs. search needs) returns-3
     returns-4)

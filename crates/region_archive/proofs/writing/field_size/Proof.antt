@@ -32,11 +32,8 @@ pub field-size-spec : {M : Type 1} → statement M
 field-size-spec =
     tie.close
     (tie.spec
-    (λ c κs. search needs)
-    (λ c. search needs)
+    (λ c κs. search needs) (λ c. search needs)
     (λ c. omega (arith, few-fields (c .before .args .section), c .before .pre .1))
     (λ c. omega (arith, few-fields (c .before .args .section), c .before .pre .1))
     (λ c κs. let s = c .before .before in all-at PartFits (s .args .t3 .parts) _ _ (inside s) (s .pre .0 .each))
-    returns
-    (λ c. search needs)
-    returns-3)
+    returns (λ c. search needs) returns-3)

@@ -44,13 +44,7 @@ pub fields-size-spec : {M : Type 1} → statement M
 fields-size-spec =
     tie.close
     (tie.spec
-    Inv-loop
-    μ-loop
-    (λ c κs. search needs)
-    (λ c. search needs)
+    Inv-loop μ-loop (λ c κs. search needs) (λ c. search needs)
     (λ c κs. (c .before .before .before .pre, omega (arith, c .before .before .field-count .ensures)))
     (λ c. omega (arith, few (c .before .before .before), c .field-size .ensures .1))
-    (λ c. search needs)
-    (λ c. search needs)
-    loop-again
-    returns)
+    (λ c. search needs) (λ c. search needs) loop-again returns)

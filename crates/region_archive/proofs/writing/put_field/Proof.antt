@@ -23,7 +23,8 @@ inside s = omega (arith, few-fields (s .args .section), s .pre .1 .0, s .pre .0 
 
 -- and its bytes are the field's
 part-is : (s : tie.Start) → 2 ≤ s .args .field → (d : Numbers)
-    → field-bytes (s .args .section) (s .args .field) (fields-in (s .args .t5)) ≡ part-bytes (big 4) (part-in (getD (s .args .t5 .parts) (s .args .field - 2) d))
+    → field-bytes (s .args .section) (s .args .field) (fields-in (s .args .t5))
+    ≡ part-bytes (big 4) (part-in (getD (s .args .t5 .parts) (s .args .field - 2) d))
 part-is s h d = part-field (s .args .section) (s .args .t5) (s .args .field) d h (inside s)
 
 put-number-requires : tie.Need-put-number-requires
@@ -49,7 +50,8 @@ returns c =
     let m = c .before .before .before .before .before in
     let s = m .before .before in
     let e = first-field (s .args .section) (fields-in (s .args .t5)) (m .match .keys1) in
-    wrote-is (ap (λ (w : ℕ). big w (s .args .t5 .first)) (c .before .before .before .before .first-width .ensures) ∙ sym e) (c .before .before .put-number .ensures)
+    let w = c .before .before .before .before .first-width .ensures in
+    wrote-is (ap (λ (n : ℕ). big n (s .args .t5 .first)) w ∙ sym e) (c .before .before .put-number .ensures)
 
 returns-2 : tie.Need-returns-2
 returns-2 c =
@@ -64,12 +66,7 @@ pub put-field-spec : {M : Type 1} → statement M
 put-field-spec =
     tie.close
     (tie.spec
-    (λ c. search needs)
-    (λ c κs. search needs)
-    put-number-requires
-    (λ c. search needs)
-    put-number-requires-2
-    (λ c. search needs)
+    (λ c. search needs) (λ c κs. search needs) put-number-requires (λ c. search needs) put-number-requires-2 (λ c. search needs)
     (λ c. omega (arith, few-fields (c .before .before .args .section), c .before .before .pre .1 .0))
     (λ c. omega (arith, few-fields (c .before .before .args .section), c .before .before .pre .1 .0))
     put-part-requires

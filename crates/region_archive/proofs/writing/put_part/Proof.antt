@@ -37,7 +37,6 @@ put-part-spec =
     (tie.spec
     put-number-requires
     (λ c. wrote-length (c .before .before .put-number .ensures))
-    returns
-    put-list-requires
+    returns put-list-requires
     (λ c. wrote-length (c .before .before .put-list .ensures))
     returns-2)

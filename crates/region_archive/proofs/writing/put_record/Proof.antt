@@ -65,15 +65,10 @@ pub put-record-spec : {M : Type 1} → statement M
 put-record-spec =
     tie.close
     (tie.spec
-    Inv-loop
-    μ-loop
+    Inv-loop μ-loop
     (λ c κs. c .before .pre .0)
-    (λ c κs. search needs)
-    (λ c κs. search needs)
+    (λ c κs. search needs) (λ c κs. search needs)
     (λ c. (omega arith, wrote-start (c .before .before .put-number .ensures)))
-    put-field-requires
-    (λ c. search needs)
-    (λ c. search needs)
-    loop-again
+    put-field-requires (λ c. search needs) (λ c. search needs) loop-again
     (λ c. wrote-length (c .before .loop .inv .1) ∙ wrote-length (put-size (c .before) .put-number .ensures))
     returns)

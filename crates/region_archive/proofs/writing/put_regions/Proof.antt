@@ -74,20 +74,9 @@ pub put-regions-spec : {M : Type 1} → statement M
 put-regions-spec =
     tie.close
     (tie.spec
-    Inv-loop
-    μ-loop
-    (λ c κs. search needs)
-    (λ c κs. search needs)
-    (λ c κs. search needs)
+    Inv-loop μ-loop (λ c κs. search needs) (λ c κs. search needs) (λ c κs. search needs)
     (λ c. (omega arith, wrote-start (c .before .before .put-number .ensures)))
-    (λ c. search needs)
-    (λ c κs. search needs)
-    (λ c. search needs)
-    (λ c. search needs)
-    put-number-requires-2
-    (λ c. search needs)
-    loop-again
-    (λ c. search needs)
-    loop-again-2
+    (λ c. search needs) (λ c κs. search needs) (λ c. search needs) (λ c. search needs) put-number-requires-2 (λ c. search needs) loop-again
+    (λ c. search needs) loop-again-2
     (λ c. wrote-length (c .before .loop .inv .1) ∙ wrote-length (put-count (c .before) .put-number .ensures))
     returns)

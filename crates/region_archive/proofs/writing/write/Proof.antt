@@ -129,9 +129,7 @@ pub write-spec : {M : Type 1} → statement M
 write-spec =
     tie.close
     (tie.spec
-    (λ c κs. search needs)
-    (λ c κs. search needs)
-    (λ c κs. search needs)
+    (λ c κs. search needs) (λ c κs. search needs) (λ c κs. search needs)
     (λ c. omega (arith, few c))
     (λ c. omega (arith, few c))
     (λ c. omega (arith, few c))
@@ -141,8 +139,4 @@ write-spec =
     (λ c κs.
     let v = c .before in
     wrote-leaves (v .before .before .put-number .ensures) 4 (omega (arith, fits (sized v))))
-    put-regions-requires
-    put-section-requires
-    put-section-requires-2
-    same-length
-    returns-2)
+    put-regions-requires put-section-requires put-section-requires-2 same-length returns-2)

@@ -128,8 +128,8 @@ module _ {s : List ℕ} {at : ℕ} {list : List ℕ} {x : RegionsAt} (a : Region
         }
 
 -- the graph of these lists is the body's
-pub body-made : {s : List ℕ} {at : ℕ} {rl bl cl : List ℕ} {end : ℕ} → Sections s at rl bl cl end → end ≡ length s → {r : Changed} → Made rl bl cl r
-    → BodyRead s at r
+pub body-made : {s : List ℕ} {at : ℕ} {rl bl cl : List ℕ} {end : ℕ} → Sections s at rl bl cl end → end ≡ length s
+    → {r : Changed} → Made rl bl cl r → BodyRead s at r
 body-made {s} {at} {rl} {bl} {cl} t e d =
     let g = flat-made rl bl cl (t .model) (t .parsed .is-good) (t .flat) d in
     whole (t .model) (subst (λ (n : ℕ). Parsed Legal body s at (t .model) n) e (t .parsed)) (g .number) (g .valid) (g .means)

@@ -25,7 +25,10 @@ mod-step m p h =
   where
     whole : m ≡ m / p % 256 * p + m % p + m / p / 256 * (p * 256)
     whole =
-        let e : m / p * p ≡ m / p / 256 * (p * 256) + m / p % 256 * p = ap (λ (n : ℕ). n * p) (sym (div-add-mod' (m / p) 256)) ∙ add-mul (m / p / 256 * 256) (m / p % 256) p ∙ ap (λ (n : ℕ). n + m / p % 256 * p) (mul-assoc (m / p / 256) 256 p ∙ ap (λ (n : ℕ). m / p / 256 * n) (mul-comm 256 p)) in
+        let a = m / p / 256 in
+        let b = m / p % 256 in
+        let c : a * 256 * p ≡ a * (p * 256) = mul-assoc a 256 p ∙ ap (λ (n : ℕ). a * n) (mul-comm 256 p) in
+        let e : m / p * p ≡ a * 256 * p + b * p = ap (λ (n : ℕ). n * p) (sym (div-add-mod' (m / p) 256)) ∙ add-mul (a * 256) b p in
         omega (arith, div-add-mod' m p)
 
     small : m / p % 256 * p + m % p < p * 256
@@ -42,7 +45,8 @@ pub big-mod : (w m n : ℕ) {r t : List ℕ} → big w m ++ r ≡ big w n ++ t �
 big-mod zero m n e = (mod-one m ∙ sym (mod-one n), e)
 big-mod (suc w) m n e =
     let h = big-mod w m n (tail-same e) in
-    (rw pow-suc (mod-step m (256 ^ w) (pow-pos w) ∙ ap (λ (k : ℕ). k * 256 ^ w + m % 256 ^ w) (head-same e) ∙ ap (λ (k : ℕ). n / 256 ^ w % 256 * 256 ^ w + k) (h .0) ∙ sym (mod-step n (256 ^ w) (pow-pos w))), h .1)
+    let p = 256 ^ w in
+    (rw pow-suc (mod-step m p (pow-pos w) ∙ (λ i. head-same e i * p + h .0 i) ∙ sym (mod-step n p (pow-pos w))), h .1)
 
 -- numbers of one width
 pub big-same : (w : ℕ) → Delimits (λ n. n < 256 ^ w) (big w) _≡_
@@ -51,11 +55,15 @@ big-same w m n r t h k e =
     (sym (mod-eq-of-lt h) ∙ f .0 ∙ mod-eq-of-lt k, f .1)
 
 -- a length in front
-pub sized-same : {A : Type 0} (w : ℕ) (good : A → Type 0) (bytes : A → List ℕ) (same : A → A → Type 0) → Delimits good bytes same → Delimits good (sized w bytes) same
+pub sized-same : {A : Type 0} (w : ℕ) (good : A → Type 0) (bytes : A → List ℕ) (same : A → A → Type 0) → Delimits good bytes same
+    → Delimits good (sized w bytes) same
 sized-same w good bytes same d x y r t h k e =
-    d x y r t h k (big-mod w (length (bytes x)) (length (bytes y)) (sym (append-assoc (big w (length (bytes x))) (bytes x) r) ∙ e ∙ append-assoc (big w (length (bytes y))) (bytes y) t) .1)
+    let m = length (bytes x) in
+    let n = length (bytes y) in
+    d x y r t h k (big-mod w m n (sym (append-assoc (big w m) (bytes x) r) ∙ e ∙ append-assoc (big w n) (bytes y) t) .1)
 
 -- bytes that are cut short
-pub unparsed-short : {A : Type 0} (good : A → Type 0) (bytes : A → List ℕ) (w : ℕ) → ((x : A) → w ≤ length (bytes x)) → (s : List ℕ) (at : ℕ) → length s - at < w → Unparsed good bytes s at
+pub unparsed-short : {A : Type 0} (good : A → Type 0) (bytes : A → List ℕ) (w : ℕ) → ((x : A) → w ≤ length (bytes x)) → (s : List ℕ) (at : ℕ)
+    → length s - at < w → Unparsed good bytes s at
 unparsed-short good bytes w h s at k x r g e =
     omega (arith, h x, sym (length-drop at s) ∙ ap length e ∙ length-append (bytes x) r)

@@ -41,14 +41,17 @@ pub record Digits (s : List ℕ) (at i n : ℕ) : Type 0 where
 pub digits-none : (s : List ℕ) (at : ℕ) → Digits s at 0 0
 digits-none s at = record { small = omega arith; shape = rw add-zero refl }
 
-pub digits-more : {s : List ℕ} {at i n : ℕ} → Digits s at i n → at + i < length s → {b : ℕ} → b ≡ getD s (at + i) 0 → b < 256 → Digits s at (i + 1) (n * 256 + b)
+pub digits-more : {s : List ℕ} {at i n : ℕ} → Digits s at i n → at + i < length s → {b : ℕ} → b ≡ getD s (at + i) 0 → b < 256
+    → Digits s at (i + 1) (n * 256 + b)
 digits-more {s} {at} {i} {n} d h {b} e k =
     record {
       small = rw add-one (small-snoc i n b (d .small) k);
       shape =
+          let rest = drop (at + (i + 1)) s in
           let f : at + i + 1 ≡ at + (i + 1) = omega arith in
-          d .shape ∙ ap (λ (l : List ℕ). big i n ++ l) (drop-byte s (at + i) h ∙ ap (λ (m : ℕ). m ∷ drop (at + i + 1) s) (sym e) ∙ ap (λ (m : ℕ). b ∷ drop m s) f)
-          ∙ sym (append-assoc (big i n) (b ∷ []) (drop (at + (i + 1)) s)) ∙ ap (λ (l : List ℕ). l ++ drop (at + (i + 1)) s) (sym (big-snoc i n b k) ∙ ap (λ (m : ℕ). big m (n * 256 + b)) (sym (add-one i)));
+          let next : drop (at + i) s ≡ b ∷ rest = drop-byte s (at + i) h ∙ (λ j. sym e j ∷ drop (f j) s) in
+          let snoc : big i n ++ (b ∷ []) ≡ big (i + 1) (n * 256 + b) = rw add-one (sym (big-snoc i n b k)) in
+          d .shape ∙ ap (λ (l : List ℕ). big i n ++ l) next ∙ sym (append-assoc (big i n) (b ∷ []) rest) ∙ ap (λ (l : List ℕ). l ++ rest) snoc;
     }
 
 -- a number of i bytes fits in 4 bytes, for i at most 4

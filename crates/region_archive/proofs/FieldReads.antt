@@ -14,7 +14,8 @@ use Rattle.region_graph.proofs.Lists.{false-true}
 use Rattle.region_archive.specs.Bytes.{big}
 use Rattle.region_archive.specs.Image.{part-bytes}
 use Rattle.region_archive.specs.Parsing.{Parsed, Unparsed, ParsedInto}
-use Rattle.region_archive.specs.RecordFields.{SameTo, GoodTo, part-at, first-width, field-count, most-in, row-width, part-open, PartGood, first-good, second-good, FieldGood, field-bytes, FieldSame, FlatField}
+use Rattle.region_archive.specs.RecordFields.{SameTo, GoodTo, part-at, first-width, field-count, most-in, row-width, part-open}
+use Rattle.region_archive.specs.RecordFields.{PartGood, first-good, second-good, FieldGood, field-bytes, FieldSame, FlatField}
 use Rattle.region_archive.specs.Sections.{PartRead, FieldRead}
 use Rattle.region_archive.specs.declared.record_fields.Section.{Section}
 use Rattle.region_archive.specs.declared.record_fields.Section.the-variants as Section
@@ -25,7 +26,8 @@ use Rattle.region_archive.proofs.Delimits.{big-same}
 module _ {s : Section} {rs : List ℕ} {floor : ℕ} {bytes : List ℕ} {at : ℕ} {old : List ℕ} where
   -- the first number
   module _ {w : ℕ} (f : w ≡ first-width s) where
-    pub first-missing : Unparsed (λ m. m < 256 ^ w) (big w) bytes at → {next : ℕ} → FieldRead s rs floor 0 bytes at old old (record { ok = false; next = next })
+    pub first-missing : Unparsed (λ m. m < 256 ^ w) (big w) bytes at → {next : ℕ}
+        → FieldRead s rs floor 0 bytes at old old (record { ok = false; next = next })
     first-missing u = record {
       size = refl;
       answer = λ x g h. record { found = λ e. false-true e; missing = λ _ y r k e. none y r (k .1 .0) e };
@@ -61,7 +63,8 @@ module _ {s : Section} {rs : List ℕ} {floor : ℕ} {bytes : List ℕ} {at : �
             false-true (e ∙ ap (first-good s rs floor) (d .0) ∙ k .1 .1)
 
   -- the second number
-  pub second-missing : Unparsed (λ m. m < 256 ^ 1) (big 1) bytes at → {next : ℕ} → FieldRead s rs floor 1 bytes at old old (record { ok = false; next = next })
+  pub second-missing : Unparsed (λ m. m < 256 ^ 1) (big 1) bytes at → {next : ℕ}
+      → FieldRead s rs floor 1 bytes at old old (record { ok = false; next = next })
   second-missing u = record {
     size = refl;
     answer = λ x g h. record { found = λ e. false-true e; missing = λ _ y r k e. u (y .second) r (k .1 .0) e };
@@ -118,7 +121,8 @@ back-at place xs ys h =
     ap (λ (n : ℕ). getD (take place xs ++ ys) n 0) e ∙ getD-append-add (take place xs) ys 0 0
 
 -- a part at other places
-part-moves : (xs ys : List ℕ) (i j most : ℕ) → getD ys j 0 ≡ getD xs i 0 → ((n : ℕ) → n ≤ most → take n (drop (j + 1) ys) ≡ take n (drop (i + 1) xs))
+part-moves : (xs ys : List ℕ) (i j most : ℕ) → getD ys j 0 ≡ getD xs i 0
+    → ((n : ℕ) → n ≤ most → take n (drop (j + 1) ys) ≡ take n (drop (i + 1) xs))
     → (all : Bool) (p : Part) → PartGood most all p → FlatPart xs i p → FlatPart ys j p
 part-moves xs ys i j most e f all (Part.listed ns) g h = (e ∙ h .0, f (length ns) (g .few) ∙ h .1)
 part-moves xs ys i j most e f all Part.everything g h = e ∙ h
@@ -226,14 +230,16 @@ place-room s e k h l = subst (λ (m : ℕ). (part-place m k + (m + 1) ≤ row-wi
 
 -- a part was put to its places
 module _ {s : Section} {rs : List ℕ} {floor : ℕ} {bytes : List ℕ} {at : ℕ} (old : List ℕ) {m k : ℕ} (e : m ≡ most-in s) (two : 2 ≤ k) where
-  pub part-put : part-place m k ≤ length old → {all : Bool} → all ≡ part-open s k → {lent sub : List ℕ} {r : FieldAt} → PartRead m all bytes at lent sub r
+  pub part-put : part-place m k ≤ length old → {all : Bool} → all ≡ part-open s k → {lent sub : List ℕ} {r : FieldAt}
+      → PartRead m all bytes at lent sub r
       → length (putMid (part-place m k) (length old - part-place m k) old sub) ≡ length old
       → FieldRead s rs floor k bytes at old (putMid (part-place m k) (length old - part-place m k) old sub) r
   part-put room {all} a {lent} {sub} {r} q size =
       subst (λ (l : List ℕ). FieldRead s rs floor k bytes at old l r) (sym whole)
       (subst (λ (i : ℕ). FieldRead s rs floor i bytes at old (take (part-place m k) old ++ sub) r) two-more
       (subst (λ (n : ℕ). FieldRead s rs floor (suc (suc (k - 2))) bytes at old (take (part-place n k) old ++ sub) r) (sym e)
-      (part-read s rs floor old sub (k - 2) (subst (λ (n : ℕ). part-place n k ≤ length old) e room) (subst (λ (n : ℕ). PartRead n (part-open s (suc (suc (k - 2)))) bytes at lent sub r) e
+      (part-read s rs floor old sub (k - 2) (subst (λ (n : ℕ). part-place n k ≤ length old) e room)
+      (subst (λ (n : ℕ). PartRead n (part-open s (suc (suc (k - 2)))) bytes at lent sub r) e
       (subst (λ (b : Bool). PartRead m b bytes at lent sub r) opened q))
       (subst (λ (n : ℕ). length (take (part-place n k) old ++ sub) ≡ length old) e (sym (ap length whole) ∙ size)))))
     where

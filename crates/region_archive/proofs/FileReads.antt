@@ -54,7 +54,9 @@ module _ (s : List ℕ) where
       length-is = field-tail s ∙ ap four (q .shape) ∙ word-bytes k (q .is-good)
 
       pub front-misfit : (k ≡ length s - 5 → ⊥) → wrong-length ≡ first-no (front-questions s)
-      front-misfit u = rw (le-leb 5 (length s) h, eq-eqb (getD s 0 0) 1 (first-is ∙ one), ne-eqb (length-field s) (length s - 5) (λ e. u (sym length-is ∙ e))) refl
+      front-misfit u =
+          let other = ne-eqb (length-field s) (length s - 5) (λ e. u (sym length-is ∙ e)) in
+          rw (le-leb 5 (length s) h, eq-eqb (getD s 0 0) 1 (first-is ∙ one), other) refl
 
       pub front-fine : k ≡ length s - 5 → not-refused ≡ first-no (front-questions s)
       front-fine e = rw (le-leb 5 (length s) h, eq-eqb (getD s 0 0) 1 (first-is ∙ one), eq-eqb (length-field s) (length s - 5) (length-is ∙ e)) refl
@@ -86,7 +88,7 @@ module _ (s : List ℕ) where
     unfolding image
     image-is m {end} p e =
         sym (drop-byte s 0 (omega (arith, long-enough)) ∙ ap (λ (n : ℕ). n ∷ drop 1 s) first-one
-        ∙ ap (λ (l : List ℕ). 1 ∷ l) (field-stands .shape ∙ ap (λ (n : ℕ). big 4 n ++ drop 5 s) size ∙ ap (λ (l : List ℕ). big 4 (length (body m)) ++ l) rest))
+        ∙ ap (λ (l : List ℕ). 1 ∷ l) (field-stands .shape ∙ (λ i. big 4 (size i) ++ rest i)))
       where
         size : length-field s ≡ length (body m)
         size = omega (arith, eqb-true (length-field s) (length s - 5) (passed .1), p .ends, e)
@@ -106,7 +108,8 @@ module _ {s : List ℕ} where
   last-asked : (f : FileMeaning s) → not-refused ≡ first-no (front-questions s) → read-number f ≡ first-no (ask broken-layout (is-image f) ∷ [])
   last-asked f e = first-no-goes-on (front-questions s) (ask broken-layout (is-image f) ∷ []) (all-yes (front-questions s) (refl, (refl, tt)) (sym e))
 
-  pub broken-file : (f : FileMeaning s) → not-refused ≡ first-no (front-questions s) → ((m : Model) → Legal m → image m ≡ s → ⊥) → broken-layout ≡ read-number f
+  pub broken-file : (f : FileMeaning s) → not-refused ≡ first-no (front-questions s) → ((m : Model) → Legal m → image m ≡ s → ⊥)
+      → broken-layout ≡ read-number f
   broken-file (means m l e) z u = absurd (u m l e)
   broken-file (means-none n) z u = sym (last-asked (means-none n) z)
 
@@ -124,7 +127,8 @@ module _ {s : List ℕ} where
   refused-model (means-none n) u = refl
 
   -- a refused read gives the empty record
-  pub reads-refused : {r : Changed} {k : ℕ} → (r .number ≡ k) × Empty (r .graph) → (k ≡ not-refused → ⊥) → ((f : FileMeaning s) → k ≡ read-number f) → Reads s r
+  pub reads-refused : {r : Changed} {k : ℕ} → (r .number ≡ k) × Empty (r .graph) → (k ≡ not-refused → ⊥)
+      → ((f : FileMeaning s) → k ≡ read-number f) → Reads s r
   reads-refused {r} {k} (n, z) u e = record {
     valid = z .valid;
     says = λ f. record { number = n ∙ e f; next = z .model ∙ sym (refused-model f (λ h. u (e f ∙ h))) };
@@ -141,15 +145,14 @@ module _ {s : List ℕ} where
   body-reads bytes z {r} (broken u n v) = reads-refused (n, v) (λ e. omega arith) (λ f. broken-file f z (bodiless s u))
 
   -- over a record at hand, a refused read hands that record back
-  pub over-refused : {g : Graph} → Valid g → {a : Changed} → Reads s a → (a .number ≡ not-refused → ⊥) → ReadsOver g s (record { graph = g; number = a .number })
+  pub over-refused : {g : Graph} → Valid g → {a : Changed} → Reads s a → (a .number ≡ not-refused → ⊥)
+      → ReadsOver g s (record { graph = g; number = a .number })
   over-refused {g} v {a} h u = record {
     valid = v;
     kept = λ w. refl;
     says = λ f.
-        record {
-          number = h .says f .number;
-          next = sym (ap (λ (b : Bool). pick b (read-model f) (meaning g)) (ne-eqb (read-number f) not-refused (λ z. u (h .says f .number ∙ z))));
-        };
+        let refuse = ne-eqb (read-number f) not-refused (λ z. u (h .says f .number ∙ z)) in
+        record { number = h .says f .number; next = sym (ap (λ (b : Bool). pick b (read-model f) (meaning g)) refuse) };
   }
 
   pub over-accepted : {g : Graph} {a : Changed} → Reads s a → a .number ≡ not-refused → ReadsOver g s a
@@ -157,8 +160,6 @@ module _ {s : List ℕ} where
     valid = h .valid;
     kept = λ w. absurd (w e);
     says = λ f.
-        record {
-          number = h .says f .number;
-          next = h .says f .next ∙ sym (ap (λ (b : Bool). pick b (read-model f) (meaning g)) (eq-eqb (read-number f) not-refused (sym (h .says f .number) ∙ e)));
-        };
+        let accept = eq-eqb (read-number f) not-refused (sym (h .says f .number) ∙ e) in
+        record { number = h .says f .number; next = h .says f .next ∙ sym (ap (λ (b : Bool). pick b (read-model f) (meaning g)) accept) };
   }

@@ -7,7 +7,8 @@ use lib.ListN.{length}
 use lib.Seq.{length-take-le}
 use Rattle.region_graph.specs.Size.{most-listed, most-provided, everything-sign}
 use Rattle.region_graph.specs.Model.{Bundle, Part, Connection}
-use Rattle.region_graph.specs.Record.{Valid, meaning, number-places, store-numbers, store-provided, provided-of, store-part, part-in, store-bundle, store-connection, no-bundle, no-connection}
+use Rattle.region_graph.specs.Record.{Valid, meaning, number-places, store-numbers, store-provided, provided-of}
+use Rattle.region_graph.specs.Record.{store-part, part-in, store-bundle, store-connection, no-bundle, no-connection}
 use Rattle.region_graph.specs.Places.{Short, ShortPart, ShortBundle, ShortConnection}
 use Rattle.region_graph.specs.Promise.{bundle-at, connection-at}
 use Rattle.region_graph.specs.declared.Graph.{Graph}
@@ -69,8 +70,11 @@ connection-fits c h = record {
 -- the bundle and the connection at any place of a valid graph have short lists
 pub bundle-short : (g : Graph) → Valid g → (i : ℕ) → ShortBundle (bundle-at (meaning g) i)
 unfolding meaning
-bundle-short g v i = all-or ShortBundle (meaning g .bundles) i no-bundle (record { packages = omega arith; services = omega arith }) (bundles-stored g v .good .each)
+bundle-short g v i =
+    all-or ShortBundle (meaning g .bundles) i no-bundle (record { packages = omega arith; services = omega arith }) (bundles-stored g v .good .each)
 
 pub connection-short : (g : Graph) → Valid g → (i : ℕ) → ShortConnection (connection-at (meaning g) i)
 unfolding meaning
-connection-short g v i = all-or ShortConnection (meaning g .connections) i no-connection (record { bundles = omega arith; packages = omega arith; services = omega arith }) (connections-stored g v .good .each)
+connection-short g v i =
+    let none : ShortConnection no-connection = record { bundles = omega arith; packages = omega arith; services = omega arith } in
+    all-or ShortConnection (meaning g .connections) i no-connection none (connections-stored g v .good .each)

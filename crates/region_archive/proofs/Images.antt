@@ -39,13 +39,18 @@ unfolding image
 image-size m = omega (arith, length-append (big 4 (length (body m))) (body m))
 
 -- the image as the writer's five pieces
-pub image-pieces : (m : Model)
-    → big 1 version ++ (big 4 (length (body m)) ++ (counted (big 1) (m .regions) ++ (section-bytes Section.Bundles m ++ section-bytes Section.Connections m))) ≡ image m
+abbrev pub pieces : Model → ℕ → List ℕ
+pieces m size =
+    big 1 version
+    ++ (big 4 size ++ (counted (big 1) (m .regions) ++ (section-bytes Section.Bundles m ++ section-bytes Section.Connections m)))
+
+pub image-pieces : (m : Model) → pieces m (length (body m)) ≡ image m
 unfolding image
 image-pieces m = ap (λ (l : List ℕ). version ∷ (big 4 (length (body m)) ++ l)) (sym (body-sections m))
 
 -- the image was written at the buffer's start
-pub wrote-image : (m : Model) {old new : List ℕ} {end : ℕ} → WrittenAt old new 0 (image m) end → archived (Written.Bytes end) new ≡ write-outcome m old
+pub wrote-image : (m : Model) {old new : List ℕ} {end : ℕ} → WrittenAt old new 0 (image m) end
+    → archived (Written.Bytes end) new ≡ write-outcome m old
 wrote-image m {old} {new} {end} w =
     let e : end ≡ length (image m) = w .ends ∙ zero-add (length (image m)) in
     let f : new ≡ image m ++ drop (length (image m)) old = w .shape ∙ ap (λ (n : ℕ). image m ++ drop n old) e in

@@ -36,7 +36,8 @@ module _ {s : List ℕ} (f : FileMeaning s) (location kind number : ℕ) where
       let p = place-of (read-model f .bundles) location in
       let q : first-no (read-questions f ++ asked p (leb kind 2)) ≡ k =
       first-no-stops (read-questions f) (asked p (leb kind 2)) (sym e) (ne-eqb k not-refused u) in
-      sym (ap (answer-by p) q ∙ ap (λ (b : Bool). pick b (pick (sees-from (read-model f) (item kind number) p) seen-number hidden-number) k) (ne-eqb k not-refused u))
+      let told = pick (sees-from (read-model f) (item kind number) p) seen-number hidden-number in
+      sym (ap (answer-by p) q ∙ ap (λ (b : Bool). pick b told k) (ne-eqb k not-refused u))
 
   -- an accepted one, the model of the record that it gave, and the place of the location there
   module _ (e : not-refused ≡ read-number f) {m : Model} (g : m ≡ read-model f) {p : Place} (q : place-of (m .bundles) location ≡ p) where
@@ -53,7 +54,7 @@ module _ {s : List ℕ} (f : FileMeaning s) (location kind number : ℕ) where
 
     module _ {r : ℕ} (w : p ≡ Within r) where
       within : (b : Bool) → leb kind 2 ≡ b → query-answer f location kind number ≡ answer-by (Within r) (first-no (asked (Within r) b))
-      within b k = accepted ∙ ap (λ (x : Place). answer-by x (first-no (asked x (leb kind 2)))) w ∙ ap (λ (c : Bool). answer-by (Within r) (first-no (asked (Within r) c))) k
+      within b k = accepted ∙ (λ i. answer-by (w i) (first-no (asked (w i) (k i))))
 
       -- question 13
       pub query-unknown : 2 < kind → not-a-kind ≡ query-answer f location kind number

@@ -64,7 +64,8 @@ module _ {A : Type 0} {before : A → A → Bool} (strict : Strict before) (good
       }
 
   -- where each element's call puts it at the end, the calls of a list in order give the list
-  module _ (with : List A → Model) (call : A → Call) (step : (xs : List A) (x : A) → Last xs x → after (with xs) (call x) ≡ with (xs ++ (x ∷ []))) where
+  module _ (with : List A → Model) (call : A → Call)
+      (step : (xs : List A) (x : A) → Last xs x → after (with xs) (call x) ≡ with (xs ++ (x ∷ []))) where
     fills : (xs ys : List A) → Sorted before good most (xs ++ ys) → run (with xs) (map call ys) ≡ with (xs ++ ys)
     fills xs [] r = ap with (sym (append-nil xs))
     fills xs (y ∷ ys) r =
@@ -97,7 +98,9 @@ part-words Part.everything h = tt
 -- the numbers of a legal element have 32 bits
 words : (k : Section) (rs : List ℕ) (x : Elem k) → LegalElem k rs x → Words (call k x)
 words Section.Bundles rs b h = (h .location, h .packages .each, h .services .each)
-words Section.Connections rs c h = (h .filter .bundles .each, part-words (c .filter .packages) (h .filter .packages), part-words (c .filter .services) (h .filter .services))
+words Section.Connections rs c h =
+    let f = h .filter in
+    (f .bundles .each, part-words (c .filter .packages) (f .packages), part-words (c .filter .services) (f .services))
 
 -- some calls from nothing, with numbers of 32 bits, give the value
 pub record Reached {A : Type 0} (of : Model → A) (a : A) : Type 0 where

@@ -67,7 +67,8 @@ module _ {A : Type 0} where
     unfolding read-each
     concat-back [] r h = refl
     concat-back (x ∷ xs) r h =
-        ap next (ap (p .read) (append-assoc (bytes x) (concat-map bytes xs) r) ∙ p .back x (concat-map bytes xs ++ r) (h .0)) ∙ (λ i. (x ∷ concat-back xs r (h .1) i .0, concat-back xs r (h .1) i .1))
+        ap next (ap (p .read) (append-assoc (bytes x) (concat-map bytes xs) r) ∙ p .back x (concat-map bytes xs ++ r) (h .0))
+        ∙ (λ i. (x ∷ concat-back xs r (h .1) i .0, concat-back xs r (h .1) i .1))
       where
         next : A × List ℕ → List A × List ℕ
         next q = (q .0 ∷ read-each (p .read) (length xs) (q .1) .0, read-each (p .read) (length xs) (q .1) .1)
@@ -78,8 +79,8 @@ module _ {A : Type 0} where
     read-list = record { read = read-counted (p .read); back = λ xs r h. concat-back xs r h }
 
 -- two values one after the other
-pub read-both : {A B : Type 0} {good : A → Type 0} {bytes : A → List ℕ} {good′ : B → Type 0} {bytes′ : B → List ℕ} → Reader good bytes → Reader good′ bytes′
-    → Reader (λ (q : A × B). good (q .0) × good′ (q .1)) (λ q. bytes (q .0) ++ bytes′ (q .1))
+pub read-both : {A B : Type 0} {good : A → Type 0} {bytes : A → List ℕ} {good′ : B → Type 0} {bytes′ : B → List ℕ}
+    → Reader good bytes → Reader good′ bytes′ → Reader (λ (q : A × B). good (q .0) × good′ (q .1)) (λ q. bytes (q .0) ++ bytes′ (q .1))
 read-both {A} {B} {good} {bytes} {good′} {bytes′} p p′ = record { read = λ s. next (p .read s); back = back }
   where
     next : A × List ℕ → (A × B) × List ℕ
@@ -101,8 +102,8 @@ read-sized {bytes = bytes} w p =
     }
 
 -- a value that has the bytes of another
-pub read-as : {A B : Type 0} {good : A → Type 0} {bytes : A → List ℕ} (to : A → B) (from : B → A) → ((y : B) → to (from y) ≡ y) → Reader good bytes
-    → Reader (λ y. good (from y)) (λ y. bytes (from y))
+read-as : {A B : Type 0} {good : A → Type 0} {bytes : A → List ℕ} (to : A → B) (from : B → A) → ((y : B) → to (from y) ≡ y)
+    → Reader good bytes → Reader (λ y. good (from y)) (λ y. bytes (from y))
 read-as to from same p =
     record {
       read = λ s. (to (p .read s .0), p .read s .1);
@@ -110,7 +111,8 @@ read-as to from same p =
     }
 
 -- fewer values
-pub read-where : {A : Type 0} {good good′ : A → Type 0} {bytes : A → List ℕ} → ((x : A) → good′ x → good x) → Reader good bytes → Reader good′ bytes
+pub read-where : {A : Type 0} {good good′ : A → Type 0} {bytes : A → List ℕ} → ((x : A) → good′ x → good x)
+    → Reader good bytes → Reader good′ bytes
 read-where f p = record { read = p .read; back = λ x r h. p .back x r (f x h) }
 
 -- the pieces of an image: a list of numbers
@@ -130,7 +132,9 @@ read-part = record { read = read; back = back }
     read (n ∷ s) = pick (eqb n 255) (Part.everything, s) (Part.listed (read-each (read-number 4 .read) n s .0), read-each (read-number 4 .read) n s .1)
 
     back : (x : Part) (r : List ℕ) → FitPart x → read (part-bytes (big 4) x ++ r) ≡ (x, r)
-    back (Part.listed xs) r h = rw (ne-eqb (length xs) 255 (omega (arith, h .0))) (λ i. (Part.listed (concat-back (read-number 4) xs r (h .1) i .0), concat-back (read-number 4) xs r (h .1) i .1))
+    back (Part.listed xs) r h =
+        let e = concat-back (read-number 4) xs r (h .1) in
+        rw (ne-eqb (length xs) 255 (omega (arith, h .0))) (λ i. (Part.listed (e i .0), e i .1))
     back Part.everything r h = refl
 
 -- a bundle, a connection and a model whose numbers fit their bytes
@@ -139,11 +143,14 @@ FitBundle b = (b .location < 256 ^ 4) × ((b .region < 256 ^ 1) × (All Word (b 
 
 read-bundle : Reader FitBundle (bundle-fields version (big 4) (big 4))
 read-bundle =
-    read-as (λ t. record { location = t .0; region = t .1 .0; packages = t .1 .1 .0; services = t .1 .1 .1 }) (λ b. (b .location, (b .region, (b .packages, b .services)))) (λ b. refl)
+    read-as (λ t. record { location = t .0; region = t .1 .0; packages = t .1 .1 .0; services = t .1 .1 .1 })
+    (λ b. (b .location, (b .region, (b .packages, b .services)))) (λ b. refl)
     (read-both (read-number 4) (read-both (read-number 1) (read-both read-numbers read-numbers)))
 
 abbrev FitConnection : Connection → Type 0
-FitConnection c = (c .source < 256 ^ 1) × ((c .target < 256 ^ 1) × (All Word (c .filter .bundles) × (FitPart (c .filter .packages) × FitPart (c .filter .services))))
+FitConnection c =
+    (c .source < 256 ^ 1)
+    × ((c .target < 256 ^ 1) × (All Word (c .filter .bundles) × (FitPart (c .filter .packages) × FitPart (c .filter .services))))
 
 read-connection : Reader FitConnection (connection-fields version (big 4) (big 4))
 read-connection =

@@ -16,7 +16,9 @@ use Rattle.region_graph.proofs.Ascending.{connection-order}
 use Rattle.region_archive.specs.Bounds.{part-bound}
 use Rattle.region_archive.specs.Bytes.{big}
 use Rattle.region_archive.specs.Image.{part-bytes}
-use Rattle.region_archive.specs.RecordFields.{bytes-to, SameTo, GoodTo, part-at, first-width, field-count, most-in, row-width, part-open, PartGood, first-good, second-good, FieldGood, field-bytes, fields-bytes, FieldSame, FlatField, FlatElem, SameFields, Elem, fields-of, record-bytes, key, most-records, element-before, LegalElem}
+use Rattle.region_archive.specs.RecordFields.{bytes-to, SameTo, GoodTo, part-at, first-width, field-count, most-in, row-width, part-open}
+use Rattle.region_archive.specs.RecordFields.{PartGood, first-good, second-good, FieldGood, field-bytes, fields-bytes, FieldSame, FlatField}
+use Rattle.region_archive.specs.RecordFields.{FlatElem, SameFields, Elem, fields-of, record-bytes, key, most-records, element-before, LegalElem}
 use Rattle.region_archive.specs.declared.record_fields.Section.{Section}
 use Rattle.region_archive.specs.declared.record_fields.Section.the-variants as Section
 use Rattle.region_archive.proofs.Pieces.{big-length}
@@ -95,7 +97,11 @@ pub same-element : (s : Section) (x y : Elem s) → SameFields s (fields-of s x)
 same-element Section.Bundles x y h =
     λ i. record { location = h .0 .0 .0 .1 i; region = h .0 .0 .1 i; packages = listed-same (h .0 .1) i; services = listed-same (h .1) i }
 same-element Section.Connections x y h =
-    λ i. record { source = h .0 .0 .0 .0 .1 i; target = h .0 .0 .0 .1 i; filter = record { bundles = listed-same (h .0 .0 .1) i; packages = h .0 .1 i; services = h .1 i } }
+    λ i. record {
+      source = h .0 .0 .0 .0 .1 i;
+      target = h .0 .0 .0 .1 i;
+      filter = record { bundles = listed-same (h .0 .0 .1) i; packages = h .0 .1 i; services = h .1 i };
+    }
 
 -- a part that may be everything, and one that may not
 pub open-part : (p : Part) → NumberedPart p → PartGood most-listed true p
@@ -207,8 +213,8 @@ module _ (rs : List ℕ) (floor : ℕ) where
         top = omega (arith, h, region-small (c .target) (l .target))
 
 -- the numbers of an element stand in a row where its fields do
-pub flat-of : (s : Section) (row : List ℕ) (f : Fields) (x : Elem s) → SameFields s f (fields-of s x) → GoodTo (FlatField (most-in s) row) (field-count s) f
-    → FlatElem s row x
+pub flat-of : (s : Section) (row : List ℕ) (f : Fields) (x : Elem s) → SameFields s f (fields-of s x)
+    → GoodTo (FlatField (most-in s) row) (field-count s) f → FlatElem s row x
 flat-of Section.Bundles row f x h g = record {
   first = g .0 .0 .0 .1 ∙ h .0 .0 .0 .1;
   second = g .0 .0 .1 ∙ h .0 .0 .1;

@@ -37,10 +37,14 @@ elements-of q = section-elements (q .rs) (q .small) (q .section)
 abbrev kinds : Source → ℕ → FieldKinds Fields
 kinds q least = record-fields (q .section) (q .rs) least
 
--- the first j fields of a record that ends at `stop` were read from `mid` to `to`, into its row
+-- the first j fields of x stand from `mid` to `to`
+abbrev pub FieldsStand : Source → ℕ → ℕ → List ℕ → ℕ → Fields → ℕ → Type 0
+FieldsStand q least j s mid x to = Parsed (GoodTo (FieldGood (q .section) (q .rs) least) j) (bytes-to (field-bytes (q .section)) j) s mid x to
+
+-- those of a record that ends at `stop` were read into its row
 pub record FieldsRead (q : Source) (least stop mid j : ℕ) (row : List ℕ) (to : ℕ) : Type 0 where
   pub value : Fields
-  pub parsed : Parsed (GoodTo (FieldGood (q .section) (q .rs) least) j) (bytes-to (field-bytes (q .section)) j) (take stop (q .bytes)) mid value to
+  pub parsed : FieldsStand q least j (take stop (q .bytes)) mid value to
   pub put : GoodTo (FlatField (most-in (q .section)) row) j value
 
 pub fields-start : {q : Source} {least stop mid : ℕ} {row : List ℕ} → mid ≤ length (take stop (q .bytes)) → FieldsRead q least stop mid 0 row mid
@@ -93,7 +97,8 @@ lengthless {q} u = record {
 within : (q : Source) {at : ℕ} {r : LengthAt} → LengthStands (q .bytes) at r → (z : Elem (q .section)) (t : List ℕ) → LegalElem (q .section) (q .rs) z
     → drop at (q .bytes) ≡ record-bytes (q .section) z ++ t → drop (r .next) (part q r) ≡ all-fields q z ++ []
 within q {at} {r} p z t h e =
-    sym (take-at (drop (r .next) (part q r)) (drop (r .stop) (q .bytes)) (r .stop - r .next) (drop-length-is (q .bytes) (r .next) (r .stop) (p .forward) (p .room)))
+    sym (take-at (drop (r .next) (part q r)) (drop (r .stop) (q .bytes)) (r .stop - r .next)
+    (drop-length-is (q .bytes) (r .next) (r .stop) (p .forward) (p .room)))
     ∙ ap (take (r .stop - r .next)) (sym (drop-split (q .bytes) (r .next) (r .stop) (p .forward) (p .room)) ∙ cut .1)
     ∙ take-at (all-fields q z) t (r .stop - r .next) (sym (cut .0)) ∙ sym (append-nil (all-fields q z))
   where
@@ -116,10 +121,8 @@ module _ {q : Source} {at : ℕ} {r : LengthAt} (p : LengthStands (q .bytes) at 
       }
 
   module _ (e : j ≡ field-count (q .section)) where
-    all-parsed : Parsed (GoodTo (FieldGood (q .section) (q .rs) least) (field-count (q .section))) (fields-bytes (q .section)) (part q r) (r .next) (f .value) to
-    all-parsed =
-        subst (λ (i : ℕ). Parsed (GoodTo (FieldGood (q .section) (q .rs) least) i) (bytes-to (field-bytes (q .section)) i) (part q r) (r .next) (f .value) to)
-        e (f .parsed)
+    all-parsed : FieldsStand q least (field-count (q .section)) (part q r) (r .next) (f .value) to
+    all-parsed = subst (λ (i : ℕ). FieldsStand q least i (part q r) (r .next) (f .value) to) e (f .parsed)
 
     -- the fields end before the record does
     pub misfit : (to ≡ r .stop → ⊥) → NoRecord q at least

@@ -11,7 +11,8 @@ use Rattle.region_graph.specs.declared.numbers.Numbers.{Numbers}
 use Rattle.region_graph.proofs.Arrays.{getD-map-in}
 use Rattle.region_archive.specs.Bytes.{big, counted, sized}
 use Rattle.region_archive.specs.Image.{version, part-bytes, bundle-fields, connection-fields, body}
-use Rattle.region_archive.specs.RecordFields.{field-bytes, fields-bytes, first-width, Elem, fields-of, fields-in, ValuesAre, record-bytes, section-bytes, elements, SectionRow}
+use Rattle.region_archive.specs.RecordFields.{field-bytes, fields-bytes, first-width, Elem, fields-of, fields-in, ValuesAre}
+use Rattle.region_archive.specs.RecordFields.{record-bytes, section-bytes, elements, SectionRow}
 use Rattle.region_archive.specs.declared.record_fields.FieldValues.{FieldValues}
 use Rattle.region_archive.specs.declared.record_fields.Section.{Section}
 use Rattle.region_archive.specs.declared.record_fields.Section.the-variants as Section

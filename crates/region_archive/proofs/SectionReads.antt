@@ -140,14 +140,15 @@ module _ {q : Source} {at least : ℕ} {r : LengthAt} {base end : ℕ} {new : Li
 
 -- the answer, by the count and by whether all records were read
 module _ (q : Source) {from : ℕ} {ok : Bool} {total mid : ℕ} (a : Answer (λ m. m ≤ most-records (q .section)) (big 1) (q .bytes) from ok total mid) where
-  pub section-missing : ok ≡ false → {rows : List ℕ} {next : ℕ} → SectionRead (q .section) (q .rs) (q .bytes) from rows (record { ok = false; next = next; count = 0 })
+  pub section-missing : ok ≡ false → {rows : List ℕ} {next : ℕ}
+      → SectionRead (q .section) (q .rs) (q .bytes) from rows (record { ok = false; next = next; count = 0 })
   section-missing e = record {
     room = omega arith;
     answer = record { found = λ y. false-true y; missing = λ _. row-missing (elements-of q) (most-small (q .section)) a e };
   }
 
-  pub section-end : ok ≡ true → {rows last : List ℕ} {at least base n : ℕ} → Recording q mid rows at least base n → n ≤ total → base ≤ length last
-      → (n ≡ total → last ≡ rows) → (n < total → NoRecord q at least)
+  pub section-end : ok ≡ true → {rows last : List ℕ} {at least base n : ℕ} → Recording q mid rows at least base n → n ≤ total
+      → base ≤ length last → (n ≡ total → last ≡ rows) → (n < total → NoRecord q at least)
       → SectionRead (q .section) (q .rs) (q .bytes) from last (record { ok = eqb n total; next = at; count = base })
   section-end e {last = last} {base = base} w l room same u = record {
     room = room;

@@ -30,7 +30,8 @@ call Section.Bundles b = Call.install b
 call Section.Connections c = Call.connect c
 
 -- an element that comes before no other is put at the end
-insert-last : {A : Type 0} (before : A → A → Bool) (x : A) (xs : List A) → All (λ y. before x y ≡ false) xs → insert-by before x xs ≡ xs ++ (x ∷ [])
+insert-last : {A : Type 0} (before : A → A → Bool) (x : A) (xs : List A) → All (λ y. before x y ≡ false) xs
+    → insert-by before x xs ≡ xs ++ (x ∷ [])
 insert-last before x [] h = refl
 insert-last {A} before x (y ∷ ys) h = rw (h .0) (ap (λ (l : List A). y ∷ l) (insert-last before x ys (h .1)))
 
@@ -124,8 +125,8 @@ module _ (k : Section) (m : Model) (xs : List (Elem k)) (x : Elem k) (a : All (�
       inserted Section.Connections xs x = refl
 
 -- and is accepted
-pub taken : (k : Section) (m : Model) (xs : List (Elem k)) (x : Elem k) → All (λ y. element-before k y x ≡ true) xs → All (λ r. r < regions) (m .regions)
-    → LegalElem k (m .regions) x → length xs < most-records k → number (filled k m xs) (call k x) ≡ not-refused
+pub taken : (k : Section) (m : Model) (xs : List (Elem k)) (x : Elem k) → All (λ y. element-before k y x ≡ true) xs
+    → All (λ r. r < regions) (m .regions) → LegalElem k (m .regions) x → length xs < most-records k → number (filled k m xs) (call k x) ≡ not-refused
 taken Section.Bundles m xs b a s h n =
     let few = and-yes (le-leb (length (b .packages)) most-provided (h .packages .few)) (le-leb (length (b .services)) most-provided (h .services .few)) in
     let rise = and-yes (h .packages .ascend) (h .services .ascend) in

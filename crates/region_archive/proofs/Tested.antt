@@ -8,7 +8,8 @@ use lib.ListN.{length}
 use borrow.Author.Tests.{lt-ltb, ltb-true, le-leb, leb-true, not-true}
 use Rattle.region_graph.specs.Size.{regions, most-bundles, most-connections, most-provided, most-listed}
 use Rattle.region_graph.specs.Lists.{All, member, ascends}
-use Rattle.region_graph.specs.Model.{Model, Bundle, Filter, Part, Connection, Word, Sorted, Numbered, NumberedPart, LegalBundle, LegalFilter, LegalConnection, Legal, bundle-before, connection-before}
+use Rattle.region_graph.specs.Model.{Model, Bundle, Filter, Part, Connection, Word, Sorted, Numbered, NumberedPart}
+use Rattle.region_graph.specs.Model.{LegalBundle, LegalFilter, LegalConnection, Legal, bundle-before, connection-before}
 use Rattle.region_graph.proofs.Lists.{and-yes, and-fst, and-snd}
 
 -- a test that tells whether P holds
@@ -72,7 +73,8 @@ tested-bundle rs b =
     tested-as (λ t. record { location = t .0; region = t .1 .0; packages = t .1 .1 .0; services = t .1 .1 .1 })
     (λ h. (h .location, (h .region, (h .packages, h .services))))
     (tested-both (tested-lt (b .location) (2 ^ 32))
-    (tested-both (tested-true (member (b .region) rs)) (tested-both (tested-numbered most-provided (b .packages)) (tested-numbered most-provided (b .services)))))
+    (tested-both (tested-true (member (b .region) rs))
+    (tested-both (tested-numbered most-provided (b .packages)) (tested-numbered most-provided (b .services)))))
 
 unfoldable pub tested-filter : (f : Filter) → Tested (LegalFilter f)
 tested-filter f =

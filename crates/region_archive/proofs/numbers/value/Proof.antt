@@ -1,5 +1,5 @@
 use mathlib.Core.Path.{_≡_}
-use Prim.Native.Nat.{_≤_, _-_, _+_}
+use Prim.Native.Nat.{_+_, _-_, _≤_, _<_}
 use native.Mathlib.Omega.{arith}
 use borrow.Author.Needs.{needs}
 use Rattle.region_archive.proofs.Digits.{Digits, digits-none, digits-more, digits-all, small-four}
@@ -12,46 +12,38 @@ Inv-loop bytes at width number₀ i₀ number i = (i ≤ width) × Digits bytes 
 abbrev μ-loop : tie.MeasureT-loop
 μ-loop bytes at width number₀ i₀ number i = width - i
 
-loop-holds : tie.Need-loop-holds Inv-loop μ-loop
-loop-holds c = (omega arith, digits-none _ _)
+abbrev start : tie.At-loop Inv-loop μ-loop → tie.Start Inv-loop μ-loop
+start c = c .before .before
 
-mul-number : tie.Need-mul-number Inv-loop μ-loop
-mul-number c =
-    let l = c .before .before .before .loop in
-    let s = c .before .before .before .before .before in
-    omega (arith, small-four (l .i) (l .number) (omega (arith, s .pre .1)) (l .inv .1 .small))
+-- the number so far fits in four bytes, and the next byte is one
+small : (c : tie.In-loop Inv-loop μ-loop) → c .before .loop .number < 4294967296
+small c =
+    let l = c .before .loop in
+    small-four (l .i) (l .number) (omega (arith, start (c .before) .pre .1)) (l .inv .1 .small)
 
-add-number : tie.Need-add-number Inv-loop μ-loop
-add-number c =
-    let l = c .before .before .before .loop in
-    let s = c .before .before .before .before .before in
-    omega (arith, small-four (l .i) (l .number) (omega (arith, s .pre .1)) (l .inv .1 .small), c .wide .ensures, c .before .shared-slice-known2 .given (s .args .at + l .i))
+byte : (c : tie.After-wide Inv-loop μ-loop) → c .wide .result < 256
+byte c =
+    let a = c .before .before .before in
+    omega (arith, c .wide .ensures, c .before .shared-slice-known2 .given (start a .args .at + a .loop .i))
 
 loop-again : tie.Need-loop-again Inv-loop μ-loop
 loop-again c =
-    let l = c .before .before .before .loop in
-    let s = c .before .before .before .before .before in
-    (omega arith, digits-more (l .inv .1) (omega (arith, s .pre .0)) (c .wide .ensures) (omega (arith, c .wide .ensures, c .before .shared-slice-known2 .given (s .args .at + l .i))))
+    let a = c .before .before .before in
+    (omega arith, digits-more (a .loop .inv .1) (omega (arith, start a .pre .0)) (c .wide .ensures) (byte c))
 
 returns : tie.Need-returns Inv-loop μ-loop
 returns c =
     let l = c .before .loop in
-    let e : l .i ≡ c .before .before .before .args .width = omega arith in
-    digits-all (l .inv .1) e (c .before .before .before .pre .0)
+    let e : l .i ≡ start (c .before) .args .width = omega arith in
+    digits-all (l .inv .1) e (start (c .before) .pre .0)
 
 pub value-spec : {M : Type 1} → statement M
 value-spec =
     tie.close
     (tie.spec
-    Inv-loop
-    μ-loop
-    loop-holds
-    (λ c. search needs)
-    (λ c. search needs)
-    (λ c κs. search needs)
-    mul-number
-    add-number
-    (λ c. search needs)
-    (λ c. search needs)
-    loop-again
-    returns)
+    Inv-loop μ-loop
+    (λ c. (omega arith, digits-none _ _))
+    (λ c. search needs) (λ c. search needs) (λ c κs. search needs)
+    (λ c. omega (arith, small (c .before .before)))
+    (λ c. omega (arith, small (c .before .before), byte c))
+    (λ c. search needs) (λ c. search needs) loop-again returns)

@@ -15,7 +15,8 @@ use Rattle.region_archive.proofs.query.archive_query.Tie as tie
 accepted : (c : tie.Else1) (f : FileMeaning (c .before .before .before .before .args .bytes .now)) → not-refused ≡ read-number f
 accepted c f = sym (c .if1 .left) ∙ c .before .before .read .ensures .says f .number
 
-means : (c : tie.Else1) (f : FileMeaning (c .before .before .before .before .args .bytes .now)) → meaning (c .before .before .read .result .graph) ≡ read-model f
+means : (c : tie.Else1) (f : FileMeaning (c .before .before .before .before .args .bytes .now))
+    → meaning (c .before .before .read .result .graph) ≡ read-model f
 means c f = c .before .before .read .ensures .says f .next
 
 returns : tie.Need-returns
@@ -49,8 +50,9 @@ told : (c : tie.After-has) {t : Bool} → c .has .result ≡ t
 told c e =
     let a = c .before .before .before .before .before .before .before .before in
     let s = a .before .before .before .before .args in
-    λ f. query-told f (s .location) (s .kind) (s .item) (accepted a f) (means a f) (sym (c .before .before .before .before .before .before .region-of .ensures))
-    (c .before .before .before .before .place .given .1) (c .before .before .if2 .left) (a .before .before .read .ensures .valid .good)
+    let p = c .before .before .before .before in
+    λ f. query-told f (s .location) (s .kind) (s .item) (accepted a f) (means a f) (sym (p .before .before .region-of .ensures)) (p .place .given .1)
+    (c .before .before .if2 .left) (a .before .before .read .ensures .valid .good)
     (c .before .regions-seeing .ensures) (c .has .ensures) e
 
 returns-4 : tie.Need-returns-4
@@ -63,14 +65,5 @@ pub archive-query-spec : {M : Type 1} → statement M
 archive-query-spec =
     tie.close
     (tie.spec
-    (λ c κs. search needs)
-    returns
-    region-of-requires
-    (λ c. search needs)
-    (λ c. search needs)
-    returns-2
-    returns-3
-    regions-seeing-requires
-    (λ c κs. search needs)
-    returns-4
-    returns-5)
+    (λ c κs. search needs) returns region-of-requires (λ c. search needs) (λ c. search needs) returns-2 returns-3 regions-seeing-requires
+    (λ c κs. search needs) returns-4 returns-5)

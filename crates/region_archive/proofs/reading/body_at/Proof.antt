@@ -74,25 +74,9 @@ pub body-at-spec : {M : Type 1} → statement M
 body-at-spec =
     tie.close
     (tie.spec
-    (λ c. search needs)
-    (λ c κs. search needs)
-    (λ c κs. search needs)
-    returns
-    (λ c. search needs)
+    (λ c. search needs) (λ c κs. search needs) (λ c κs. search needs) returns (λ c. search needs)
     (λ c κs. (c .before .before .before .before .regions-at .ensures .answer .found (not-false _ (c .before .if1 .left)) .room, omega arith))
-    (λ c κs. search needs)
-    returns-2
-    (λ c. search needs)
+    (λ c κs. search needs) returns-2 (λ c. search needs)
     (λ c κs. (c .before .before .before .before .section-at .ensures .answer .found (not-false _ (c .before .if2 .left)) .parsed .room, omega arith))
-    (λ c κs. search needs)
-    returns-3
-    (λ c κs. search needs)
-    returns-4
-    (λ c. search needs)
-    slice-aggregate-of-flat
-    (λ c. search needs)
-    slice-aggregate-of-flat-2
-    (λ c. search needs)
-    slice-aggregate-of-flat-3
-    (λ c κs. search needs)
-    returns-5)
+    (λ c κs. search needs) returns-3 (λ c κs. search needs) returns-4 (λ c. search needs) slice-aggregate-of-flat (λ c. search needs)
+    slice-aggregate-of-flat-2 (λ c. search needs) slice-aggregate-of-flat-3 (λ c κs. search needs) returns-5)

@@ -5,13 +5,19 @@ use Rattle.region_archive.proofs.reading.read.Statement.{statement}
 use Rattle.region_archive.proofs.reading.read.Tie as tie
 
 returns : tie.Need-returns
-returns c = reads-refused (c .refused .ensures) (c .before .if1 .taken) (λ f. stopped f (c .before .before .front .ensures) (c .before .if1 .taken))
+returns c =
+    let stop = c .before .if1 .taken in
+    reads-refused (c .refused .ensures) stop (λ f. stopped f (c .before .before .front .ensures) stop)
 
 body-at-requires : tie.Need-body-at-requires
-body-at-requires c κs = long-enough (c .before .before .before .args .bytes .now) (λ i. c .before .before .shared-slice-known .given i .fits) (sym (c .if1 .left) ∙ c .before .front .ensures)
+body-at-requires c κs =
+    let s = c .before .before in
+    long-enough (s .before .args .bytes .now) (λ i. s .shared-slice-known .given i .fits) (sym (c .if1 .left) ∙ c .before .front .ensures)
 
 returns-2 : tie.Need-returns-2
-returns-2 c = body-reads (λ i. c .before .before .before .shared-slice-known .given i .fits) (sym (c .before .if1 .left) ∙ c .before .before .front .ensures) (c .body-at .ensures)
+returns-2 c =
+    let f = c .before .before in
+    body-reads (λ i. f .before .shared-slice-known .given i .fits) (sym (c .before .if1 .left) ∙ f .front .ensures) (c .body-at .ensures)
 
 pub read-spec : {M : Type 1} → statement M
 read-spec = tie.close (tie.spec (λ c κs. search needs) (λ c κs. search needs) returns body-at-requires returns-2)

@@ -65,7 +65,8 @@ returns-2 c =
 
 -- the row is as long as it was
 kept : (c : tie.After-slice-known4)
-    → (let p = c .before .before .before .before in let row = start p .args .row .now in let at = part-place (p .before .most-in .result) (start p .args .field) in
+    → (let p = c .before .before .before .before in let row = start p .args .row .now in
+    let at = part-place (p .before .most-in .result) (start p .args .field) in
     length (putMid at (length row - at) row (c .before .before .part-at .last .1 .1 .1 .1 .0)) ≡ length row)
 kept c =
     let p = c .before .before .before .before in
@@ -85,22 +86,15 @@ pub field-at-spec : {M : Type 1} → statement M
 field-at-spec =
     tie.close
     (tie.spec
-    first-at-requires
-    second-at-requires
-    (λ c κs. search needs)
-    (λ c κs. search needs)
-    two
+    first-at-requires second-at-requires (λ c κs. search needs) (λ c κs. search needs) two
     (λ c. omega (arith, room c .1))
     (λ c. omega (arith, room c .1))
     (λ c. omega (arith, room c .1))
     (λ c. omega (arith, room c .1))
     (λ c. omega (arith, room c .0, start c .pre .1 .1))
     (λ c. omega (arith, room c .0, start c .pre .1 .1))
-    (λ c. search needs)
-    part-at-requires
+    (λ c. search needs) part-at-requires
     (λ c. c .before .before .first-at .ensures .size)
     returns
     (λ c. c .before .before .second-at .ensures .size)
-    returns-2
-    kept
-    returns-3)
+    returns-2 kept returns-3)

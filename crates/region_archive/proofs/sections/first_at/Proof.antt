@@ -25,10 +25,4 @@ pub first-at-spec : {M : Type 1} → statement M
 first-at-spec =
     tie.close
     (tie.spec
-    (λ c κs. search needs)
-    number-at-requires
-    returns
-    (λ c. search needs)
-    (λ c κs. search needs)
-    (λ c. search needs)
-    returns-2)
+    (λ c κs. search needs) number-at-requires returns (λ c. search needs) (λ c κs. search needs) (λ c. search needs) returns-2)

@@ -133,24 +133,13 @@ pub list-at-spec : {M : Type 1} → statement M
 list-at-spec =
     tie.close
     (tie.spec
-    Inv-loop
-    μ-loop
+    Inv-loop μ-loop
     (λ c κs. (c .before .before .pre .0, omega (arith, c .before .before .pre .1 .0)))
-    returns
-    (λ c. search needs)
-    (λ c. search needs)
-    loop-holds
+    returns (λ c. search needs) (λ c. search needs) loop-holds
     (λ c κs. (c .before .loop .inv .1 .1 .going .room, omega arith))
     (λ c. kept (c .before .before .before .before))
-    returns-2
-    (λ c. search needs)
+    returns-2 (λ c. search needs)
     (λ c. kept (c .before .before .before .before .before .before))
-    returns-3
-    (λ c. search needs)
-    mul-row
-    row-room
-    add-least
-    (λ c. search needs)
-    loop-again
+    returns-3 (λ c. search needs) mul-row row-room add-least (λ c. search needs) loop-again
     (λ c. kept (c .before))
     returns-4)

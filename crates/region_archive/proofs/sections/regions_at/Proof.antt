@@ -64,7 +64,8 @@ returns-2 c =
     let s = start (c .before) in
     let b = s .args .bytes .now in
     let l = c .before .loop in
-    regions-end (c .before .before .before .before .before .count-at .ensures) (not-false _ (c .before .before .before .if1 .left)) (l .inv .1 .1 .1) (l .inv .0)
+    let e = c .before .before .before in
+    regions-end (e .before .before .count-at .ensures) (not-false _ (e .if1 .left)) (l .inv .1 .1 .1) (l .inv .0)
     (omega (arith, l .inv .0, l .inv .1 .0, l .inv .1 .1 .0, s .pre .1))
     (λ h.
     ⊎-elim (λ w. absurd (omega (arith, h, w .left)))
@@ -79,15 +80,12 @@ pub regions-at-spec : {M : Type 1} → statement M
 regions-at-spec =
     tie.close
     (tie.spec
-    Inv-loop
-    μ-loop
+    Inv-loop μ-loop
     (λ c κs. (c .before .before .pre .0, omega arith))
     (λ c. regions-missing (c .before .before .count-at .ensures) (not-true _ (c .if1 .taken)))
-    (λ c. search needs)
-    loop-holds
+    (λ c. search needs) loop-holds
     (λ c κs. (c .before .loop .inv .1 .1 .1 .going .room, omega arith))
-    (λ c κs. search needs)
-    (λ c κs. search needs)
+    (λ c κs. search needs) (λ c κs. search needs)
     (λ c. omega (arith, head c .loop .inv .1 .0, inner c .before .loop-test .taken))
     room
     (λ c. omega (arith, byte c .is-good))

@@ -75,7 +75,8 @@ counted c =
     (c .before .most-records .ensures) (r .ensures)
 
 -- the next row is within the rows
-room : (c : tie.In-records Inv-fields μ-fields Inv-records μ-records) → (end-of (c .before) ≤ length (c .before .records .rows)) × (end-of (c .before) ≤ 2544)
+room : (c : tie.In-records Inv-fields μ-fields Inv-records μ-records)
+    → (end-of (c .before) ≤ length (c .before .records .rows)) × (end-of (c .before) ≤ 2544)
 room c =
     let s = start (c .before) in
     let l = c .before .records .inv .1 in
@@ -121,6 +122,12 @@ field-at-requires c κs =
       ),
     )
 
+add-field : tie.Need-add-field Inv-fields μ-fields Inv-records μ-records
+add-field c =
+    let t = c .before .before .before .before .before .before .before in
+    let a = outer (t .before) in
+    omega (arith, t .fields-test .taken, a .before .before .field-count .ensures, few-fields (source a .section))
+
 fields-again : tie.Need-fields-again Inv-fields μ-fields Inv-records μ-records
 fields-again c =
     let r = c .before .before .before .before .field-at in
@@ -159,8 +166,8 @@ done c =
     record {
       stands = stands (f .before);
       fields =
-          subst (λ (j : ℕ). FieldsRead (source a) (a .records .least) (r .stop) (r .next) j (midOf (a .records .base) (end-of a - a .records .base) (v .rows)) (v .to))
-          e (v .inv .1 .1 .1);
+          let row = midOf (a .records .base) (end-of a - a .records .base) (v .rows) in
+          subst (λ (j : ℕ). FieldsRead (source a) (a .records .least) (r .stop) (r .next) j row (v .to)) e (v .inv .1 .1 .1);
       ends = ap (λ (n : ℕ). a .records .base + n) (a .before .width .ensures);
       room = reached f;
     }
@@ -236,31 +243,20 @@ pub section-at-spec : {M : Type 1} → statement M
 section-at-spec =
     tie.close
     (tie.spec
-    Inv-fields
-    μ-fields
-    Inv-records
-    μ-records
-    (λ c κs. search needs)
+    Inv-fields μ-fields Inv-records μ-records (λ c κs. search needs)
     (λ c κs. let s = c .before .before .before in (s .pre .0, omega (arith, c .most-records .ensures, most-small (s .args .section))))
     (λ c.
     let a = c .before .before .before .before .before .before .args in
     section-missing (from-bytes (a .section) (a .regions) (a .bytes .now)) (counted (c .before .before)) (not-true _ (c .if1 .taken)))
-    (λ c. search needs)
-    (λ c κs. search needs)
-    (λ c κs. search needs)
-    records-holds
+    (λ c. search needs) (λ c κs. search needs) (λ c κs. search needs) records-holds
     (λ c κs. c .before .records .inv .1 .1 .1 .going .room)
     (λ c. omega (arith, room (c .before .before .before) .1))
-    fields-holds
-    slice-aggregate-field-at
+    fields-holds slice-aggregate-field-at
     (λ c. omega (arith, room (c .before .before .before .before .before .before) .1))
-    (λ c. omega arith)
-    (λ c. omega arith)
+    (λ c. omega arith) (λ c. omega arith)
     (λ c. reached (c .before .before))
     field-at-requires
-    (λ c.
-    let f = c .before .before .before .before .before .before .before .before in
-    omega (arith, c .before .before .before .before .before .before .before .fields-test .taken, outer f .before .before .field-count .ensures, few-fields (source (outer f) .section)))
+    add-field
     (λ c. omega (arith, c .before .before .before .before .before .before .before .fields-test .taken))
     fields-again
     (λ c. omega (arith, room (c .before .before .before .before .before .before) .1))
@@ -272,10 +268,6 @@ section-at-spec =
     (λ c.
     let f = c .before .before .before .before in
     omega (arith, reached f, outer f .before .width .ensures, wide (source (outer f) .section)))
-    (λ c κs. search needs)
-    add-least
-    add-n
+    (λ c κs. search needs) add-least add-n
     (λ c. omega (arith, whole c .before .before .before .before .records-test .taken))
-    records-again
-    kept
-    returns-2)
+    records-again kept returns-2)

@@ -10,19 +10,21 @@ use Rattle.region_archive.proofs.writing.part_size.Statement.{statement
 use Rattle.region_archive.proofs.writing.part_size.Tie as tie
 
 returns : tie.Need-returns
-returns c = (ap (λ (p : Part). length (part-bytes (big 4) p)) (sym (part-all (c .before .before .args .part) (c .if1 .taken))), omega arith)
-
-mul-result : tie.Need-mul-result
-mul-result c = omega (arith, c .before .before .before .pre .count (c .before .if1 .left))
-
-add-result : tie.Need-add-result
-add-result c = omega (arith, c .before .before .before .pre .count (c .before .if1 .left))
+returns c =
+    (ap (λ (p : Part). length (part-bytes (big 4) p)) (sym (part-all (c .before .before .args .part) (c .if1 .taken))), omega arith)
 
 returns-2 : tie.Need-returns-2
 returns-2 c =
     let s = c .before .before .before in
     let f = part-list (s .args .part) (s .pre) (c .before .if1 .left) in
-    (omega (arith, list-size (s .args .part) f, ap (λ (p : Part). length (part-bytes (big 4) p)) (part-listed (s .args .part) (c .before .if1 .left))), omega (arith, f .count))
+    let e = ap (λ (p : Part). length (part-bytes (big 4) p)) (part-listed (s .args .part) (c .before .if1 .left)) in
+    (omega (arith, list-size (s .args .part) f, e), omega (arith, f .count))
 
 pub part-size-spec : {M : Type 1} → statement M
-part-size-spec = tie.close (tie.spec returns mul-result add-result returns-2)
+part-size-spec =
+    tie.close
+    (tie.spec
+    returns
+    (λ c. omega (arith, c .before .before .before .pre .count (c .before .if1 .left)))
+    (λ c. omega (arith, c .before .before .before .pre .count (c .before .if1 .left)))
+    returns-2)

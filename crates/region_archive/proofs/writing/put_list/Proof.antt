@@ -21,55 +21,47 @@ Inv-loop buffer₀ at list total to₀ i₀ buffer to i =
 abbrev μ-loop : tie.MeasureT-loop
 μ-loop buffer₀ at list total to₀ i₀ buffer to i = total - i
 
-loop-holds : tie.Need-loop-holds Inv-loop μ-loop
-loop-holds c = (omega arith, wrote-start (c .before .before .put-number .ensures))
+-- the places before the loop
+abbrev put-count : tie.At-loop Inv-loop μ-loop → tie.After-put-number Inv-loop μ-loop
+put-count c = c .before .before .before
 
-mul-put-number : tie.Need-mul-put-number Inv-loop μ-loop
-mul-put-number c = omega (arith, c .before .before .before .before .before .before .before .before .pre .0 .count)
-
-element-copy-out-put-number : tie.Need-element-copy-out-put-number Inv-loop μ-loop
-element-copy-out-put-number c = omega (arith, c .before .before .before .before .before .before .before .before .pre .0 .count)
+abbrev start : tie.At-loop Inv-loop μ-loop → tie.Start Inv-loop μ-loop
+start c = put-count c .before .before .before
 
 put-number-requires-2 : tie.Need-put-number-requires-2 Inv-loop μ-loop
 unfolding numbers-of
 put-number-requires-2 c κs =
-    let s = c .before .before .before .before .before .before .before .before .before in
-    let l = c .before .before .before .loop in
+    let a = c .before .before .before in
+    let s = start a in
     let n = s .args .t3 in
-    wrote-room (length (counted (big 4) (numbers-of n))) 4 (c .before .before .before .before .before .before .put-number .ensures) (l .inv .1) (s .pre .1)
-    (omega (arith, concat-within (big 4) (n .items) (l .i) (n .count) 0 (omega arith) (omega (arith, s .pre .0 .count, s .pre .0 .size))))
+    wrote-room (length (counted (big 4) (numbers-of n))) 4 (put-count a .put-number .ensures) (a .loop .inv .1) (s .pre .1)
+    (omega (arith, concat-within (big 4) (n .items) (a .loop .i) (n .count) 0 (omega arith) (omega (arith, s .pre .0 .count, s .pre .0 .size))))
 
 loop-again : tie.Need-loop-again Inv-loop μ-loop
 loop-again c =
-    let s = c .before .before .before .before .before .before .before .before .before .before .before .before in
-    let l = c .before .before .before .before .before .before .loop in
-    (omega arith, rw (concat-next (big 4) (s .args .t3 .items) (l .i) 0 (omega (arith, s .pre .0 .count, s .pre .0 .size))) (wrote-then (l .inv .1) (c .before .before .put-number2 .ensures)))
-
-same-length : tie.Need-same-length Inv-loop μ-loop
-same-length c = wrote-length (c .before .loop .inv .1) ∙ wrote-length (c .before .before .before .before .put-number .ensures)
+    let a = c .before .before .before .before .before .before in
+    let s = start a in
+    let e = concat-next (big 4) (s .args .t3 .items) (a .loop .i) 0 (omega (arith, s .pre .0 .count, s .pre .0 .size)) in
+    (omega arith, rw e (wrote-then (a .loop .inv .1) (c .before .before .put-number2 .ensures)))
 
 returns : tie.Need-returns Inv-loop μ-loop
 unfolding numbers-of
 returns c =
-    let s = c .before .before .before .before .before .before .before in
+    let a = c .before in
+    let s = start a in
     let n = s .args .t3 in
-    let e : c .before .loop .i ≡ n .count = omega arith in
-    wrote-counted (big 4) (numbers-of n) (numbers-length n (s .pre .0)) (omega (arith, s .pre .0 .count)) (ap (λ (k : ℕ). concat-map (big 4) (take k (n .items))) e) (c .before .before .before .before .put-number .ensures) (c .before .loop .inv .1)
+    let e : a .loop .i ≡ n .count = omega arith in
+    wrote-counted (big 4) (numbers-of n) (numbers-length n (s .pre .0)) (omega (arith, s .pre .0 .count))
+    (ap (λ (k : ℕ). concat-map (big 4) (take k (n .items))) e) (put-count a .put-number .ensures) (a .loop .inv .1)
 
 pub put-list-spec : {M : Type 1} → statement M
 put-list-spec =
     tie.close
     (tie.spec
-    Inv-loop
-    μ-loop
-    (λ c κs. search needs)
-    loop-holds
-    mul-put-number
-    element-copy-out-put-number
-    (λ c. search needs)
-    put-number-requires-2
-    (λ c. search needs)
-    (λ c. search needs)
-    loop-again
-    same-length
+    Inv-loop μ-loop (λ c κs. search needs)
+    (λ c. (omega arith, wrote-start (c .before .before .put-number .ensures)))
+    (λ c. omega (arith, start (c .before .before) .pre .0 .count))
+    (λ c. omega (arith, start (c .before .before) .pre .0 .count))
+    (λ c. search needs) put-number-requires-2 (λ c. search needs) (λ c. search needs) loop-again
+    (λ c. wrote-length (c .before .loop .inv .1) ∙ wrote-length (put-count (c .before) .put-number .ensures))
     returns)

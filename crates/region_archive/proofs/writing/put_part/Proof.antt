@@ -15,24 +15,28 @@ put-number-requires c κs =
     let s = c .before .before .before .before in
     omega (arith, s .pre .1, ap (λ (p : Part). length (part-bytes (big 4) p)) (part-all (s .args .part) (c .before .if1 .taken)))
 
-same-length : tie.Need-same-length
-same-length c = wrote-length (c .before .before .put-number .ensures)
-
 returns : tie.Need-returns
-returns c = wrote-is (ap (part-bytes (big 4)) (sym (part-all (c .before .before .before .before .before .before .before .args .part) (c .before .before .before .before .if1 .taken)))) (c .before .before .put-number .ensures)
+returns c =
+    let a = c .before .before .before .before in
+    wrote-is (ap (part-bytes (big 4)) (sym (part-all (a .before .before .before .args .part) (a .if1 .taken)))) (c .before .before .put-number .ensures)
 
 put-list-requires : tie.Need-put-list-requires
 put-list-requires c κs =
     let s = c .before .before .before .before in
-    (part-list (s .args .part) (s .pre .0) (c .before .if1 .left), omega (arith, s .pre .1, ap (λ (p : Part). length (part-bytes (big 4) p)) (part-listed (s .args .part) (c .before .if1 .left))))
-
-same-length-2 : tie.Need-same-length-2
-same-length-2 c = wrote-length (c .before .before .put-list .ensures)
+    let e = part-listed (s .args .part) (c .before .if1 .left) in
+    (part-list (s .args .part) (s .pre .0) (c .before .if1 .left), omega (arith, s .pre .1, ap (λ (p : Part). length (part-bytes (big 4) p)) e))
 
 returns-2 : tie.Need-returns-2
-returns-2 c = wrote-is (ap (part-bytes (big 4)) (sym (part-listed (c .before .before .before .before .before .before .before .args .part) (c .before .before .before .before .if1 .left)))) (c .before .before .put-list .ensures)
+returns-2 c =
+    let a = c .before .before .before .before in
+    wrote-is (ap (part-bytes (big 4)) (sym (part-listed (a .before .before .before .args .part) (a .if1 .left)))) (c .before .before .put-list .ensures)
 
 pub put-part-spec : {M : Type 1} → statement M
 put-part-spec =
     tie.close
-    (tie.spec put-number-requires same-length returns put-list-requires same-length-2 returns-2)
+    (tie.spec
+    put-number-requires
+    (λ c. wrote-length (c .before .before .put-number .ensures))
+    returns put-list-requires
+    (λ c. wrote-length (c .before .before .put-list .ensures))
+    returns-2)

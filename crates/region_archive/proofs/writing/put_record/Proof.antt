@@ -19,61 +19,56 @@ Inv-loop buffer₀ at section values size total to₀ field₀ buffer to field =
 abbrev μ-loop : tie.MeasureT-loop
 μ-loop buffer₀ at section values size total to₀ field₀ buffer to field = total - field
 
-fields-size-requires : tie.Need-fields-size-requires Inv-loop μ-loop
-fields-size-requires c κs = c .before .pre .0
+-- the places before the loop
+abbrev put-size : tie.At-loop Inv-loop μ-loop → tie.After-put-number Inv-loop μ-loop
+put-size c = c .before .before .before
 
-loop-holds : tie.Need-loop-holds Inv-loop μ-loop
-loop-holds c = (omega arith, wrote-start (c .before .before .put-number .ensures))
+abbrev counted : tie.At-loop Inv-loop μ-loop → tie.After-field-count Inv-loop μ-loop
+counted c = put-size c .before .before
+
+abbrev start : tie.At-loop Inv-loop μ-loop → tie.Start Inv-loop μ-loop
+start c = counted c .before .before .before
 
 put-field-requires : tie.Need-put-field-requires Inv-loop μ-loop
 put-field-requires c κs =
-    let s = c .before .before .before .before .before .before .before .before .before .before in
-    let l = c .before .before .loop in
-    let f = field-bytes (s .args .section) in
+    let a = c .before .before in
+    let s = start a in
+    let k = s .args .section in
     let x = fields-in (s .args .values) in
-    let e : l .field + 1 ≤ field-count (s .args .section) = omega (arith, c .before .before .before .before .before .before .before .field-count .ensures) in (
+    let e : a .loop .field + 1 ≤ field-count k = omega (arith, counted a .field-count .ensures) in (
       s .pre .0,
       (
         e,
-        wrote-room (length (sized 2 (fields-bytes (s .args .section)) x)) (length (f (l .field) x)) (c .before .before .before .before .before .put-number .ensures) (l .inv .1) (s .pre .1)
-            (omega (arith, bytes-within f (field-count (s .args .section)) (l .field) x (omega arith))),
+        wrote-room (length (sized 2 (fields-bytes k) x)) (length (field-bytes k (a .loop .field) x)) (put-size a .put-number .ensures) (a .loop .inv .1)
+            (s .pre .1) (omega (arith, bytes-within (field-bytes k) (field-count k) (a .loop .field) x (omega arith))),
       ),
     )
 
 loop-again : tie.Need-loop-again Inv-loop μ-loop
 loop-again c =
-    let s = c .before .before .before .before .before .before .before .before .before .before .before .before .before .args in
-    let l = c .before .before .before .before .before .loop in
-    (omega arith, wrote-is (sym (bytes-next (field-bytes (s .section)) (l .field) (fields-in (s .values)))) (wrote-then (l .inv .1) (c .before .before .put-field .ensures)))
-
-same-length : tie.Need-same-length Inv-loop μ-loop
-same-length c = wrote-length (c .before .loop .inv .1) ∙ wrote-length (c .before .before .before .before .put-number .ensures)
+    let a = c .before .before .before .before .before in
+    let s = start a .args in
+    let e = bytes-next (field-bytes (s .section)) (a .loop .field) (fields-in (s .values)) in
+    (omega arith, wrote-is (sym e) (wrote-then (a .loop .inv .1) (c .before .before .put-field .ensures)))
 
 returns : tie.Need-returns Inv-loop μ-loop
 returns c =
-    let s = c .before .before .before .before .before .before .before .before .before .args in
-    let l = c .before .loop in
+    let a = c .before in
+    let s = start a .args in
     let f = field-bytes (s .section) in
     let x = fields-in (s .values) in
-    let e : l .field ≡ c .before .before .before .before .before .before .field-count .result = omega arith in
-    wrote-is
-    (ap (λ (n : ℕ). big 2 n ++ bytes-to f (l .field) x) (c .before .before .before .before .before .before .before .fields-size .ensures .0)
-    ∙ ap (λ (k : ℕ). big 2 (length (fields-bytes (s .section) x)) ++ bytes-to f k x) (e ∙ c .before .before .before .before .before .before .field-count .ensures))
-    (wrote-then (c .before .before .before .before .put-number .ensures) (l .inv .1))
+    let e : a .loop .field ≡ field-count (s .section) = omega (arith, counted a .field-count .ensures) in
+    let size = counted a .before .fields-size .ensures .0 in
+    wrote-is (λ i. big 2 (size i) ++ bytes-to f (e i) x) (wrote-then (put-size a .put-number .ensures) (a .loop .inv .1))
 
 pub put-record-spec : {M : Type 1} → statement M
 put-record-spec =
     tie.close
     (tie.spec
-    Inv-loop
-    μ-loop
-    fields-size-requires
-    (λ c κs. search needs)
-    (λ c κs. search needs)
-    loop-holds
-    put-field-requires
-    (λ c. search needs)
-    (λ c. search needs)
-    loop-again
-    same-length
+    Inv-loop μ-loop
+    (λ c κs. c .before .pre .0)
+    (λ c κs. search needs) (λ c κs. search needs)
+    (λ c. (omega arith, wrote-start (c .before .before .put-number .ensures)))
+    put-field-requires (λ c. search needs) (λ c. search needs) loop-again
+    (λ c. wrote-length (c .before .loop .inv .1) ∙ wrote-length (put-size (c .before) .put-number .ensures))
     returns)

@@ -94,12 +94,7 @@ pub put-section-spec : {M : Type 1} → statement M
 put-section-spec =
     tie.close
     (tie.spec
-    Inv-loop
-    μ-loop
-    (λ c κs. search needs)
-    (λ c κs. search needs)
-    (λ c κs. search needs)
-    (λ c κs. search needs)
+    Inv-loop μ-loop (λ c κs. search needs) (λ c κs. search needs) (λ c κs. search needs) (λ c κs. search needs)
     (λ c. (omega arith, wrote-start (c .before .before .put-number .ensures)))
     (λ c. search needs)
     (λ c. omega (arith, bundle-inside (here (c .before .before)) (c .enum-told .given .1)))
@@ -109,9 +104,6 @@ put-section-spec =
     (λ c. omega (arith, connection-inside (here (c .before .before)) (c .enum-told2 .given .1)))
     (λ c. connection-inside (here (c .before .before)) (c .enum-told2 .given .1))
     (λ c κs. connection-fit (here (c .before .before .before)) (c .before .enum-told2 .given .1) _)
-    put-record-requires
-    (λ c. search needs)
-    (λ c. search needs)
-    loop-again
+    put-record-requires (λ c. search needs) (λ c. search needs) loop-again
     (λ c. wrote-length (c .before .loop .inv .1) ∙ wrote-length (c .before .before .before .before .put-number .ensures))
     returns)

@@ -17,38 +17,28 @@ abbrev μ-loop : tie.MeasureT-loop
 
 loop-again : tie.Need-loop-again Inv-loop μ-loop
 loop-again c =
-    let x = c .before .before .before .before .region-set .result in
-    let l = c .before .before .before .loop in (
-      omega arith,
-      ap (λ (n : ℕ). n + 1) (l .inv .1) ∙ sym (ap length (met-took x (l .region) (omega arith) (sym (c .before .has .ensures) ∙ c .if1 .taken)) ∙ length-append (met x (l .region)) (l .region ∷ [])),
-      omega arith,
-    )
+    let a = c .before .before .before in
+    let x = a .before .region-set .result in
+    let r = a .loop .region in
+    let took = met-took x r (omega arith) (sym (c .before .has .ensures) ∙ c .if1 .taken) in
+    (omega arith, ap (λ (n : ℕ). n + 1) (a .loop .inv .1) ∙ sym (ap length took ∙ length-append (met x r) (r ∷ [])), omega arith)
 
 loop-again-2 : tie.Need-loop-again-2 Inv-loop μ-loop
 loop-again-2 c =
-    let l = c .before .before .before .loop in
-    (omega arith, l .inv .1 ∙ sym (ap length (met-left (c .before .before .before .before .region-set .result) (l .region) (omega arith) (sym (c .before .has .ensures) ∙ c .if1 .left))), omega arith)
+    let a = c .before .before .before in
+    let left = met-left (a .before .region-set .result) (a .loop .region) (omega arith) (sym (c .before .has .ensures) ∙ c .if1 .left) in
+    (omega arith, a .loop .inv .1 ∙ sym (ap length left), omega arith)
 
 returns : tie.Need-returns Inv-loop μ-loop
 returns c =
-    let s = c .before .before .before in
+    let a = c .before .before in
+    let s = a .before in
     let l = c .before .loop in
-    (l .inv .1 ∙ ap length (met-all (s .args .graph) (s .pre) (c .before .before .region-set .ensures) (l .region) (omega arith)), omega arith)
+    (l .inv .1 ∙ ap length (met-all (s .args .graph) (s .pre) (a .region-set .ensures) (l .region) (omega arith)), omega arith)
 
 pub region-count-spec : {M : Type 1} → statement M
 region-count-spec =
     tie.close
     (tie.spec
-    Inv-loop
-    μ-loop
-    (λ c κs. search needs)
-    (λ c. search needs)
-    (λ c. search needs)
-    (λ c κs. search needs)
-    (λ c. search needs)
-    (λ c. search needs)
-    (λ c. search needs)
-    loop-again
-    (λ c. search needs)
-    loop-again-2
-    returns)
+    Inv-loop μ-loop (λ c κs. search needs) (λ c. search needs) (λ c. search needs) (λ c κs. search needs) (λ c. search needs) (λ c. search needs)
+    (λ c. search needs) loop-again (λ c. search needs) loop-again-2 returns)

@@ -80,13 +80,7 @@ pub section-size-spec : {M : Type 1} → statement M
 section-size-spec =
     tie.close
     (tie.spec
-    Inv-loop
-    μ-loop
-    (λ c κs. search needs)
-    (λ c κs. search needs)
-    (λ c κs. search needs)
-    (λ c. search needs)
-    (λ c. search needs)
+    Inv-loop μ-loop (λ c κs. search needs) (λ c κs. search needs) (λ c κs. search needs) (λ c. search needs) (λ c. search needs)
     (λ c. omega (arith, bundle-inside (here (c .before .before)) (c .enum-told .given .1)))
     (λ c. bundle-inside (here (c .before .before)) (c .enum-told .given .1))
     (λ c κs. bundle-fit (here (c .before .before .before)) (c .before .enum-told .given .1) _)
@@ -98,6 +92,4 @@ section-size-spec =
     (λ c κs. values-are c .fits)
     (λ c. search needs)
     (λ c. omega (arith, few (c .before .before .before), c .fields-size .ensures .1))
-    (λ c. search needs)
-    loop-again
-    returns)
+    (λ c. search needs) loop-again returns)

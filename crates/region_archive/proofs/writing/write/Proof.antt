@@ -1,132 +1,142 @@
-use borrow.Author.Needs.{needs}
 use mathlib.Core.Path.{_≡_, ap, _∙_}
-use mathlib.Core.List.{_++_}
-use Prim.Native.Nat.{ℕ, _+_}
+use Prim.Native.Nat.{ℕ, _+_, _≤_}
 use native.Mathlib.Omega.{arith}
+use borrow.Author.Needs.{needs}
 use lib.ListN.{length}
+use Rattle.region_graph.specs.Model.{Model}
 use Rattle.region_graph.specs.Record.{meaning}
 use Rattle.text_lines.proofs.Writes.{wrote-is, wrote-then, wrote-length}
 use Rattle.region_archive.specs.Bytes.{big, counted}
-use Rattle.region_archive.specs.Image.{version, body}
+use Rattle.region_archive.specs.Image.{body}
 use Rattle.region_archive.specs.RecordFields.{section-bytes}
 use Rattle.region_archive.specs.declared.record_fields.Section.the-variants as Section
-use Rattle.region_archive.proofs.Images.{body-size, image-size, image-pieces, regions-size, wrote-image, no-image}
+use Rattle.region_archive.proofs.Images.{body-size, image-size, pieces, image-pieces, regions-size, wrote-image, no-image}
+use Rattle.region_archive.proofs.Writes.{wrote-leaves}
 use Rattle.region_archive.proofs.writing.write.Statement.{statement}
 use Rattle.region_archive.proofs.writing.write.Tie as tie
 
-add-size : tie.Need-add-size
-add-size c = omega (arith, c .before .before .region-count .ensures .1)
+-- the model that is written
+abbrev model : tie.After-section-size2 → Model
+model c = meaning (c .before .before .before .before .args .graph)
 
-add-size-2 : tie.Need-add-size-2
-add-size-2 c = omega (arith, c .before .before .region-count .ensures .1, c .before .section-size .ensures .1)
+-- where the version, the size, the regions and the bundles were written
+abbrev version-put : tie.After-slice-known3 → tie.After-slice-known2
+version-put c = c .before .before .before .before
 
-add-size-3 : tie.Need-add-size-3
-add-size-3 c = omega (arith, c .before .before .region-count .ensures .1, c .before .section-size .ensures .1, c .section-size2 .ensures .1)
+abbrev size-put : tie.After-slice-known4 → tie.After-slice-known3
+size-put c = c .before .before .before .before
 
-add-if1 : tie.Need-add-if1
-add-if1 c = omega (arith, c .before .before .region-count .ensures .1, c .before .section-size .ensures .1, c .section-size2 .ensures .1)
+abbrev regions-put : tie.After-slice-known5 → tie.After-slice-known4
+regions-put c = c .before .before .before .before
+
+abbrev bundles-put : tie.After-slice-known6 → tie.After-slice-known5
+bundles-put c = c .before .before .before .before
+
+-- the sizes of the parts are small, and make that of the body
+few : (c : tie.After-section-size2) → c .before .before .region-count .result + c .before .section-size .result + c .section-size2 .result ≤ 42000
+few c = omega (arith, c .before .before .region-count .ensures .1, c .before .section-size .ensures .1, c .section-size2 .ensures .1)
+
+size-is : (c : tie.After-section-size2)
+    → 1 + c .before .before .region-count .result + c .before .section-size .result + c .section-size2 .result ≡ length (body (model c))
+size-is c =
+    omega (arith, body-size (model c), c .before .before .region-count .ensures .0, c .before .section-size .ensures .0, c .section-size2 .ensures .0)
+
+abbrev sized : tie.After-slice-known2 → tie.Else1
+sized c = c .before .before .before .before
+
+-- the lengths of the sections, and that the buffer has places for all
+abbrev regions-length : tie.Else1 → ℕ
+regions-length c = length (counted (big 1) (model (c .before) .regions))
+
+abbrev bundles-length : tie.Else1 → ℕ
+bundles-length c = length (section-bytes Section.Bundles (model (c .before)))
+
+abbrev connections-length : tie.Else1 → ℕ
+connections-length c = length (section-bytes Section.Connections (model (c .before)))
+
+fits : (c : tie.Else1)
+    → 5 + (regions-length c + (bundles-length c + connections-length c)) ≤ length (c .before .before .before .before .before .args .buffer .now)
+fits c = let m = model (c .before) in omega (arith, c .if1 .left, size-is (c .before), body-size m, regions-size (m .regions))
 
 returns : tie.Need-returns
 returns c =
-    let s = c .before .before .before .before .before .args in
-    no-image (meaning (s .graph)) (s .buffer .now)
-    (omega (arith, image-size (meaning (s .graph)), body-size (meaning (s .graph)), c .before .before .before .region-count .ensures .0, c .before .before .section-size .ensures .0, c .before .section-size2 .ensures .0, c .if1 .taken))
-
-put-number-requires : tie.Need-put-number-requires
-put-number-requires c κs = omega (arith, c .before .if1 .left)
-
-put-number-requires-2 : tie.Need-put-number-requires-2
-put-number-requires-2 c κs = omega (arith, c .before .before .before .before .before .if1 .left, c .before .before .before .put-number .ensures .ends, wrote-length (c .before .before .before .put-number .ensures))
+    let a = c .before in
+    no-image (model a) (a .before .before .before .before .args .buffer .now) (omega (arith, image-size (model a), size-is a, c .if1 .taken))
 
 put-regions-requires : tie.Need-put-regions-requires
 put-regions-requires c κs =
-    let s = c .before .before .before .before .before .before .before .before .before .before .before .before .before .before in (
-      s .pre,
-      omega (
-        arith,
-        regions-size (meaning (s .args .graph) .regions),
-        c .before .before .before .before .before .before .before .before .before .before .before .before .region-count .ensures .0,
-        c .before .before .before .before .before .before .before .before .before .if1 .left,
-        c .before .before .before .before .before .before .before .put-number .ensures .ends,
-        wrote-length (c .before .before .before .before .before .before .before .put-number .ensures),
-        c .before .before .before .put-number2 .ensures .ends,
-        wrote-length (c .before .before .before .put-number2 .ensures),
-      ),
+    let d = c .before in
+    let v = version-put d in
+    let e = sized v in (
+      e .before .before .before .before .before .pre,
+      wrote-leaves (d .before .before .put-number2 .ensures) (regions-length e)
+          (wrote-leaves (v .before .before .put-number .ensures) (4 + regions-length e) (omega (arith, fits e))),
     )
 
 put-section-requires : tie.Need-put-section-requires
 put-section-requires c κs =
-    let s = c .before .before .before .before .before .before .before .before .before .before .before .before .before .before .before .before .before .before in (
-      s .pre,
-      omega (
-        arith,
-        regions-size (meaning (s .args .graph) .regions),
-        c .before .before .before .before .before .before .before .before .before .before .before .before .before .before .before .before .region-count .ensures .0,
-        c .before .before .before .before .before .before .before .before .before .before .before .before .before .before .before .section-size .ensures .0,
-        c .before .before .before .before .before .before .before .before .before .before .before .before .before .if1 .left,
-        c .before .before .before .before .before .before .before .before .before .before .before .put-number .ensures .ends,
-        wrote-length (c .before .before .before .before .before .before .before .before .before .before .before .put-number .ensures),
-        c .before .before .before .before .before .before .before .put-number2 .ensures .ends,
-        wrote-length (c .before .before .before .before .before .before .before .put-number2 .ensures),
-        c .before .before .before .put-regions .ensures .ends,
-        wrote-length (c .before .before .before .put-regions .ensures),
-      ),
+    let b = c .before in
+    let d = size-put b in
+    let v = version-put d in
+    let e = sized v in
+    let k = bundles-length e in (
+      e .before .before .before .before .before .pre,
+      wrote-leaves (b .before .before .put-regions .ensures) k
+          (wrote-leaves (d .before .before .put-number2 .ensures) (regions-length e + k)
+          (wrote-leaves (v .before .before .put-number .ensures) (4 + (regions-length e + k)) (omega (arith, fits e)))),
     )
 
 put-section-requires-2 : tie.Need-put-section-requires-2
 put-section-requires-2 c κs =
-    let s = c .before .before .before .before .before .before .before .before .before .before .before .before .before .before .before .before .before .before .before .before .before .before in (
-      s .pre,
-      omega (
-        arith,
-        regions-size (meaning (s .args .graph) .regions),
-        c .before .before .before .before .before .before .before .before .before .before .before .before .before .before .before .before .before .before .before .before .region-count .ensures .0,
-        c .before .before .before .before .before .before .before .before .before .before .before .before .before .before .before .before .before .before .before .section-size .ensures .0,
-        c .before .before .before .before .before .before .before .before .before .before .before .before .before .before .before .before .before .before .section-size2 .ensures .0,
-        c .before .before .before .before .before .before .before .before .before .before .before .before .before .before .before .before .before .if1 .left,
-        c .before .before .before .before .before .before .before .before .before .before .before .before .before .before .before .put-number .ensures .ends,
-        wrote-length (c .before .before .before .before .before .before .before .before .before .before .before .before .before .before .before .put-number .ensures),
-        c .before .before .before .before .before .before .before .before .before .before .before .put-number2 .ensures .ends,
-        wrote-length (c .before .before .before .before .before .before .before .before .before .before .before .put-number2 .ensures),
-        c .before .before .before .before .before .before .before .put-regions .ensures .ends,
-        wrote-length (c .before .before .before .before .before .before .before .put-regions .ensures),
-        c .before .before .before .put-section .ensures .ends,
-        wrote-length (c .before .before .before .put-section .ensures),
-      ),
+    let a = c .before in
+    let b = regions-put a in
+    let d = size-put b in
+    let v = version-put d in
+    let e = sized v in
+    let k = connections-length e in
+    let l = bundles-length e + k in (
+      e .before .before .before .before .before .pre,
+      wrote-leaves (a .before .before .put-section .ensures) k
+          (wrote-leaves (b .before .before .put-regions .ensures) l
+          (wrote-leaves (d .before .before .put-number2 .ensures) (regions-length e + l)
+          (wrote-leaves (v .before .before .put-number .ensures) (4 + (regions-length e + l)) (omega (arith, fits e))))),
     )
 
 same-length : tie.Need-same-length
 same-length c =
-    wrote-length (c .before .before .put-section2 .ensures) ∙ wrote-length (c .before .before .before .before .before .before .put-section .ensures) ∙ wrote-length (c .before .before .before .before .before .before .before .before .before .before .put-regions .ensures)
-    ∙ wrote-length (c .before .before .before .before .before .before .before .before .before .before .before .before .before .before .put-number2 .ensures) ∙ wrote-length (c .before .before .before .before .before .before .before .before .before .before .before .before .before .before .before .before .before .before .put-number .ensures)
+    let a = bundles-put c in
+    let b = regions-put a in
+    let d = size-put b in
+    wrote-length (c .before .before .put-section2 .ensures) ∙ wrote-length (a .before .before .put-section .ensures)
+    ∙ wrote-length (b .before .before .put-regions .ensures) ∙ wrote-length (d .before .before .put-number2 .ensures)
+    ∙ wrote-length (version-put d .before .before .put-number .ensures)
 
 returns-2 : tie.Need-returns-2
 returns-2 c =
-    let m = meaning (c .before .before .before .before .before .before .before .before .before .before .before .before .before .before .before .before .before .before .before .before .before .before .before .before .before .args .graph) in
-    let size : 1 + c .before .before .before .before .before .before .before .before .before .before .before .before .before .before .before .before .before .before .before .before .before .before .before .region-count .result + c .before .before .before .before .before .before .before .before .before .before .before .before .before .before .before .before .before .before .before .before .before .before .section-size .result + c .before .before .before .before .before .before .before .before .before .before .before .before .before .before .before .before .before .before .before .before .before .section-size2 .result ≡ length (body m) = omega (arith, body-size m, c .before .before .before .before .before .before .before .before .before .before .before .before .before .before .before .before .before .before .before .before .before .before .before .region-count .ensures .0, c .before .before .before .before .before .before .before .before .before .before .before .before .before .before .before .before .before .before .before .before .before .before .section-size .ensures .0, c .before .before .before .before .before .before .before .before .before .before .before .before .before .before .before .before .before .before .before .before .before .section-size2 .ensures .0) in
-    wrote-image m
-    (wrote-is
-    (ap (λ (n : ℕ). big 1 version ++ (big 4 n ++ (counted (big 1) (m .regions) ++ (section-bytes Section.Bundles m ++ section-bytes Section.Connections m)))) size ∙ image-pieces m)
-    (wrote-then (c .before .before .before .before .before .before .before .before .before .before .before .before .before .before .before .before .before .before .put-number .ensures)
-    (wrote-then (c .before .before .before .before .before .before .before .before .before .before .before .before .before .before .put-number2 .ensures)
-    (wrote-then (c .before .before .before .before .before .before .before .before .before .before .put-regions .ensures) (wrote-then (c .before .before .before .before .before .before .put-section .ensures) (c .before .before .put-section2 .ensures))))))
+    let a = bundles-put c in
+    let b = regions-put a in
+    let d = size-put b in
+    let v = version-put d in
+    let s = sized v .before in
+    wrote-image (model s)
+    (wrote-is (ap (pieces (model s)) (size-is s) ∙ image-pieces (model s))
+    (wrote-then (v .before .before .put-number .ensures)
+    (wrote-then (d .before .before .put-number2 .ensures)
+    (wrote-then (b .before .before .put-regions .ensures)
+    (wrote-then (a .before .before .put-section .ensures) (c .before .before .put-section2 .ensures))))))
 
 pub write-spec : {M : Type 1} → statement M
 write-spec =
     tie.close
     (tie.spec
-    (λ c κs. search needs)
-    (λ c κs. search needs)
-    (λ c κs. search needs)
-    add-size
-    add-size-2
-    add-size-3
-    add-if1
+    (λ c κs. search needs) (λ c κs. search needs) (λ c κs. search needs)
+    (λ c. omega (arith, few c))
+    (λ c. omega (arith, few c))
+    (λ c. omega (arith, few c))
+    (λ c. omega (arith, few c))
     returns
-    put-number-requires
-    put-number-requires-2
-    put-regions-requires
-    put-section-requires
-    put-section-requires-2
-    same-length
-    returns-2)
+    (λ c κs. omega (arith, c .before .if1 .left))
+    (λ c κs.
+    let v = c .before in
+    wrote-leaves (v .before .before .put-number .ensures) 4 (omega (arith, fits (sized v))))
+    put-regions-requires put-section-requires put-section-requires-2 same-length returns-2)

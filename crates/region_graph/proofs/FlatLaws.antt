@@ -14,7 +14,7 @@ use Rattle.region_graph.specs.Sets.{has, members}
 use Rattle.region_graph.specs.Model.{Bundle, Part, Connection, Word, Numbered, NumberedPart, LegalBundle, LegalConnection}
 use Rattle.region_graph.specs.Record.{store-numbers, store-provided, store-part, store-bundle, store-connection}
 use Rattle.region_graph.specs.Flat.{FlatPart}
-use Rattle.region_graph.specs.Decoded.{Decoded, FlatList, FlatBundle, FlatConnection, Lent, lent, put-list, put-part, ListDecoded, PartDecoded}
+use Rattle.region_graph.specs.Decoded.{Decoded, FlatList, FlatBundle, FlatConnection, WithCount, with-count, put-list, put-part, ListDecoded, PartDecoded}
 use Rattle.region_graph.specs.Places.{put-into}
 use Rattle.region_graph.specs.declared.numbers.Numbers.{Numbers}
 use Rattle.region_graph.specs.declared.numbers.Provided.{Provided}
@@ -37,12 +37,12 @@ module _ (row : List ℕ) (at : ℕ) where
 
   module _ (old : List ℕ) (c : ℕ) (e : c ≡ getD row at 0) where
     -- a count past the limit
-    pub list-long : {p : Lent} → length old < c → ListDecoded old row at false p
+    pub list-long : {p : WithCount} → length old < c → ListDecoded old row at false p
     list-long l = Decoded.none (λ ns g h. omega (arith, g .few, h .0)) refl
 
     -- the numbers that the count says
     pub list-found : {ok : Bool} {new : List ℕ} → c ≤ length old → at + (length old + 1) ≤ length row → ((i : ℕ) → Word (getD row i 0))
-        → new ≡ put-into old (span row at c) → ok ≡ ascends ltb (span row at c) → ListDecoded old row at ok (lent c new)
+        → new ≡ put-into old (span row at c) → ok ≡ ascends ltb (span row at c) → ListDecoded old row at ok (with-count c new)
     list-found {ok} {new} l room words f a = go ok (a ∙ ap (ascends ltb) (span-take row at c))
       where
         ns : List ℕ
@@ -59,18 +59,18 @@ module _ (row : List ℕ) (at : ℕ) where
             all-of Word 0 ns (λ i h.
             subst Word (sym (getD-take c (drop (at + 1) row) i 0 (omega (arith, long)) ∙ getD-drop (at + 1) row i 0)) (words (at + 1 + i)))
 
-        go : (b : Bool) → b ≡ ascends ltb ns → ListDecoded old row at b (lent c new)
+        go : (b : Bool) → b ≡ ascends ltb ns → ListDecoded old row at b (with-count c new)
         go true t =
             Decoded.found ns (record { few = omega (arith, long); each = each; ascend = sym t }) is refl
-            (λ i. lent (sym long i) ((f ∙ ap (put-into old) (span-take row at c)) i))
+            (λ i. with-count (sym long i) ((f ∙ ap (put-into old) (span-take row at c)) i))
         go false t = Decoded.none (λ ys g h. false-true (t ∙ ap (ascends ltb) (list-same ns ys is h) ∙ g .ascend)) refl
 
   -- a part at a place
 
-  pub part-all : {old : List ℕ} → getD row at 0 ≡ everything-sign → PartDecoded old row at true (lent everything-sign old)
+  pub part-all : {old : List ℕ} → getD row at 0 ≡ everything-sign → PartDecoded old row at true (with-count everything-sign old)
   part-all e = Decoded.found Part.everything tt e refl refl
 
-  pub part-listed : {ok : Bool} {old : List ℕ} {p : Lent} → (getD row at 0 ≡ everything-sign → ⊥)
+  pub part-listed : {ok : Bool} {old : List ℕ} {p : WithCount} → (getD row at 0 ≡ everything-sign → ⊥)
       → Decoded (put-list old) (Numbered most-listed) (FlatList row at) ok p → PartDecoded old row at ok p
   part-listed n (Decoded.found ns g h t f) = Decoded.found (Part.listed ns) g h t f
   part-listed n (Decoded.none f t) = Decoded.none none t
@@ -87,18 +87,18 @@ module _ (row : List ℕ) (at : ℕ) where
 
 -- what was put into cleared places is what stores it
 
-abbrev as-numbers : Lent → Numbers
+abbrev as-numbers : WithCount → Numbers
 as-numbers p = record { count = p .count; items = p .items }
 
-abbrev as-provided : Lent → Provided
+abbrev as-provided : WithCount → Provided
 as-provided p = record { count = p .count; items = p .items }
 
-module _ {A B : Type 0} {store : A → B} {Good Is : A → Type 0} {ok : Bool} {from : A → Lent} {p : Lent} where
-  decoded-as : (f : Lent → B) → ((x : A) → Good x → f (from x) ≡ store x) → Decoded from Good Is ok p → Decoded store Good Is ok (f p)
+module _ {A B : Type 0} {store : A → B} {Good Is : A → Type 0} {ok : Bool} {from : A → WithCount} {p : WithCount} where
+  decoded-as : (f : WithCount → B) → ((x : A) → Good x → f (from x) ≡ store x) → Decoded from Good Is ok p → Decoded store Good Is ok (f p)
   decoded-as f e (Decoded.found x g h t q) = Decoded.found x g h t (ap f q ∙ e x g)
   decoded-as f e (Decoded.none n t) = Decoded.none n t
 
-module _ {Is : List ℕ → Type 0} {ok : Bool} {p : Lent} where
+module _ {Is : List ℕ → Type 0} {ok : Bool} {p : WithCount} where
   pub provided-decoded : Decoded (put-list (replicate most-provided 0)) (Numbered most-provided) Is ok p
       → Decoded store-provided (Numbered most-provided) Is ok (as-provided p)
   provided-decoded d = decoded-as as-provided (λ xs g. filled-provided (filled-put refl (g .few))) d
@@ -107,7 +107,7 @@ module _ {Is : List ℕ → Type 0} {ok : Bool} {p : Lent} where
       → Decoded store-numbers (Numbered most-listed) Is ok (as-numbers p)
   numbers-decoded d = decoded-as as-numbers (λ xs g. filled-numbers (filled-put refl (g .few))) d
 
-pub part-decoded : {Is : Part → Type 0} {ok : Bool} {p : Lent} → Decoded (put-part (replicate most-listed 0)) NumberedPart Is ok p
+pub part-decoded : {Is : Part → Type 0} {ok : Bool} {p : WithCount} → Decoded (put-part (replicate most-listed 0)) NumberedPart Is ok p
     → Decoded store-part NumberedPart Is ok (as-numbers p)
 part-decoded d = decoded-as as-numbers stored d
   where

@@ -120,10 +120,6 @@ connection-rows rs small = record {
   same = connection-same;
 }
 
--- the loop that takes them ends in one of four ways
-pub ended : {W X Y Z R : Type 0} → (W → R) → (X → R) → (Y → R) → (Z → R) → W ⊎ (X ⊎ (Y ⊎ Z)) → R
-ended f g h k = ⊎-elim f (⊎-elim g (⊎-elim h k))
-
 module _ {A B : Type 0} (k : Rows A B) where
   -- numbers are those of one list at most
   pub flat-same : (rows : List ℕ) (xs ys : List A) → All (k .Good) xs → All (k .Good) ys
@@ -179,96 +175,101 @@ module _ {A B : Type 0} (k : Rows A B) where
       let e : k .width ≡ at + k .width - at = omega arith in
       subst (λ (n : ℕ). k .Is (take n (drop at rows)) x) e h
 
-  module _ {rows : List ℕ} {items : List B} {least i at : ℕ} (t : Taken rows items least i at) where
-    -- no good element can be the next
-    abbrev pub Stuck : Type 0
-    Stuck = (y : A) → k .Good y → Here rows at y → at + k .width ≤ length rows → least ≤ k .key (k .put y) → i < k .most → ⊥
+module _ {A B : Type 0} {k : Rows A B} {rows : List ℕ} {items : List B} {least i at : ℕ} (t : Taken k rows items least i at) where
+  -- no good element can be the next
+  abbrev pub Stuck : Type 0
+  Stuck = (y : A) → k .Good y → Here k rows at y → at + k .width ≤ length rows → least ≤ k .key (k .put y) → i < k .most → ⊥
 
-    -- what was found there is not in order, or there is nothing
-    module _ {ok : Bool} {b : B} (f : Decoded (k .put) (k .Good) (Here rows at) ok b) where
-      pub stuck-low : k .key b < least → not ok ≡ false → Stuck
-      stuck-low l n y gy hy w m r = go f
-        where
-          go : Decoded (k .put) (k .Good) (Here rows at) ok b → ⊥
-          go (Decoded.found x g h u e) =
-              let q : k .key (k .put y) ≡ k .key b
-              = ap (λ (z : A). k .key (k .put z)) (k .same (take (at + k .width - at) (drop at rows)) y x gy g hy h) ∙ ap (k .key) (sym e) in
-              omega arith
-          go (Decoded.none f u) = false-true (sym n ∙ ap not u)
-
-      pub stuck-bad : not ok ≡ true → Stuck
-      stuck-bad n y gy hy w m r = go f
-        where
-          go : Decoded (k .put) (k .Good) (Here rows at) ok b → ⊥
-          go (Decoded.found x g h u e) = false-true (sym (ap not u) ∙ n)
-          go (Decoded.none f u) = f y gy hy
-
-    -- one element more
-    taken-one : {b : B} (x : A) → k .Good x → k .Is (take (k .width) (drop at rows)) x → b ≡ k .put x → at + k .width ≤ length rows
-        → least ≤ k .key b → i < k .most → Taken rows (set items i b) (k .key b + 1) (i + 1) (at + k .width)
-    taken-one {b} x g h e w l r = record {
-      xs = t .xs ++ (x ∷ []);
-      inside = w;
-      filled = rw e (filled-more (t .filled) x r);
-      each = all-join (k .Good) (t .xs) (x ∷ []) (t .each) (g, tt);
-      ascend = joins;
-      next = later;
-      onward = λ ys f. rw append-assoc (t .onward (x ∷ ys) (room, h, rw drop-drop f));
-      only = λ zs a f. rest zs a (t .only zs a f);
-    }
+  -- what was found there is not in order, or there is nothing
+  module _ {ok : Bool} {b : B} (f : Decoded (k .put) (k .Good) (Here k rows at) ok b) where
+    pub stuck-low : k .key b < least → not ok ≡ false → Stuck
+    stuck-low l n y gy hy w m r = go f
       where
-        joins : ascends (k .before) (t .xs ++ (x ∷ [])) ≡ true
-        joins = t .next x g ∙ le-leb least (k .key (k .put x)) (omega (arith, ap (k .key) e))
+        go : Decoded (k .put) (k .Good) (Here k rows at) ok b → ⊥
+        go (Decoded.found x g h u e) =
+            let q : k .key (k .put y) ≡ k .key b
+            = ap (λ (z : A). k .key (k .put z)) (k .same (take (at + k .width - at) (drop at rows)) y x gy g hy h) ∙ ap (k .key) (sym e) in
+            omega arith
+        go (Decoded.none f u) = false-true (sym n ∙ ap not u)
 
-        room : k .width ≤ length (drop at rows)
-        room = rw length-drop (omega arith)
-
-        later : (y : A) → k .Good y → ascends (k .before) ((t .xs ++ (x ∷ [])) ++ (y ∷ [])) ≡ leb (k .key b + 1) (k .key (k .put y))
-        later y gy =
-            let n : suc (k .key (k .put x)) ≡ k .key b + 1 = omega (arith, ap (k .key) e) in
-            rw append-assoc
-            (ascends-append (k .before) (t .xs) x (y ∷ [])
-            ∙ rw (joins, k .keyed x y g gy) (and-true _ ∙ ap (λ (m : ℕ). leb m (k .key (k .put y))) n))
-
-        rest : (zs : List A) → All (k .Good) zs → Rest (drop at rows) (t .xs) zs → Rest (drop (at + k .width) rows) (t .xs ++ (x ∷ [])) zs
-        rest zs a q = go (q .ys) (q .split) (q .flat)
-          where
-            go : (ys : List A) → zs ≡ t .xs ++ ys → Flat (k .width) (k .Is) (drop at rows) ys → Rest (drop (at + k .width) rows) (t .xs ++ (x ∷ [])) zs
-            go [] s f = absurd (omega (arith, room, ap length f, k .wide))
-            go (y ∷ ys) s f =
-                let gy : k .Good y = all-rest (k .Good) (t .xs) (y ∷ ys) (subst (All (k .Good)) s a) .0 in
-                let p : y ≡ x = k .same (take (k .width) (drop at rows)) y x gy g (f .1) h in
-                record {
-                  ys = ys;
-                  split = s ∙ ap (λ (z : A). t .xs ++ (z ∷ ys)) p ∙ sym (append-assoc (t .xs) (x ∷ []) ys);
-                  flat = rw drop-drop at (f .2);
-                }
-
-    pub taken-more : {ok : Bool} {b : B} → Decoded (k .put) (k .Good) (Here rows at) ok b → not ok ≡ false → at + k .width ≤ length rows
-        → least ≤ k .key b → i < k .most → Taken rows (set items i b) (k .key b + 1) (i + 1) (at + k .width)
-    taken-more (Decoded.found x g h u e) n w l r = taken-one x g (here-is rows at h) e w l r
-    taken-more (Decoded.none f u) n w l r = false-true (sym n ∙ ap not u)
-
-    -- the loop has ended: with all, or at what no list can have
-    pub taken-end : {C : Type 0} {all : List A → C} {c : C} → Stuck → ((xs : List A) → Filled (k .put) (k .none) (k .most) items i xs → c ≡ all xs)
-        → Decoded all (Sorted (k .before) (k .Good) (k .most)) (Flat (k .width) (k .Is) rows) (eqb at (length rows)) c
-    taken-end {all = all} {c = c} stuck f = go (eqb at (length rows)) refl
+    pub stuck-bad : not ok ≡ true → Stuck
+    stuck-bad n y gy hy w m r = go f
       where
-        go : (b : Bool) → eqb at (length rows) ≡ b → Decoded all (Sorted (k .before) (k .Good) (k .most)) (Flat (k .width) (k .Is) rows) b c
-        go true e =
-            let n : length rows ≤ at = omega (arith, eqb-true at (length rows) e) in
-            let d : drop at rows ≡ [] = drop-of-length-le rows n in
-            Decoded.found (t .xs) (record { few = t .filled .room; each = t .each; ascend = t .ascend })
-            (subst (Flat (k .width) (k .Is) rows) (append-nil (t .xs)) (t .onward [] d)) refl (f (t .xs) (t .filled))
-        go false e = Decoded.none (λ zs g h. let q = t .only zs (g .each) h in refute zs g (q .ys) (q .split) (q .flat)) refl
-          where
-            refute : (zs : List A) → Sorted (k .before) (k .Good) (k .most) zs → (ys : List A) → zs ≡ t .xs ++ ys
-                → Flat (k .width) (k .Is) (drop at rows) ys → ⊥
-            refute zs g [] s h = eqb-false at (length rows) e (omega (arith, sym (length-drop at rows) ∙ ap length h, t .inside))
-            refute zs g (y ∷ ys) s h =
-                let gy : k .Good y = all-rest (k .Good) (t .xs) (y ∷ ys) (subst (All (k .Good)) s (g .each)) .0 in
-                let n : length zs ≡ length (t .xs) + suc (length ys) = ap length s ∙ length-append (t .xs) (y ∷ ys) in
-                let a : ascends (k .before) (t .xs ++ (y ∷ [])) ≡ true
-                = and-fst _ (ascends (k .before) (y ∷ ys)) (sym (ascends-append (k .before) (t .xs) y ys) ∙ ap (ascends (k .before)) (sym s) ∙ g .ascend) in
-                stuck y gy (is-here rows at (h .1)) (omega (arith, length-drop at rows, h .0, k .wide))
-                (leb-true least (k .key (k .put y)) (sym (t .next y gy) ∙ a)) (omega (arith, n, g .few, t .filled .counted))
+        go : Decoded (k .put) (k .Good) (Here k rows at) ok b → ⊥
+        go (Decoded.found x g h u e) = false-true (sym (ap not u) ∙ n)
+        go (Decoded.none f u) = f y gy hy
+
+  -- the four ways in which the loop ends: no place is left, too few numbers are, what was found is not good, or not in order
+  pub stuck-any : {W X Y Z : Type 0} → (W → k .most ≤ i) → (X → length rows < at + k .width) → (Y → Stuck) → (Z → Stuck) → W ⊎ (X ⊎ (Y ⊎ Z)) → Stuck
+  stuck-any full short bad low =
+      ⊎-elim (λ w y g h room l few. omega (arith, full w)) (⊎-elim (λ x y g h room l few. omega (arith, short x)) (⊎-elim bad low))
+
+  -- one element more
+  taken-one : {b : B} (x : A) → k .Good x → k .Is (take (k .width) (drop at rows)) x → b ≡ k .put x → at + k .width ≤ length rows
+      → least ≤ k .key b → i < k .most → Taken k rows (set items i b) (k .key b + 1) (i + 1) (at + k .width)
+  taken-one {b} x g h e w l r = record {
+    xs = t .xs ++ (x ∷ []);
+    inside = w;
+    filled = rw e (filled-more (t .filled) x r);
+    each = all-join (k .Good) (t .xs) (x ∷ []) (t .each) (g, tt);
+    ascend = joins;
+    next = later;
+    onward = λ ys f. rw append-assoc (t .onward (x ∷ ys) (room, h, rw drop-drop f));
+    only = λ zs a f. rest zs a (t .only zs a f);
+  }
+    where
+      joins : ascends (k .before) (t .xs ++ (x ∷ [])) ≡ true
+      joins = t .next x g ∙ le-leb least (k .key (k .put x)) (omega (arith, ap (k .key) e))
+
+      room : k .width ≤ length (drop at rows)
+      room = rw length-drop (omega arith)
+
+      later : (y : A) → k .Good y → ascends (k .before) ((t .xs ++ (x ∷ [])) ++ (y ∷ [])) ≡ leb (k .key b + 1) (k .key (k .put y))
+      later y gy =
+          let n : suc (k .key (k .put x)) ≡ k .key b + 1 = omega (arith, ap (k .key) e) in
+          rw append-assoc
+          (ascends-append (k .before) (t .xs) x (y ∷ [])
+          ∙ rw (joins, k .keyed x y g gy) (and-true _ ∙ ap (λ (m : ℕ). leb m (k .key (k .put y))) n))
+
+      rest : (zs : List A) → All (k .Good) zs → Rest k (drop at rows) (t .xs) zs → Rest k (drop (at + k .width) rows) (t .xs ++ (x ∷ [])) zs
+      rest zs a q = go (q .ys) (q .split) (q .flat)
+        where
+          go : (ys : List A) → zs ≡ t .xs ++ ys → Flat (k .width) (k .Is) (drop at rows) ys → Rest k (drop (at + k .width) rows) (t .xs ++ (x ∷ [])) zs
+          go [] s f = absurd (omega (arith, room, ap length f, k .wide))
+          go (y ∷ ys) s f =
+              let gy : k .Good y = all-rest (k .Good) (t .xs) (y ∷ ys) (subst (All (k .Good)) s a) .0 in
+              let p : y ≡ x = k .same (take (k .width) (drop at rows)) y x gy g (f .1) h in
+              record {
+                ys = ys;
+                split = s ∙ ap (λ (z : A). t .xs ++ (z ∷ ys)) p ∙ sym (append-assoc (t .xs) (x ∷ []) ys);
+                flat = rw drop-drop at (f .2);
+              }
+
+  pub taken-more : {ok : Bool} {b : B} → Decoded (k .put) (k .Good) (Here k rows at) ok b → not ok ≡ false → at + k .width ≤ length rows
+      → least ≤ k .key b → i < k .most → Taken k rows (set items i b) (k .key b + 1) (i + 1) (at + k .width)
+  taken-more (Decoded.found x g h u e) n w l r = taken-one x g (here-is k rows at h) e w l r
+  taken-more (Decoded.none f u) n w l r = false-true (sym n ∙ ap not u)
+
+  -- the loop has ended: with all, or at what no list can have
+  pub taken-end : {C : Type 0} {all : List A → C} {c : C} → Stuck → ((xs : List A) → Filled (k .put) (k .none) (k .most) items i xs → c ≡ all xs)
+      → Decoded all (Sorted (k .before) (k .Good) (k .most)) (Flat (k .width) (k .Is) rows) (eqb at (length rows)) c
+  taken-end {all = all} {c = c} stuck f = go (eqb at (length rows)) refl
+    where
+      go : (b : Bool) → eqb at (length rows) ≡ b → Decoded all (Sorted (k .before) (k .Good) (k .most)) (Flat (k .width) (k .Is) rows) b c
+      go true e =
+          let n : length rows ≤ at = omega (arith, eqb-true at (length rows) e) in
+          let d : drop at rows ≡ [] = drop-of-length-le rows n in
+          Decoded.found (t .xs) (record { few = t .filled .room; each = t .each; ascend = t .ascend })
+          (subst (Flat (k .width) (k .Is) rows) (append-nil (t .xs)) (t .onward [] d)) refl (f (t .xs) (t .filled))
+      go false e = Decoded.none (λ zs g h. let q = t .only zs (g .each) h in refute zs g (q .ys) (q .split) (q .flat)) refl
+        where
+          refute : (zs : List A) → Sorted (k .before) (k .Good) (k .most) zs → (ys : List A) → zs ≡ t .xs ++ ys
+              → Flat (k .width) (k .Is) (drop at rows) ys → ⊥
+          refute zs g [] s h = eqb-false at (length rows) e (omega (arith, sym (length-drop at rows) ∙ ap length h, t .inside))
+          refute zs g (y ∷ ys) s h =
+              let gy : k .Good y = all-rest (k .Good) (t .xs) (y ∷ ys) (subst (All (k .Good)) s (g .each)) .0 in
+              let n : length zs ≡ length (t .xs) + suc (length ys) = ap length s ∙ length-append (t .xs) (y ∷ ys) in
+              let a : ascends (k .before) (t .xs ++ (y ∷ [])) ≡ true
+              = and-fst _ (ascends (k .before) (y ∷ ys)) (sym (ascends-append (k .before) (t .xs) y ys) ∙ ap (ascends (k .before)) (sym s) ∙ g .ascend) in
+              stuck y gy (is-here k rows at (h .1)) (omega (arith, length-drop at rows, h .0, k .wide))
+              (leb-true least (k .key (k .put y)) (sym (t .next y gy) ∙ a)) (omega (arith, n, g .few, t .filled .counted))

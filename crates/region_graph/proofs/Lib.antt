@@ -5,7 +5,7 @@ pub mod Bits
 pub mod Arrays
 pub mod Legal
 pub mod Storing
-pub mod Walks
+pub mod PlaceLoops
 pub mod FlatLaws
 pub mod Views
 pub mod FlatLoops

@@ -188,9 +188,9 @@ insert-at {A} before x (y ∷ ys) = go (before x y) (insert-at before x ys)
     go false h = ap (λ (l : List A). y ∷ l) h
 
 -- as a store, or what it means, has it
-pub inserted : {A B : Type 0} (store : A → B) (means : B → A) (before : A → A → Bool) {b : B} {place : ℕ} (x : A) (xs : List A)
+pub insert-stored : {A B : Type 0} (store : A → B) (means : B → A) (before : A → A → Bool) {b : B} {place : ℕ} (x : A) (xs : List A)
     → b ≡ store x → means (store x) ≡ x → place ≡ position (before x) xs → take place xs ++ (means b ∷ drop place xs) ≡ insert-by before x xs
-inserted store means before x xs e f p = (λ i. take (p i) xs ++ ((ap means e ∙ f) i ∷ drop (p i) xs)) ∙ sym (insert-at before x xs)
+insert-stored store means before x xs e f p = (λ i. take (p i) xs ++ ((ap means e ∙ f) i ∷ drop (p i) xs)) ∙ sym (insert-at before x xs)
 
 pub insert-length : {A : Type 0} (before : A → A → Bool) (x : A) (xs : List A) → length (insert-by before x xs) ≡ suc (length xs)
 insert-length before x [] = refl

@@ -16,7 +16,7 @@ use Rattle.region_graph.specs.Sets.{singleton, set-of}
 use Rattle.region_graph.specs.Model.{Bundle, Filter, Part, LegalConnection}
 use Rattle.region_graph.specs.Calls.{at-location}
 use Rattle.region_graph.specs.Items.{provided, part-of, provides, passes}
-use Rattle.region_graph.specs.Record.{Valid, meaning, connections-of, no-bundle, no-connection}
+use Rattle.region_graph.specs.Record.{Valid, meaning, no-bundle, no-connection}
 use Rattle.region_graph.specs.Promise.{place-of}
 use Rattle.region_graph.specs.declared.Graph.{Graph}
 use Rattle.region_graph.specs.declared.Place.the-variants.{Within, Nowhere}
@@ -24,8 +24,7 @@ use Rattle.region_graph.specs.declared.connections.StoredConnection.{Sto
 use Rattle.region_graph.proofs.Lists.{exists-append, all-at, member-all}
 use Rattle.region_graph.proofs.Bits.{set-ext, set-none, set-join}
 use Rattle.region_graph.proofs.Arrays.{filled-at, filled-inside}
-use Rattle.region_graph.proofs.Storing.{connections-stored, connections-filled}
-use Rattle.region_graph.proofs.Walks.{Row, walk-inside, walk-means, walk-test, Gathering, gathering-next}
+use Rattle.region_graph.proofs.PlaceLoops.{Storage, graph-connections, reading-inside, reading-means, reading-test, Folding, folding-next}
 
 -- lists
 
@@ -161,18 +160,18 @@ module _ {A : Type 0} (region : A → ℕ) (provides : A → Bool) where
         (λ n. ap (λ (t : Bool). eqb (region (getD xs i d)) n && t) e ∙ and-false (eqb (region (getD xs i d)) n))
 
 -- the holders that stand in the places of an array
-module _ {A B : Type 0} {r : Row A B} (region : A → ℕ) (provides : A → Bool) {items : List B} {count : ℕ} {xs : List A} {x i : ℕ}
-    (g : Gathering r (held region provides) items count xs x i) (l : i < count) (e : B) {b : Bool} (f : b ≡ provides (r .means (getD items i e))) where
+module _ {A B : Type 0} {r : Storage A B} (region : A → ℕ) (provides : A → Bool) {items : List B} {count : ℕ} {xs : List A} {x i : ℕ}
+    (g : Folding r (held region provides) items count xs x i) (l : i < count) (e : B) {b : Bool} (f : b ≡ provides (r .means (getD items i e))) where
   pub holding-took : {y : ℕ} → b ≡ true → y ≡ singleton (region (r .means (getD items i e)))
-      → Gathering r (held region provides) items count xs (bitOr x y) (i + 1)
+      → Folding r (held region provides) items count xs (bitOr x y) (i + 1)
   holding-took t q =
-      gathering-next g l
-      (ap₂ bitOr (g .those) (q ∙ ap (λ (a : A). singleton (region a)) (walk-means (g .walk) l e))
-      ∙ held-took region provides xs i (r .none) (walk-inside (g .walk) l) (walk-test (g .walk) l provides e f t))
+      folding-next g l
+      (ap₂ bitOr (g .those) (q ∙ ap (λ (a : A). singleton (region a)) (reading-means (g .reading) l e))
+      ∙ held-took region provides xs i (r .none) (reading-inside (g .reading) l) (reading-test (g .reading) l provides e f t))
 
-  pub holding-left : b ≡ false → Gathering r (held region provides) items count xs x (i + 1)
+  pub holding-left : b ≡ false → Folding r (held region provides) items count xs x (i + 1)
   holding-left t =
-      gathering-next g l (g .those ∙ held-left region provides xs i (r .none) (walk-inside (g .walk) l) (walk-test (g .walk) l provides e f t))
+      folding-next g l (g .those ∙ held-left region provides xs i (r .none) (reading-inside (g .reading) l) (reading-test (g .reading) l provides e f t))
 
 -- predecessors: elements that lead from a region to a region each, and a test
 
@@ -219,28 +218,27 @@ module _ {A : Type 0} (source target : A → ℕ) (passes : A → Bool) where
         (λ s l. set-left (leads s) xs i d h (λ n. rw e (and-false (eqb (source c) n && eqb (target c) s))))
 
 -- the elements that lead, in the places of an array
-module _ {A B : Type 0} {r : Row A B} (source target : A → ℕ) (passes : A → Bool) {items : List B} {count : ℕ} {xs : List A} {sets : List ℕ} {i : ℕ}
-    (g : Gathering r (led source target passes) items count xs sets i) (l : i < count) (e : B) {b : Bool} (f : b ≡ passes (r .means (getD items i e))) where
+module _ {A B : Type 0} {r : Storage A B} (source target : A → ℕ) (passes : A → Bool) {items : List B} {count : ℕ} {xs : List A} {sets : List ℕ} {i : ℕ}
+    (g : Folding r (led source target passes) items count xs sets i) (l : i < count) (e : B) {b : Bool} (f : b ≡ passes (r .means (getD items i e))) where
   pub leading-took : {y : ℕ} → b ≡ true → y ≡ singleton (source (r .means (getD items i e))) → target (r .means (getD items i e)) < regions
       → (let s = target (r .means (getD items i e)) in
-      Gathering r (led source target passes) items count xs (set sets s (bitOr (getD sets s 0) y)) (i + 1))
+      Folding r (led source target passes) items count xs (set sets s (bitOr (getD sets s 0) y)) (i + 1))
   leading-took t q k =
-      let m = walk-means (g .walk) l e in
-      gathering-next g l
-      (led-took source target passes xs i (r .none) (walk-inside (g .walk) l) (g .those) (ap target m)
-      (q ∙ ap (λ (a : A). singleton (source a)) m) k (walk-test (g .walk) l passes e f t))
+      let m = reading-means (g .reading) l e in
+      folding-next g l
+      (led-took source target passes xs i (r .none) (reading-inside (g .reading) l) (g .those) (ap target m)
+      (q ∙ ap (λ (a : A). singleton (source a)) m) k (reading-test (g .reading) l passes e f t))
 
-  pub leading-left : b ≡ false → Gathering r (led source target passes) items count xs sets (i + 1)
+  pub leading-left : b ≡ false → Folding r (led source target passes) items count xs sets (i + 1)
   leading-left t =
-      gathering-next g l (g .those ∙ led-left source target passes xs i (r .none) (walk-inside (g .walk) l) (walk-test (g .walk) l passes e f t))
+      folding-next g l (g .those ∙ led-left source target passes xs i (r .none) (reading-inside (g .reading) l) (reading-test (g .reading) l passes e f t))
 
 -- the target of a valid record's connection is a region
 pub target-region : (g : Graph) → Valid g → (i : ℕ) (e : StoredConnection) → i < g .connections .count
     → getD (g .connections .items) i e .target < regions
-unfolding meaning
 target-region g v i e l =
-    let h = connections-filled (g .connections) (connections-stored g v) in
-    let cs = connections-of (g .connections) in
+    let h = graph-connections g v .filled in
+    let cs = meaning g .connections in
     rw (filled-at h i e no-connection l)
     (member-all (λ r. r < regions) (getD cs i no-connection .target) (meaning g .regions) (v .good .regions-legal .each)
     (all-at (LegalConnection (meaning g .regions)) cs i no-connection (filled-inside h i l) (v .good .connections-legal .each) .target))

@@ -22,25 +22,25 @@ abbrev pub FlatList : List ℕ → ℕ → List ℕ → Type 0
 FlatList xs at ns = FlatPart xs at (Part.listed ns)
 
 -- a count, and what lent places hold
-pub record Lent : Type 0 where
+pub record WithCount : Type 0 where
   pub count : ℕ
   pub items : List ℕ
 
-abbrev pub lent : ℕ → List ℕ → Lent
-lent count items = record { count = count; items = items }
+abbrev pub with-count : ℕ → List ℕ → WithCount
+with-count count items = record { count = count; items = items }
 
 -- a list is put into places, and a part: one that is everything has the sign for its count, and leaves the places as they are
-abbrev pub put-list : List ℕ → List ℕ → Lent
-put-list places ns = lent (length ns) (put-into places ns)
+abbrev pub put-list : List ℕ → List ℕ → WithCount
+put-list places ns = with-count (length ns) (put-into places ns)
 
-abbrev pub put-part : List ℕ → Part → Lent
+abbrev pub put-part : List ℕ → Part → WithCount
 put-part places (Part.listed ns) = put-list places ns
-put-part places Part.everything = lent everything-sign places
+put-part places Part.everything = with-count everything-sign places
 
-abbrev pub ListDecoded : List ℕ → List ℕ → ℕ → Bool → Lent → Type 0
+abbrev pub ListDecoded : List ℕ → List ℕ → ℕ → Bool → WithCount → Type 0
 ListDecoded places row at ok p = Decoded (put-list places) (Numbered (length places)) (FlatList row at) ok p
 
-abbrev pub PartDecoded : List ℕ → List ℕ → ℕ → Bool → Lent → Type 0
+abbrev pub PartDecoded : List ℕ → List ℕ → ℕ → Bool → WithCount → Type 0
 PartDecoded places row at ok p = Decoded (put-part places) NumberedPart (FlatPart row at) ok p
 
 -- the numbers of a row have a bundle, a connection

@@ -7,7 +7,7 @@ use Rattle.region_graph.specs.Record.{meaning, store-connection, store-c
 use Rattle.region_graph.specs.Places.{ShortConnection, connection-meets}
 use Rattle.region_graph.specs.Promise.{connection}
 use Rattle.region_graph.specs.declared.connections.ConnectionTest.the-variants.{After}
-use Rattle.region_graph.proofs.Lists.{all-of, position-le, inserted}
+use Rattle.region_graph.proofs.Lists.{all-of, position-le, insert-stored}
 use Rattle.region_graph.proofs.Legal.{first-step, second-step, Connectable, connectable, part-words, part-short}
 use Rattle.region_graph.proofs.Storing.{stored-as, connection-back, regions-stored, bundles-stored, connections-stored, stored-graph, refused, accepts}
 use Rattle.region_graph.proofs.Graph.connect.Statement.{statement}
@@ -118,7 +118,7 @@ returns c =
     (c .before .before .before .before .before .if2 .taken)
     (stored-graph (accepted (meaning g) (Call.connect x)) (regions-stored g (s .pre)) (bundles-stored g (s .pre) .stored)
     (c .with .ensures
-    ∙ ap store-connections (inserted store-connection connection-in connection-before x (meaning g .connections) (stores (c .before .before))
+    ∙ ap store-connections (insert-stored store-connection connection-in connection-before x (meaning g .connections) (stores (c .before .before))
     (connection-back x (short (c .before .before .before .before .before))) (c .before .first .ensures))))
 
 returns-2 : tie.Need-returns-2

@@ -4,14 +4,14 @@ use borrow.Author.Needs.{needs}
 use Rattle.region_graph.specs.Items.{provides}
 use Rattle.region_graph.specs.Record.{meaning, bundles-of}
 use Rattle.region_graph.proofs.Storing.{bundles-stored, bundle-stored}
-use Rattle.region_graph.proofs.Walks.{bundle-row, bundles-walk, Gathering, gathering-start, gathering-end}
+use Rattle.region_graph.proofs.PlaceLoops.{bundle-storage, bundles-reading, Folding, folding-start, folding-end}
 use Rattle.region_graph.proofs.Views.{held, held-none, holding-took, holding-left}
 use Rattle.region_graph.proofs.Graph.holders.Statement.{statement}
 use Rattle.region_graph.proofs.Graph.holders.Tie as tie
 
 abbrev Inv-loop : tie.InvT-loop
 Inv-loop item bundles count set₀ i₀ set i =
-    Gathering bundle-row (held (λ b. b .region) (provides item)) (bundles .items) (bundles .count) (bundles-of bundles) set i
+    Folding bundle-storage (held (λ b. b .region) (provides item)) (bundles .items) (bundles .count) (bundles-of bundles) set i
 
 abbrev μ-loop : tie.MeasureT-loop
 μ-loop item bundles count set₀ i₀ set i = bundles .count - i
@@ -19,7 +19,7 @@ abbrev μ-loop : tie.MeasureT-loop
 loop-holds : tie.Need-loop-holds Inv-loop μ-loop
 loop-holds c =
     let s = c .before in
-    gathering-start (bundles-walk (s .args .self .bundles) (bundles-stored (s .args .self) (s .pre)))
+    folding-start (bundles-reading (s .args .self .bundles) (bundles-stored (s .args .self) (s .pre)))
     (held-none (λ b. b .region) (provides (s .args .item)))
 
 bundle-provides-requires : tie.Need-bundle-provides-requires Inv-loop μ-loop
@@ -40,7 +40,7 @@ loop-again-2 c =
 
 returns : tie.Need-returns Inv-loop μ-loop
 unfolding meaning held
-returns c = gathering-end (c .before .loop .inv) (omega arith)
+returns c = folding-end (c .before .loop .inv) (omega arith)
 
 pub holders-spec : {M : Type 1} → statement M
 holders-spec =

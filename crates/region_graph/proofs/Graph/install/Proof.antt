@@ -7,7 +7,7 @@ use Rattle.region_graph.specs.Record.{meaning, store-bundle, store-bundl
 use Rattle.region_graph.specs.Places.{ShortBundle, bundle-meets}
 use Rattle.region_graph.specs.Promise.{bundle}
 use Rattle.region_graph.specs.declared.bundles.BundleTest.the-variants.{After}
-use Rattle.region_graph.proofs.Lists.{all-of, position-le, inserted}
+use Rattle.region_graph.proofs.Lists.{all-of, position-le, insert-stored}
 use Rattle.region_graph.proofs.Legal.{first-step, second-step, Installable, installable}
 use Rattle.region_graph.proofs.Storing.{stored-as, bundle-back, regions-stored, bundles-stored, connections-stored, stored-graph, refused, accepts}
 use Rattle.region_graph.proofs.Graph.install.Statement.{statement}
@@ -88,7 +88,7 @@ returns c =
     (c .before .before .before .before .if2 .taken)
     (stored-graph (accepted (meaning g) (Call.install b)) (regions-stored g (s .pre))
     (c .with .ensures
-    ∙ ap store-bundles (inserted store-bundle bundle-in bundle-before b (meaning g .bundles)
+    ∙ ap store-bundles (insert-stored store-bundle bundle-in bundle-before b (meaning g .bundles)
     (stores (c .before .before)) (bundle-back b) (c .before .first .ensures)))
     (connections-stored g (s .pre) .stored))
 

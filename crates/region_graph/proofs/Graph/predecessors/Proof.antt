@@ -5,14 +5,14 @@ use Rattle.region_graph.specs.Items.{passes}
 use Rattle.region_graph.specs.Promise.{predecessor-sets}
 use Rattle.region_graph.specs.Record.{meaning, connections-of}
 use Rattle.region_graph.proofs.Storing.{connections-stored, connection-stored}
-use Rattle.region_graph.proofs.Walks.{connection-row, connections-walk, Gathering, gathering-start, gathering-end}
+use Rattle.region_graph.proofs.PlaceLoops.{connection-storage, connections-reading, Folding, folding-start, folding-end}
 use Rattle.region_graph.proofs.Views.{led, led-none, leading-took, leading-left, target-region}
 use Rattle.region_graph.proofs.Graph.predecessors.Statement.{statement}
 use Rattle.region_graph.proofs.Graph.predecessors.Tie as tie
 
 abbrev Inv-loop : tie.InvT-loop
 Inv-loop item connections count sets₀ i₀ sets i =
-    Gathering connection-row (led (λ c. c .source) (λ c. c .target) (λ c. passes item (c .filter))) (connections .items) (connections .count)
+    Folding connection-storage (led (λ c. c .source) (λ c. c .target) (λ c. passes item (c .filter))) (connections .items) (connections .count)
     (connections-of connections) sets i
 
 abbrev μ-loop : tie.MeasureT-loop
@@ -21,7 +21,7 @@ abbrev μ-loop : tie.MeasureT-loop
 loop-holds : tie.Need-loop-holds Inv-loop μ-loop
 loop-holds c =
     let s = c .before in
-    gathering-start (connections-walk (s .args .self .connections) (connections-stored (s .args .self) (s .pre)))
+    folding-start (connections-reading (s .args .self .connections) (connections-stored (s .args .self) (s .pre)))
     (led-none (λ c. c .source) (λ c. c .target) (λ c. passes (s .args .item) (c .filter)))
 
 connection-passes-requires : tie.Need-connection-passes-requires Inv-loop μ-loop
@@ -49,7 +49,7 @@ loop-again-2 c =
 
 returns : tie.Need-returns Inv-loop μ-loop
 unfolding meaning led predecessor-sets
-returns c = gathering-end (c .before .loop .inv) (omega arith)
+returns c = folding-end (c .before .loop .inv) (omega arith)
 
 pub predecessors-spec : {M : Type 1} → statement M
 predecessors-spec =

@@ -5,7 +5,7 @@ use Rattle.region_graph.specs.declared.Place.the-variants.{Within}
 use Rattle.region_graph.specs.declared.bundles.StoredBundle.{StoredBundle}
 use Rattle.region_graph.proofs.Arrays.{filled-at}
 use Rattle.region_graph.proofs.Storing.{bundles-stored}
-use Rattle.region_graph.proofs.Walks.{graph-bundles}
+use Rattle.region_graph.proofs.PlaceLoops.{graph-bundles}
 use Rattle.region_graph.proofs.Views.{place-found, place-missed}
 use Rattle.region_graph.proofs.Graph.region_of.Statement.{statement}
 use Rattle.region_graph.proofs.Graph.region_of.Tie as tie
@@ -14,14 +14,14 @@ returns : tie.Need-returns
 unfolding meaning
 returns c =
     let s = c .before .before .before in
-    let h = graph-bundles (s .args .self) (s .pre) .held in
+    let h = graph-bundles (s .args .self) (s .pre) .filled in
     place-missed (s .args .location) (meaning (s .args .self) .bundles) (omega (arith, h .counted, c .before .first .ensures))
 
 returns-2 : tie.Need-returns-2
 unfolding meaning
 returns-2 c =
     let s = c .before .before .before .before in
-    let h = graph-bundles (s .args .self) (s .pre) .held in
+    let h = graph-bundles (s .args .self) (s .pre) .filled in
     let f = c .before .before .first in
     ap (λ (b : StoredBundle). Within (b .region)) (filled-at h (f .result) _ no-bundle (omega arith))
     ∙ rw (f .ensures) (place-found (s .args .location) (meaning (s .args .self) .bundles) (omega (arith, h .counted, f .ensures)))

@@ -6,7 +6,8 @@ use Rattle.region_graph.proofs.connections.filter_ascending.Tie as tie
 returns : tie.Need-returns
 returns c =
     let a = c .before .before .before in
-    rw (sym (a .before .ascending .ensures) ∙ a .if1 .taken, sym (c .before .before .part-ascending .ensures) ∙ c .before .if2 .taken) (c .part-ascending2 .ensures)
+    rw (sym (a .before .ascending .ensures) ∙ a .if1 .taken, sym (c .before .before .part-ascending .ensures) ∙ c .before .if2 .taken)
+    (c .part-ascending2 .ensures)
 
 returns-2 : tie.Need-returns-2
 returns-2 c = rw (sym (c .before .before .before .ascending .ensures) ∙ c .before .before .if1 .taken, sym (c .before .part-ascending .ensures) ∙ c .if2 .left)

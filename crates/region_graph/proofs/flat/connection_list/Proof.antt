@@ -7,7 +7,7 @@ use Rattle.region_graph.specs.Sets.{members}
 use Rattle.region_graph.specs.declared.connections.StoredConnection.{StoredConnection}
 use Rattle.region_graph.proofs.Storing.{no-connections, filled-connections}
 use Rattle.region_graph.proofs.FlatLaws.{members-small}
-use Rattle.region_graph.proofs.FlatLoops.{Rows, connection-rows, ended, Taken, taken-none, taken-more, taken-end, stuck-low, stuck-bad}
+use Rattle.region_graph.proofs.FlatLoops.{Rows, connection-rows, Taken, taken-none, taken-more, taken-end, stuck-low, stuck-bad, stuck-any}
 use Rattle.region_graph.proofs.flat.connection_list.Statement.{statement}
 use Rattle.region_graph.proofs.flat.connection_list.Tie as tie
 
@@ -27,22 +27,15 @@ loop-again : tie.Need-loop-again Inv-loop μ-loop
 loop-again c =
     let f = c .before .before .before .before .before .before in
     let t = f .before .before .before in
-    let a = t .before .before .before .before .before .args in
-    taken-more (rows-in (a .regions)) (t .before .loop .inv) (f .connection-of .ensures) (c .before .before .before .before .if2 .left)
+    taken-more (t .before .loop .inv) (f .connection-of .ensures) (c .before .before .before .before .if2 .left)
     (omega (arith, f .before .before .if1 .left)) (c .if3 .left) (t .loop-test .taken)
-
-returns : tie.Need-returns Inv-loop μ-loop
-returns c =
-    let k = rows-in (c .before .before .before .before .before .args .regions) in
-    let t = c .before .loop .inv in
-    taken-end k t
-    (ended (λ w y g h room low few. omega arith) (λ w y g h room low few. omega arith) (λ w. stuck-bad k t (w .3 .ensures) (w .5 .taken))
-    (λ w. stuck-low k t (w .3 .ensures) (w .9 .taken) (w .5 .left)) (c .loop-test .came))
-    (λ xs h. filled-connections h)
 
 pub connection-list-spec : {M : Type 1} → statement M
 connection-list-spec =
     tie.close
     (tie.spec Inv-loop μ-loop (λ c κs. search needs) loop-holds (λ c. search needs) (λ c. search needs) (λ c. search needs) (λ c. search needs)
     (λ c. search needs) (λ c. search needs) (λ c κs. search needs) (λ c. search needs) (λ c. search needs) (λ c. search needs) (λ c. search needs)
-    (λ c. search needs) (λ c. search needs) (λ c. search needs) (λ c. search needs) (λ c. search needs) loop-again returns)
+    (λ c. search needs) (λ c. search needs) (λ c. search needs) (λ c. search needs) (λ c. search needs) loop-again
+    (λ c. let t = c .before .loop .inv in
+    taken-end t (stuck-any t (λ w. omega arith) (λ w. omega arith) (λ w. stuck-bad t (w .3 .ensures) (w .5 .taken))
+    (λ w. stuck-low t (w .3 .ensures) (w .9 .taken) (w .5 .left)) (c .loop-test .came)) (λ xs h. filled-connections h)))

@@ -2,12 +2,12 @@ use native.Mathlib.Omega.{arith}
 use borrow.Author.Needs.{needs}
 use Rattle.region_graph.specs.Record.{bundles-of, bundle-in}
 use Rattle.region_graph.proofs.Storing.{bundles-filled, filled-bundles}
-use Rattle.region_graph.proofs.Walks.{bundle-row, Moving, moving-start, moving-next, moving-end}
+use Rattle.region_graph.proofs.PlaceLoops.{bundle-storage, Moving, moving-start, moving-next, moving-end}
 use Rattle.region_graph.proofs.bundles.Bundles.with.Statement.{statement}
 use Rattle.region_graph.proofs.bundles.Bundles.with.Tie as tie
 
 abbrev Inv-loop : tie.InvT-loop
-Inv-loop place b items₀ count i₀ items i = Moving bundle-row place count (bundles-of (record { count = count; items = items₀ })) items i
+Inv-loop place b items₀ count i₀ items i = Moving bundle-storage place count (bundles-of (record { count = count; items = items₀ })) items i
 
 abbrev μ-loop : tie.MeasureT-loop
 μ-loop place b items₀ count i₀ items i = i

@@ -4,12 +4,13 @@ use borrow.Author.Needs.{needs}
 use Rattle.region_graph.specs.Record.{connections-of}
 use Rattle.region_graph.specs.Places.{connection-meets}
 use Rattle.region_graph.proofs.Storing.{connection-stored}
-use Rattle.region_graph.proofs.Walks.{connection-row, connections-walk, Searching, searching-start, searching-here, searching-later, searching-end}
+use Rattle.region_graph.proofs.PlaceLoops.{connection-storage, connections-reading}
+use Rattle.region_graph.proofs.PlaceLoops.{Searching, searching-start, searching-here, searching-later, searching-end}
 use Rattle.region_graph.proofs.connections.Connections.first.Statement.{statement}
 use Rattle.region_graph.proofs.connections.Connections.first.Tie as tie
 
 abbrev Inv-loop : tie.InvT-loop
-Inv-loop test self count i₀ i = Searching connection-row (connection-meets test) (self .items) (self .count) (connections-of self) i
+Inv-loop test self count i₀ i = Searching connection-storage (connection-meets test) (self .items) (self .count) (connections-of self) i
 
 abbrev μ-loop : tie.MeasureT-loop
 μ-loop test self count i₀ i = self .count - i
@@ -17,7 +18,7 @@ abbrev μ-loop : tie.MeasureT-loop
 pub first-spec : {M : Type 1} → statement M
 first-spec =
     tie.close
-    (tie.spec Inv-loop μ-loop (λ c. searching-start (connections-walk (c .args .t1) (c .pre))) (λ c. search needs) (λ c. search needs)
+    (tie.spec Inv-loop μ-loop (λ c. searching-start (connections-reading (c .args .t1) (c .pre))) (λ c. search needs) (λ c. search needs)
     (λ c κs. connection-stored (c .before .before .before .args .t1) (c .before .before .before .pre) (c .before .before .loop .i) _ (omega arith))
     (λ c. searching-here (c .before .before .before .before .loop .inv) (omega arith) _ (c .before .connection-meets .ensures) (c .if1 .taken))
     (λ c. search needs) (λ c. search needs)

@@ -2,12 +2,12 @@ use native.Mathlib.Omega.{arith}
 use borrow.Author.Needs.{needs}
 use Rattle.region_graph.specs.Record.{connections-of, connection-in}
 use Rattle.region_graph.proofs.Storing.{connections-filled, filled-connections}
-use Rattle.region_graph.proofs.Walks.{connection-row, Moving, moving-start, moving-next, moving-end}
+use Rattle.region_graph.proofs.PlaceLoops.{connection-storage, Moving, moving-start, moving-next, moving-end}
 use Rattle.region_graph.proofs.connections.Connections.with.Statement.{statement}
 use Rattle.region_graph.proofs.connections.Connections.with.Tie as tie
 
 abbrev Inv-loop : tie.InvT-loop
-Inv-loop place c items₀ count i₀ items i = Moving connection-row place count (connections-of (record { count = count; items = items₀ })) items i
+Inv-loop place c items₀ count i₀ items i = Moving connection-storage place count (connections-of (record { count = count; items = items₀ })) items i
 
 abbrev μ-loop : tie.MeasureT-loop
 μ-loop place c items₀ count i₀ items i = i

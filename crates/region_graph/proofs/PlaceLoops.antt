@@ -24,138 +24,138 @@ use Rattle.region_graph.proofs.Arrays.{Filled, filled-length, filled-at
 use Rattle.region_graph.proofs.Storing.{bundles-filled, bundles-each, bundles-stored, connections-filled, connections-each, connections-stored}
 
 -- elements A, stored as B in so many places; a place that is not used stores `none`
-pub record Row (A B : Type 0) : Type 0 where
+pub record Storage (A B : Type 0) : Type 0 where
   pub store : A → B
   pub means : B → A
   pub none : A
   pub size : ℕ
 
 -- the first `count` places hold xs
-abbrev pub Held : {A B : Type 0} → Row A B → List B → ℕ → List A → Type 0
-Held r items count xs = Filled (r .store) (r .store (r .none)) (r .size) items count xs
+abbrev pub FilledBy : {A B : Type 0} → Storage A B → List B → ℕ → List A → Type 0
+FilledBy r items count xs = Filled (r .store) (r .store (r .none)) (r .size) items count xs
 
 -- a loop over these places has come to place i
-pub record Walk {A B : Type 0} (r : Row A B) (items : List B) (count : ℕ) (xs : List A) (i : ℕ) : Type 0 where
-  pub held : Held r items count xs
+pub record Reading {A B : Type 0} (r : Storage A B) (items : List B) (count : ℕ) (xs : List A) (i : ℕ) : Type 0 where
+  pub filled : FilledBy r items count xs
   pub back : All (λ x. r .means (r .store x) ≡ x) xs
   pub inside : i ≤ count
   pub few : count ≤ r .size
 
 -- the bundles and the connections of a graph
 
-abbrev pub bundle-row : Row Bundle StoredBundle
-bundle-row = record { store = store-bundle; means = bundle-in; none = no-bundle; size = most-bundles }
+abbrev pub bundle-storage : Storage Bundle StoredBundle
+bundle-storage = record { store = store-bundle; means = bundle-in; none = no-bundle; size = most-bundles }
 
-abbrev pub connection-row : Row Connection StoredConnection
-connection-row = record { store = store-connection; means = connection-in; none = no-connection; size = most-connections }
+abbrev pub connection-storage : Storage Connection StoredConnection
+connection-storage = record { store = store-connection; means = connection-in; none = no-connection; size = most-connections }
 
-pub bundles-walk : (bs : Bundles) → BundlesStored bs → Walk bundle-row (bs .items) (bs .count) (bundles-of bs) 0
-bundles-walk bs s =
+pub bundles-reading : (bs : Bundles) → BundlesStored bs → Reading bundle-storage (bs .items) (bs .count) (bundles-of bs) 0
+bundles-reading bs s =
     let h = bundles-filled bs s in
-    record { held = h; back = bundles-each (bundles-of bs); inside = omega arith; few = omega (arith, h .counted, h .room) }
+    record { filled = h; back = bundles-each (bundles-of bs); inside = omega arith; few = omega (arith, h .counted, h .room) }
 
-pub connections-walk : (cs : Connections) → ConnectionsStored cs → Walk connection-row (cs .items) (cs .count) (connections-of cs) 0
-connections-walk cs s =
+pub connections-reading : (cs : Connections) → ConnectionsStored cs → Reading connection-storage (cs .items) (cs .count) (connections-of cs) 0
+connections-reading cs s =
     let h = connections-filled cs s in
-    record { held = h; back = connections-each (connections-of cs) (s .good .each); inside = omega arith; few = omega (arith, h .counted, h .room) }
+    record { filled = h; back = connections-each (connections-of cs) (s .good .each); inside = omega arith; few = omega (arith, h .counted, h .room) }
 
 module _ (g : Graph) (v : Valid g) where
-  pub graph-bundles : Walk bundle-row (g .bundles .items) (g .bundles .count) (meaning g .bundles) 0
+  pub graph-bundles : Reading bundle-storage (g .bundles .items) (g .bundles .count) (meaning g .bundles) 0
   unfolding meaning
-  graph-bundles = bundles-walk (g .bundles) (bundles-stored g v)
+  graph-bundles = bundles-reading (g .bundles) (bundles-stored g v)
 
-  pub graph-connections : Walk connection-row (g .connections .items) (g .connections .count) (meaning g .connections) 0
+  pub graph-connections : Reading connection-storage (g .connections .items) (g .connections .count) (meaning g .connections) 0
   unfolding meaning
-  graph-connections = connections-walk (g .connections) (connections-stored g v)
+  graph-connections = connections-reading (g .connections) (connections-stored g v)
 
-module _ {A B : Type 0} {r : Row A B} {items : List B} {count : ℕ} {xs : List A} where
-  module _ {i : ℕ} (w : Walk r items count xs i) (l : i < count) where
-    pub walk-inside : i < length xs
-    walk-inside = filled-inside (w .held) i l
+module _ {A B : Type 0} {r : Storage A B} {items : List B} {count : ℕ} {xs : List A} where
+  module _ {i : ℕ} (w : Reading r items count xs i) (l : i < count) where
+    pub reading-inside : i < length xs
+    reading-inside = filled-inside (w .filled) i l
 
-    pub walk-next : Walk r items count xs (i + 1)
-    walk-next = record { held = w .held; back = w .back; inside = omega arith; few = w .few }
+    pub reading-next : Reading r items count xs (i + 1)
+    reading-next = record { filled = w .filled; back = w .back; inside = omega arith; few = w .few }
 
     -- what stands at the place
-    pub walk-at : (e : B) → getD items i e ≡ r .store (getD xs i (r .none))
-    walk-at e = filled-at (w .held) i e (r .none) l
+    pub reading-at : (e : B) → getD items i e ≡ r .store (getD xs i (r .none))
+    reading-at e = filled-at (w .filled) i e (r .none) l
 
-    pub walk-means : (e : B) → r .means (getD items i e) ≡ getD xs i (r .none)
-    walk-means e = filled-means (w .held) (r .means) (w .back) i e (r .none) l
+    pub reading-means : (e : B) → r .means (getD items i e) ≡ getD xs i (r .none)
+    reading-means e = filled-means (w .filled) (r .means) (w .back) i e (r .none) l
 
     -- what a test says of it
-    pub walk-test : (p : A → Bool) (e : B) {b t : Bool} → b ≡ p (r .means (getD items i e)) → b ≡ t → p (getD xs i (r .none)) ≡ t
-    walk-test p e f q = ap p (sym (walk-means e)) ∙ sym f ∙ q
+    pub reading-test : (p : A → Bool) (e : B) {b t : Bool} → b ≡ p (r .means (getD items i e)) → b ≡ t → p (getD xs i (r .none)) ≡ t
+    reading-test p e f q = ap p (sym (reading-means e)) ∙ sym f ∙ q
 
-  pub walk-end : {i : ℕ} → Walk r items count xs i → count ≤ i → take i xs ≡ xs
-  walk-end {i} w l = take-all i xs (omega (arith, w .held .counted))
+  pub reading-end : {i : ℕ} → Reading r items count xs i → count ≤ i → take i xs ≡ xs
+  reading-end {i} w l = take-all i xs (omega (arith, w .filled .counted))
 
   -- past the count stands what has nothing
-  pub walk-past : Walk r items count xs 0 → (i : ℕ) → count ≤ i → r .store (r .none) ≡ r .store (getD xs i (r .none))
-  walk-past w i l =
-      let k : length xs ≤ i = omega (arith, w .held .counted) in
+  pub reading-past : Reading r items count xs 0 → (i : ℕ) → count ≤ i → r .store (r .none) ≡ r .store (getD xs i (r .none))
+  reading-past w i l =
+      let k : length xs ≤ i = omega (arith, w .filled .counted) in
       ap (r .store) (sym (List·getD-eq-default xs (r .none) k))
 
 -- a search for the first element that passes
 
-pub record Searching {A B : Type 0} (r : Row A B) (p : A → Bool) (items : List B) (count : ℕ) (xs : List A) (i : ℕ) : Type 0 where
-  pub walk : Walk r items count xs i
+pub record Searching {A B : Type 0} (r : Storage A B) (p : A → Bool) (items : List B) (count : ℕ) (xs : List A) (i : ℕ) : Type 0 where
+  pub reading : Reading r items count xs i
   pub rest : position p xs ≡ i + position p (drop i xs)
 
-module _ {A B : Type 0} {r : Row A B} {p : A → Bool} {items : List B} {count : ℕ} {xs : List A} where
-  pub searching-start : Walk r items count xs 0 → Searching r p items count xs 0
-  searching-start w = record { walk = w; rest = omega arith }
+module _ {A B : Type 0} {r : Storage A B} {p : A → Bool} {items : List B} {count : ℕ} {xs : List A} where
+  pub searching-start : Reading r items count xs 0 → Searching r p items count xs 0
+  searching-start w = record { reading = w; rest = omega arith }
 
   module _ {i : ℕ} (s : Searching r p items count xs i) where
     module _ (l : i < count) (e : B) {b : Bool} (f : b ≡ p (r .means (getD items i e))) where
       pub searching-here : b ≡ true → i ≡ position p xs
-      searching-here t = position-here p xs i (r .none) (walk-inside (s .walk) l) (s .rest) (walk-test (s .walk) l p e f t)
+      searching-here t = position-here p xs i (r .none) (reading-inside (s .reading) l) (s .rest) (reading-test (s .reading) l p e f t)
 
       pub searching-later : b ≡ false → Searching r p items count xs (i + 1)
       searching-later t = record {
-        walk = walk-next (s .walk) l;
-        rest = position-later p xs i (r .none) (walk-inside (s .walk) l) (s .rest) (walk-test (s .walk) l p e f t);
+        reading = reading-next (s .reading) l;
+        rest = position-later p xs i (r .none) (reading-inside (s .reading) l) (s .rest) (reading-test (s .reading) l p e f t);
       }
 
     pub searching-end : count ≤ i → i ≡ position p xs
-    searching-end l = position-end p xs i (s .rest) (omega (arith, s .walk .held .counted))
+    searching-end l = position-end p xs i (s .rest) (omega (arith, s .reading .filled .counted))
 
 -- the elements that do not pass are copied: the first n places hold those of the first i
 
-pub record Leaving {A B : Type 0} (r : Row A B) (p : A → Bool) (items : List B) (count : ℕ) (xs : List A) (left : List B) (n i : ℕ) : Type 0 where
-  pub walk : Walk r items count xs i
+pub record Leaving {A B : Type 0} (r : Storage A B) (p : A → Bool) (items : List B) (count : ℕ) (xs : List A) (left : List B) (n i : ℕ) : Type 0 where
+  pub reading : Reading r items count xs i
   pub fewer : n ≤ i
-  pub kept : Held r left n (keep (λ x. not (p x)) (take i xs))
+  pub kept : FilledBy r left n (keep (λ x. not (p x)) (take i xs))
 
-module _ {A B : Type 0} {r : Row A B} {p : A → Bool} {items : List B} {count : ℕ} {xs : List A} {left : List B} where
-  pub leaving-start : Walk r items count xs 0 → Held r left 0 [] → Leaving r p items count xs left 0 0
-  leaving-start w h = record { walk = w; fewer = omega arith; kept = h }
+module _ {A B : Type 0} {r : Storage A B} {p : A → Bool} {items : List B} {count : ℕ} {xs : List A} {left : List B} where
+  pub leaving-start : Reading r items count xs 0 → FilledBy r left 0 [] → Leaving r p items count xs left 0 0
+  leaving-start w h = record { reading = w; fewer = omega arith; kept = h }
 
   module _ {n i : ℕ} (s : Leaving r p items count xs left n i) where
     module _ (l : i < count) (e : B) {b : Bool} (f : b ≡ p (r .means (getD items i e))) where
       pub leaving-took : not b ≡ true → Leaving r p items count xs (set left n (getD items i e)) (n + 1) (i + 1)
       leaving-took t = record {
-        walk = walk-next (s .walk) l;
+        reading = reading-next (s .reading) l;
         fewer = omega (arith, s .fewer);
         kept =
-            filled-took (λ x. not (p x)) xs i (r .none) (walk-inside (s .walk) l) (s .kept) (omega (arith, s .fewer, s .walk .few)) (walk-at (s .walk) l e)
-            (walk-test (s .walk) l (λ x. not (p x)) e (ap not f) t);
+            filled-took (λ x. not (p x)) xs i (r .none) (reading-inside (s .reading) l) (s .kept) (omega (arith, s .fewer, s .reading .few))
+            (reading-at (s .reading) l e) (reading-test (s .reading) l (λ x. not (p x)) e (ap not f) t);
       }
 
       pub leaving-left : not b ≡ false → Leaving r p items count xs left n (i + 1)
       leaving-left t = record {
-        walk = walk-next (s .walk) l;
+        reading = reading-next (s .reading) l;
         fewer = omega (arith, s .fewer);
         kept =
-            filled-left (λ x. not (p x)) xs i (r .none) (walk-inside (s .walk) l) (s .kept) (walk-test (s .walk) l (λ x. not (p x)) e (ap not f) t);
+            filled-left (λ x. not (p x)) xs i (r .none) (reading-inside (s .reading) l) (s .kept) (reading-test (s .reading) l (λ x. not (p x)) e (ap not f) t);
       }
 
-    pub leaving-end : count ≤ i → Held r left n (keep (λ x. not (p x)) xs)
-    leaving-end l = rw (walk-end (s .walk) l) at (s .kept)
+    pub leaving-end : count ≤ i → FilledBy r left n (keep (λ x. not (p x)) xs)
+    leaving-end l = rw (reading-end (s .reading) l) at (s .kept)
 
 -- a place is made free: the elements from i on have moved up by one, and what stands at i does not count
 
-pub record Moving {A B : Type 0} (r : Row A B) (place count : ℕ) (xs : List A) (items : List B) (i : ℕ) : Type 0 where
+pub record Moving {A B : Type 0} (r : Storage A B) (place count : ℕ) (xs : List A) (items : List B) (i : ℕ) : Type 0 where
   pub from : place ≤ i
   pub to : i ≤ count
   pub room : count < r .size
@@ -164,9 +164,9 @@ pub record Moving {A B : Type 0} (r : Row A B) (place count : ℕ) (xs : List A)
   pub low : take i items ≡ map (r .store) (take i xs)
   pub high : drop (suc i) items ≡ map (r .store) (drop i xs) ++ replicate (r .size - suc (length xs)) (r .store (r .none))
 
-module _ {A B : Type 0} {r : Row A B} {place count : ℕ} {xs : List A} {items : List B} where
+module _ {A B : Type 0} {r : Storage A B} {place count : ℕ} {xs : List A} {items : List B} where
   -- nothing has moved yet
-  pub moving-start : Held r items count xs → place ≤ length xs → length xs < r .size → Moving r place count xs items count
+  pub moving-start : FilledBy r items count xs → place ≤ length xs → length xs < r .size → Moving r place count xs items count
   moving-start h l k =
       let n = r .size - suc (length xs) in
       let none = r .store (r .none) in
@@ -212,7 +212,7 @@ module _ {A B : Type 0} {r : Row A B} {place count : ℕ} {xs : List A} {items :
         }
 
     -- the free place takes the new element
-    pub moving-end : i ≤ place → {b : B} (x : A) → b ≡ r .store x → Held r (set items place b) (count + 1) (take place xs ++ (x ∷ drop place xs))
+    pub moving-end : i ≤ place → {b : B} (x : A) → b ≡ r .store x → FilledBy r (set items place b) (count + 1) (take place xs ++ (x ∷ drop place xs))
     moving-end l {b} x e =
         let q : i ≡ place = omega (arith, m .from) in
         let k : place ≤ length xs = omega (arith, m .counted, m .to) in
@@ -235,17 +235,17 @@ module _ {A B : Type 0} {r : Row A B} {place count : ℕ} {xs : List A} {items :
 
 -- what a function gives for the first i elements is gathered
 
-pub record Gathering {A B S : Type 0} (r : Row A B) (f : List A → S) (items : List B) (count : ℕ) (xs : List A) (s : S) (i : ℕ) : Type 0 where
-  pub walk : Walk r items count xs i
+pub record Folding {A B S : Type 0} (r : Storage A B) (f : List A → S) (items : List B) (count : ℕ) (xs : List A) (s : S) (i : ℕ) : Type 0 where
+  pub reading : Reading r items count xs i
   pub those : s ≡ f (take i xs)
 
-module _ {A B S : Type 0} {r : Row A B} {f : List A → S} {items : List B} {count : ℕ} {xs : List A} where
-  pub gathering-start : {s : S} → Walk r items count xs 0 → s ≡ f [] → Gathering r f items count xs s 0
-  gathering-start w e = record { walk = w; those = e }
+module _ {A B S : Type 0} {r : Storage A B} {f : List A → S} {items : List B} {count : ℕ} {xs : List A} where
+  pub folding-start : {s : S} → Reading r items count xs 0 → s ≡ f [] → Folding r f items count xs s 0
+  folding-start w e = record { reading = w; those = e }
 
-  module _ {s : S} {i : ℕ} (g : Gathering r f items count xs s i) where
-    pub gathering-next : {t : S} → i < count → t ≡ f (take (i + 1) xs) → Gathering r f items count xs t (i + 1)
-    gathering-next l e = record { walk = walk-next (g .walk) l; those = e }
+  module _ {s : S} {i : ℕ} (g : Folding r f items count xs s i) where
+    pub folding-next : {t : S} → i < count → t ≡ f (take (i + 1) xs) → Folding r f items count xs t (i + 1)
+    folding-next l e = record { reading = reading-next (g .reading) l; those = e }
 
-    pub gathering-end : count ≤ i → s ≡ f xs
-    gathering-end l = g .those ∙ ap f (walk-end (g .walk) l)
+    pub folding-end : count ≤ i → s ≡ f xs
+    folding-end l = g .those ∙ ap f (reading-end (g .reading) l)

@@ -26,7 +26,7 @@ fits h = lt-of-lt-of-le h (pow-mono {i = regions} {j = 64} (lit≤ tt))
 -- ---- the loop of `layer`
 
 -- r is the lowest of `left`, and `rest` is `left` without it
-pub record Removed (left r rest : ℕ) : Type 0 where
+pub record Taken (left r rest : ℕ) : Type 0 where
   pub inside : In left r
   pub low : r < regions
   pub gone : In rest r → ⊥
@@ -39,9 +39,9 @@ pub lowest-in : {left r : ℕ} → left < 2 ^ 64 → 0 < left → r ≡ trailing
 lowest-in {left} word pos e = subst (In left) (sym e) (low-in 64 left pos word)
 
 -- what the functions of the turn answer
-pub removed : {left r alone rest : ℕ} → SetOfRegions left → left < 2 ^ 64 → 0 < left → r ≡ trailingZeros 64 left → alone ≡ singleton r
-    → rest ≡ bitAnd left (2 ^ 64 - 1 - alone) → Removed left r rest
-removed {left} {r} {alone} {rest} small word pos e o d = record {
+pub taken : {left r alone rest : ℕ} → SetOfRegions left → left < 2 ^ 64 → 0 < left → r ≡ trailingZeros 64 left → alone ≡ singleton r
+    → rest ≡ bitAnd left (2 ^ 64 - 1 - alone) → Taken left r rest
+taken {left} {r} {alone} {rest} small word pos e o d = record {
   inside = inside;
   low = low;
   gone = gone;
@@ -88,7 +88,7 @@ pub record LayerState (pred : List ℕ) (prev next left : ℕ) : Type 0 where
   pub cover : (n s : ℕ) → Conn pred n s → In prev s → In next n ⊎ In left s
 
 module _ {pred : List ℕ} {prev : ℕ} where
-  -- no region of the layer before is removed yet
+  -- no region of the layer before is taken yet
   pub layer-start : prev < 2 ^ 64 → LayerState pred prev 0 prev
   layer-start f = record {
     word = f;
@@ -98,8 +98,8 @@ module _ {pred : List ℕ} {prev : ℕ} where
     cover = λ n s c h. inr h;
   }
 
-  -- r is removed: its predecessors join
-  pub layer-next : {next left r rest : ℕ} → ((s : ℕ) → getD pred s 0 < 2 ^ regions) → Removed left r rest → LayerState pred prev next left
+  -- r is taken: its predecessors join
+  pub layer-next : {next left r rest : ℕ} → ((s : ℕ) → getD pred s 0 < 2 ^ regions) → Taken left r rest → LayerState pred prev next left
       → LayerState pred prev (bitOr next (getD pred r 0)) rest
   layer-next {next} {left} {r} {rest} sm t g = record {
     word = omega (arith, t .less, g .word);
@@ -121,7 +121,7 @@ module _ {pred : List ℕ} {prev : ℕ} where
       go n s c (inl h) = inl (or-in next (getD pred r 0) n (inl h))
       go n s c (inr h) = also n s c (t .still s h)
 
-  -- all are removed, and what is reached goes
+  -- all are taken, and what is reached goes
   pub layer-end : {next reached x : ℕ} → reached < 2 ^ 64 → x ≡ bitAnd next (2 ^ 64 - 1 - reached) → LayerState pred prev next 0 → Layer pred prev reached x
   layer-end {next} {reached} f e g = subst (Layer pred prev reached) (sym e) record {
     small = lt-of-le-of-lt (and-le-l next (2 ^ 64 - 1 - reached)) (g .small);

@@ -13,7 +13,7 @@ use Rattle.region_graph.proofs.Bits.{low-first}
 use Rattle.region_routes.specs.Route.{Best}
 use Rattle.region_routes.specs.Search.{In, Conn, At, Leading, Next, Walkable, Walked}
 use Rattle.region_routes.proofs.SetLaws.{not-in-empty}
-use Rattle.region_routes.proofs.SearchLoops.{Removed}
+use Rattle.region_routes.proofs.SearchLoops.{Taken}
 use Rattle.region_routes.proofs.Layers.{best-last, best-next}
 
 -- ---- the loop of `next_to`
@@ -39,7 +39,7 @@ module _ {pred : List ℕ} {x r : ℕ} where
     }
 
     -- none leads to the lowest
-    pub next-later : {rest : ℕ} → Removed left s rest → (Conn pred r s → ⊥) → Looking pred x r rest
+    pub next-later : {rest : ℕ} → Taken left s rest → (Conn pred r s → ⊥) → Looking pred x r rest
     next-later {rest} t out = record {
       word = omega (arith, t .less, g .word);
       within = λ n h. g .within n (t .kept n h);

@@ -6,7 +6,7 @@ use borrow.Author.Needs.{needs}
 use Rattle.region_graph.specs.Size.{regions}
 use Rattle.region_routes.specs.Search.{In}
 use Rattle.region_routes.proofs.SetLaws.{has-in, has-not}
-use Rattle.region_routes.proofs.SearchLoops.{above-none, lowest-in, Removed, removed}
+use Rattle.region_routes.proofs.SearchLoops.{above-none, lowest-in, Taken, taken}
 use Rattle.region_routes.proofs.Walking.{Looking, looking-start, next-here, next-later, next-found}
 use Rattle.region_routes.proofs.routes.next_to.Statement.{statement}
 use Rattle.region_routes.proofs.routes.next_to.Tie as tie
@@ -26,11 +26,11 @@ low c = c .before .before .before .before .pre .1 .small _ (c .before .before .l
 
 -- what a turn takes out of `left`
 turn : (c : tie.After-difference Inv-loop μ-loop)
-    → Removed (c .before .before .before .before .before .before .before .loop .left) (c .before .before .before .before .before .lowest .result)
+    → Taken (c .before .before .before .before .before .before .before .loop .left) (c .before .before .before .before .before .lowest .result)
     (c .difference .result)
 turn c =
     let a = c .before .before .before .before .before .before .before in
-    removed (λ n h. a .before .before .pre .1 .small n (a .loop .inv .within n h)) (a .loop .inv .word)
+    taken (λ n h. a .before .before .pre .1 .small n (a .loop .inv .within n h)) (a .loop .inv .word)
     (above-none _ (c .before .before .before .before .before .before .loop-test .taken))
     (c .before .before .before .before .before .lowest .ensures) (c .before .singleton .ensures) (c .difference .ensures)
 

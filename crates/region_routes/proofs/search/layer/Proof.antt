@@ -2,7 +2,7 @@
 -- into `left`.
 use native.Mathlib.Omega.{arith}
 use borrow.Author.Needs.{needs}
-use Rattle.region_routes.proofs.SearchLoops.{above-none, Removed, removed, LayerState, layer-start, layer-next, layer-end}
+use Rattle.region_routes.proofs.SearchLoops.{above-none, Taken, taken, LayerState, layer-start, layer-next, layer-end}
 use Rattle.region_routes.proofs.search.layer.Statement.{statement}
 use Rattle.region_routes.proofs.search.layer.Tie as tie
 
@@ -14,10 +14,10 @@ abbrev μ-loop : tie.MeasureT-loop
 
 -- what a turn takes out of `left`
 turn : (c : tie.After-difference Inv-loop μ-loop)
-    → Removed (c .before .before .before .before .loop .left) (c .before .before .lowest .result) (c .difference .result)
+    → Taken (c .before .before .before .before .loop .left) (c .before .before .lowest .result) (c .difference .result)
 turn c =
     let a = c .before .before .before .before in
-    removed (λ n h. a .before .before .pre .1 n (a .loop .inv .within n h)) (a .loop .inv .word) (above-none _ (c .before .before .before .loop-test .taken))
+    taken (λ n h. a .before .before .pre .1 n (a .loop .inv .within n h)) (a .loop .inv .word) (above-none _ (c .before .before .before .loop-test .taken))
     (c .before .before .lowest .ensures) (c .before .singleton .ensures) (c .difference .ensures)
 
 pub layer-spec : {M : Type 1} → statement M

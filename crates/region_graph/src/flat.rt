@@ -72,7 +72,7 @@ struct ConnectionList {
 // Puts the list at a place of the row into lent places, as many as it may have numbers.
 fn list_at(places: &mut [u32], row: &[u32], at: usize) -> ListAt
     requires { ⌜ at + (length (now places) + 1) ≤ length (now row) ⌝ }
-    ensures { λ r. ⌜ ListDecoded (now (places .entry)) (now (row .entry)) at (r .ok) («with-count» (r .count) (now (places .exit))) ⌝ }
+    ensures { λ r. ⌜ ListDecoded (now (places .entry)) (now (row .entry)) at (r .ok) (with-count (r .count) (now (places .exit))) ⌝ }
 {
     let count = row[at] as usize;
     if places.len() < count {
@@ -93,7 +93,7 @@ fn list_at(places: &mut [u32], row: &[u32], at: usize) -> ListAt
 fn part_at(places: &mut [u32], row: &[u32], at: usize) -> ListAt
     requires { ⌜ at + (length (now places) + 1) ≤ length (now row) ⌝ }
     requires { ⌜ length (now places) ≡ most-listed ⌝ }
-    ensures { λ r. ⌜ PartDecoded (now (places .entry)) (now (row .entry)) at (r .ok) («with-count» (r .count) (now (places .exit))) ⌝ }
+    ensures { λ r. ⌜ PartDecoded (now (places .entry)) (now (row .entry)) at (r .ok) (with-count (r .count) (now (places .exit))) ⌝ }
 {
     if row[at] as usize == EVERYTHING {
         return ListAt {

@@ -72,21 +72,6 @@ stores c =
       services = c .part-copied2 .ensures i;
     }
 
-connect-number-requires : tie.Need-connect-number-requires
-connect-number-requires c κs = let s = c .before .before .before .before .before .before in connections-stored (s .args .self) (s .pre)
-
-copied-requires : tie.Need-copied-requires
-copied-requires c κs = passed c .bundles-few
-
-part-copied-requires : tie.Need-part-copied-requires
-part-copied-requires c κs = passed (c .before) .packages-within
-
-part-copied-requires-2 : tie.Need-part-copied-requires-2
-part-copied-requires-2 c κs = passed (c .before .before) .services-within
-
-first-requires : tie.Need-first-requires
-first-requires c κs = let s = start (c .before .before .before .before) in connections-stored (s .args .self) (s .pre)
-
 with-requires : tie.Need-with-requires
 unfolding meaning
 with-requires c κs =
@@ -127,5 +112,7 @@ returns-2 c = let s = start (c .before) in refused (s .args .self) (Call.connect
 pub connect-spec : {M : Type 1} → statement M
 connect-spec =
     tie.close
-    (tie.spec (λ c κs. search needs) connect-number-requires copied-requires part-copied-requires part-copied-requires-2 first-requires with-requires
-    returns returns-2)
+    (tie.spec (λ c κs. search needs)
+    (λ c κs. let s = c .before .before .before .before .before .before in connections-stored (s .args .self) (s .pre)) (λ c κs. passed c .bundles-few)
+    (λ c κs. passed (c .before) .packages-within) (λ c κs. passed (c .before .before) .services-within)
+    (λ c κs. let s = start (c .before .before .before .before) in connections-stored (s .args .self) (s .pre)) with-requires returns returns-2)

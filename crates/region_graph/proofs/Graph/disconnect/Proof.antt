@@ -44,9 +44,6 @@ ends c =
     all-yes (end-questions (meaning (a .self) .regions) (a .source) (a .target)) (refl, (refl, (refl, tt)))
     (sym (c .before .ends-number .ensures) ∙ c .if1 .taken)
 
-without-requires : tie.Need-without-requires
-without-requires c κs = connections-stored (c .before .args .self) (c .before .pre)
-
 returns : tie.Need-returns
 unfolding meaning
 returns c =
@@ -88,4 +85,6 @@ returns-3 c =
     (c .before .ends-number .ensures) (c .if1 .left))
 
 pub disconnect-spec : {M : Type 1} → statement M
-disconnect-spec = tie.close (tie.spec without-requires (λ c κs. search needs) returns returns-2 returns-3)
+disconnect-spec =
+    tie.close
+    (tie.spec (λ c κs. connections-stored (c .before .args .self) (c .before .pre)) (λ c κs. search needs) returns returns-2 returns-3)

@@ -51,15 +51,6 @@ install-number-requires : tie.Need-install-number-requires
 install-number-requires c κs =
     let s = c .before .before .before .before .before .before in (bundles-stored (s .args .self) (s .pre), connections-stored (s .args .self) (s .pre))
 
-provided-copied-requires : tie.Need-provided-copied-requires
-provided-copied-requires c κs = passed c .few-packages
-
-provided-copied-requires-2 : tie.Need-provided-copied-requires-2
-provided-copied-requires-2 c κs = passed (c .before) .few-services
-
-first-requires : tie.Need-first-requires
-first-requires c κs = let s = start (c .before .before .before) in bundles-stored (s .args .self) (s .pre)
-
 with-requires : tie.Need-with-requires
 unfolding meaning
 with-requires c κs =
@@ -98,5 +89,5 @@ returns-2 c = let s = start (c .before) in refused (s .args .self) (Call.install
 pub install-spec : {M : Type 1} → statement M
 install-spec =
     tie.close
-    (tie.spec (λ c κs. search needs) install-number-requires provided-copied-requires provided-copied-requires-2 first-requires with-requires returns
-    returns-2)
+    (tie.spec (λ c κs. search needs) install-number-requires (λ c κs. passed c .few-packages) (λ c κs. passed (c .before) .few-services)
+    (λ c κs. let s = start (c .before .before .before) in bundles-stored (s .args .self) (s .pre)) with-requires returns returns-2)

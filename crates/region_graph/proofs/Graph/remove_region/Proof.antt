@@ -7,9 +7,6 @@ use Rattle.region_graph.proofs.Storing.{regions-stored, bundles-stored,
 use Rattle.region_graph.proofs.Graph.remove_region.Statement.{statement}
 use Rattle.region_graph.proofs.Graph.remove_region.Tie as tie
 
-without-requires : tie.Need-without-requires
-without-requires c κs = bundles-stored (c .before .before .before .before .args .self) (c .before .before .before .before .pre)
-
 without-requires-2 : tie.Need-without-requires-2
 without-requires-2 c κs = connections-stored (c .before .before .before .before .before .args .self) (c .before .before .before .before .before .pre)
 
@@ -28,4 +25,6 @@ returns c =
 pub remove-region-spec : {M : Type 1} → statement M
 remove-region-spec =
     tie.close
-    (tie.spec (λ c κs. search needs) (λ c κs. search needs) without-requires without-requires-2 (λ c κs. search needs) returns)
+    (tie.spec (λ c κs. search needs) (λ c κs. search needs)
+    (λ c κs. bundles-stored (c .before .before .before .before .args .self) (c .before .before .before .before .pre)) without-requires-2
+    (λ c κs. search needs) returns)

@@ -32,9 +32,6 @@ count : (c : tie.After-without)
 unfolding meaning
 count c = let a = c .before .before .args in bundles-count (keep (λ b. not (at-location (a .location) b)) (meaning (a .self) .bundles)) (c .without .ensures)
 
-without-requires : tie.Need-without-requires
-without-requires c κs = bundles-stored (c .before .args .self) (c .before .pre)
-
 returns : tie.Need-returns
 unfolding meaning
 returns c =
@@ -54,4 +51,6 @@ returns-2 c =
     (count (c .before .before .before)) (c .if1 .left)))
 
 pub uninstall-spec : {M : Type 1} → statement M
-uninstall-spec = tie.close (tie.spec without-requires returns returns-2)
+uninstall-spec =
+    tie.close
+    (tie.spec (λ c κs. bundles-stored (c .before .args .self) (c .before .pre)) returns returns-2)

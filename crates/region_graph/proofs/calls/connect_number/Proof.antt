@@ -34,9 +34,6 @@ ascending : (c : tie.Else3)
     filter-ascends (new-filter (a .bundles .now) (a .all-packages) (a .packages .now) (a .all-services) (a .services .now)) ≡ true)
 ascending c = sym (c .before .filter-ascending .ensures) ∙ not-false _ (c .if3 .left)
 
-first-requires : tie.Need-first-requires
-first-requires c κs = c .before .before .before .pre
-
 returns : tie.Need-returns
 returns c =
     let s = c .before .before .before .before .before .before in
@@ -75,4 +72,4 @@ returns-5 c =
 pub connect-number-spec : {M : Type 1} → statement M
 connect-number-spec =
     tie.close
-    (tie.spec first-requires returns (λ c κs. search needs) returns-2 (λ c κs. search needs) returns-3 returns-4 returns-5)
+    (tie.spec (λ c κs. c .before .before .before .pre) returns (λ c κs. search needs) returns-2 (λ c κs. search needs) returns-3 returns-4 returns-5)

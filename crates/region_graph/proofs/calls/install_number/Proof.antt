@@ -28,17 +28,11 @@ unnamed c =
     filled-missed (connections-filled (s .args .connections) (s .pre .1)) (connection-meets (Naming (s .args .region) (s .args .location)))
     (c .before .before .first2 .ensures) (c .if2 .left)
 
-first-requires : tie.Need-first-requires
-first-requires c κs = c .pre .0
-
 returns : tie.Need-returns
 returns c =
     let s = c .before .before .before in
     rw (filled-found (bundles-filled (s .args .bundles) (s .pre .0)) (bundle-meets (At (s .args .location)))
     (c .before .before .first .ensures) (c .if1 .taken))
-
-first-requires-2 : tie.Need-first-requires-2
-first-requires-2 c κs = c .before .before .before .pre .1
 
 returns-2 : tie.Need-returns-2
 returns-2 c =
@@ -70,4 +64,6 @@ returns-4 c =
     )
 
 pub install-number-spec : {M : Type 1} → statement M
-install-number-spec = tie.close (tie.spec first-requires returns first-requires-2 returns-2 returns-3 returns-4)
+install-number-spec =
+    tie.close
+    (tie.spec (λ c κs. c .pre .0) returns (λ c κs. c .before .before .before .pre .1) returns-2 returns-3 returns-4)

@@ -6,11 +6,10 @@ use Rattle.region_graph.proofs.connections.part_copied.Tie as tie
 returns : tie.Need-returns
 returns c = rw (c .before .if1 .taken) (c .everything .ensures)
 
-copied-requires : tie.Need-copied-requires
-copied-requires c κs = leb-true _ _ (rw (c .if1 .left) at (c .before .before .pre))
-
 returns-2 : tie.Need-returns-2
 returns-2 c = rw (c .before .if1 .left) (c .copied .ensures)
 
 pub part-copied-spec : {M : Type 1} → statement M
-part-copied-spec = tie.close (tie.spec (λ c κs. search needs) returns copied-requires returns-2)
+part-copied-spec =
+    tie.close
+    (tie.spec (λ c κs. search needs) returns (λ c κs. leb-true _ _ (rw (c .if1 .left) at (c .before .before .pre))) returns-2)

@@ -24,4 +24,6 @@ unfolding numbers-of
 returns-2 c = rw (ne-eqb _ _ (c .before .before .before .if1 .left)) (c .has-number .ensures)
 
 pub part-passes-spec : {M : Type 1} → statement M
-part-passes-spec = tie.close (tie.spec returns array-share-prefix-items slice-aggregate-has-number (λ c κs. search needs) returns-2)
+part-passes-spec =
+    tie.close
+    (tie.spec returns array-share-prefix-items slice-aggregate-has-number (λ c κs. search needs) returns-2)

@@ -11,7 +11,7 @@ use borrow.Author.Tests.{lt-ltb, ltb-true, le-ltb, le-leb, eq-eqb, ne-eqb}
 use Rattle.region_graph.specs.Size.{regions, most-bundles, most-connections, most-provided, most-listed}
 use Rattle.region_graph.specs.Refusals.{not-refused}
 use Rattle.region_graph.specs.Lists.{All, exists, member, insert-by}
-use Rattle.region_graph.specs.Model.{Model, Filter, Part, Connection, NumberedPart, LegalFilter, Legal, connection-before}
+use Rattle.region_graph.specs.Model.{Model, Filter, Part, Connection, NumberedPart, LegalFilter, connection-before}
 use Rattle.region_graph.specs.Calls.{Call, Question, first-no, questions, number, accepted, after, is-region, at-location, joins}
 use Rattle.region_graph.specs.Calls.{part-within, part-ascends, filter-within, filter-ascends}
 use Rattle.region_graph.proofs.Lists.{and-yes, and-left, and-right, pick-yes, all-map, member-all}

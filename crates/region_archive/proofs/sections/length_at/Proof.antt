@@ -12,9 +12,6 @@ returns c =
     let r = c .before .before .number-at in
     record { found = λ e. false-true e; missing = λ e n l h k f. r .ensures .missing (not-true _ (c .if1 .taken)) n l h f }
 
-sub-if2 : tie.Need-sub-if2
-sub-if2 c = omega (arith, c .before .before .before .before .number-at .ensures .found (not-false _ (c .before .before .if1 .left)) .room)
-
 returns-2 : tie.Need-returns-2
 returns-2 c =
     let r = c .before .before .before .before .before .number-at in
@@ -33,4 +30,8 @@ returns-3 c =
 
 pub length-at-spec : {M : Type 1} → statement M
 length-at-spec =
-    tie.close (tie.spec (λ c κs. search needs) returns (λ c. search needs) sub-if2 returns-2 (λ c. search needs) returns-3)
+    tie.close
+    (tie.spec
+    (λ c κs. search needs) returns (λ c. search needs)
+    (λ c. omega (arith, c .before .before .before .before .number-at .ensures .found (not-false _ (c .before .before .if1 .left)) .room))
+    returns-2 (λ c. search needs) returns-3)

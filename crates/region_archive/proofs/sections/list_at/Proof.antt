@@ -104,10 +104,6 @@ mul-row c =
     let a = c .before .before .before .before .before .before in
     omega (arith, a .loop .inv .1 .0, start a .pre .1 .0, c .before .before .before .before .before .loop-test .taken)
 
-add-least : tie.Need-add-least Inv-loop μ-loop
-add-least c =
-    omega (arith, c .before .before .before .before .number-at .ensures .found (not-false _ (c .before .before .if2 .left)) .is-good)
-
 loop-again : tie.Need-loop-again Inv-loop μ-loop
 loop-again c =
     let a = c .before .before .before .before .before .before in
@@ -140,6 +136,8 @@ list-at-spec =
     (λ c. kept (c .before .before .before .before))
     returns-2 (λ c. search needs)
     (λ c. kept (c .before .before .before .before .before .before))
-    returns-3 (λ c. search needs) mul-row row-room add-least (λ c. search needs) loop-again
+    returns-3 (λ c. search needs) mul-row row-room
+    (λ c. omega (arith, c .before .before .before .before .number-at .ensures .found (not-false _ (c .before .before .if2 .left)) .is-good))
+    (λ c. search needs) loop-again
     (λ c. kept (c .before))
     returns-4)

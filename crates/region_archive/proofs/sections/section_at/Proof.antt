@@ -255,8 +255,7 @@ section-at-spec =
     (λ c. omega (arith, room (c .before .before .before .before .before .before) .1))
     (λ c. omega arith) (λ c. omega arith)
     (λ c. reached (c .before .before))
-    field-at-requires
-    add-field
+    field-at-requires add-field
     (λ c. omega (arith, c .before .before .before .before .before .before .before .fields-test .taken))
     fields-again
     (λ c. omega (arith, room (c .before .before .before .before .before .before) .1))

@@ -23,7 +23,6 @@ pub mod Meaning
 pub mod ListReads
 pub mod FieldTests
 pub mod FieldReads
-pub mod LengthReads
 pub mod RecordReads
 pub mod SectionReads
 pub mod RegionReads

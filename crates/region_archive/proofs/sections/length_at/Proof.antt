@@ -3,7 +3,7 @@ use native.Mathlib.Omega.{arith}
 use borrow.Author.Needs.{needs}
 use borrow.Author.Tests.{not-true, not-false}
 use Rattle.region_graph.proofs.Lists.{false-true}
-use Rattle.region_archive.proofs.LengthReads.{short-length, length-read}
+use Rattle.region_archive.proofs.RecordReads.{short-length, length-read}
 use Rattle.region_archive.proofs.sections.length_at.Statement.{statement}
 use Rattle.region_archive.proofs.sections.length_at.Tie as tie
 

@@ -19,13 +19,12 @@ use Rattle.region_graph.specs.Promise.{bundle-places}
 use Rattle.region_graph.specs.declared.Graph.{Graph}
 use Rattle.region_graph.specs.declared.bundles.StoredBundle.{StoredBundle}
 use Rattle.region_graph.specs.declared.bundles.Bundles.{Bundles}
-use Rattle.region_graph.proofs.Lists.{false-true, pick-yes, pick-no, exists-append, eqb-sym}
+use Rattle.region_graph.proofs.Lists.{false-true, pick-yes, pick-no, exists-append, eqb-sym, concat-next, concat-within, concat-most}
 use Rattle.region_graph.proofs.Arrays.{filled-means}
 use Rattle.region_graph.proofs.Storing.{bundles-each, bundles-back, stored-as, bundles-filled, filled-bundles, bundles-stored}
 use Rattle.region_routes.specs.Hooks.{kind-number}
 use Rattle.region_routes.specs.declared.Kind.{Kind}
 use Rattle.region_routes.specs.declared.Kind.the-variants as Kind
-use Rattle.region_archive.proofs.Pieces.{concat-next, concat-within, concat-most}
 use Rattle.region_archive.proofs.CountedReads.{take-set}
 use Rattle.region_listing.specs.Listing.{joined, joined-all, different, held}
 use Rattle.region_listing.specs.Counts.{most-different, numbers-in, Collected}

@@ -17,7 +17,7 @@ use Rattle.region_graph.specs.Items.{provided}
 use Rattle.region_graph.specs.Record.{no-bundle, bundles-of, bundle-in}
 use Rattle.region_graph.specs.Places.{BundlesStored}
 use Rattle.region_graph.specs.declared.bundles.StoredBundle.{StoredBundle}
-use Rattle.region_graph.proofs.Lists.{pick-yes, pick-no, keep-length, all-at, all-map, member-all}
+use Rattle.region_graph.proofs.Lists.{pick-yes, pick-no, keep-length, all-at, all-map, member-all, concat-next, concat-within, concat-most}
 use Rattle.region_graph.proofs.Storing.{short-bundle}
 use Rattle.region_graph.proofs.Legal.{legal-nothing}
 use Rattle.region_routes.specs.Chosen.{sees}
@@ -30,7 +30,6 @@ use Rattle.text_lines.proofs.Writes.{wrote-then, wrote-is, wrote-length}
 use Rattle.text_lines.proofs.DecimalLaws.{decimal-few, decimal-most}
 use Rattle.region_archive.specs.File.{FileMeaning, means, means-none, read-model, read-number}
 use Rattle.region_archive.proofs.Meaning.{file-meaning}
-use Rattle.region_archive.proofs.Pieces.{concat-next, concat-within, concat-most}
 use Rattle.region_listing.specs.Listing.{held, seen-from, line-of, line, header, listing-text, refused-word, refusal-text, file-text}
 use Rattle.region_listing.specs.Listing.{header-size, line-size, longest-text, store-text, ArchiveListed}
 use Rattle.region_listing.specs.Counts.{Counted}

@@ -5,7 +5,6 @@ pub mod Digits
 pub mod Writes
 pub mod Fits
 pub mod Placed
-pub mod Sizes
 pub mod CountedReads
 pub mod Rows
 pub mod FieldLaws

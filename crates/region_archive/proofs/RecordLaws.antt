@@ -25,7 +25,7 @@ use Rattle.region_archive.proofs.Pieces.{big-length}
 use Rattle.region_archive.proofs.Delimits.{Delimits, big-same, head-same, tail-same, sized-same}
 use Rattle.region_archive.proofs.Rows.{Elements, words, row-same}
 use Rattle.region_archive.proofs.FieldLaws.{FieldKinds, to-same}
-use Rattle.region_archive.proofs.Sizes.{few-fields, narrow-first}
+use Rattle.region_archive.proofs.Fits.{few-fields, narrow-first}
 
 -- parts tell themselves apart
 module _ (most : ℕ) (few : most ≤ most-listed) (all : Bool) where

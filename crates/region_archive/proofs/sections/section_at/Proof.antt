@@ -17,7 +17,7 @@ use Rattle.region_archive.specs.RecordFields.{field-count, row-width, mo
 use Rattle.region_archive.specs.Sections.{LengthStands}
 use Rattle.region_archive.specs.declared.record_fields.Section.{Section}
 use Rattle.region_archive.proofs.RecordLaws.{wide, most-small}
-use Rattle.region_archive.proofs.Sizes.{few-fields}
+use Rattle.region_archive.proofs.Fits.{few-fields}
 use Rattle.region_archive.proofs.RecordReads.{Source, FieldsRead, fields-start, fields-more, lengthless, no-field, misfit}
 use Rattle.region_archive.proofs.SectionReads.{Recording, RecordRead, recording-start, recording-more, read-element, order-is, key-small}
 use Rattle.region_archive.proofs.SectionReads.{rows-small, row-room, mid-put, section-missing, section-end}

@@ -4,8 +4,7 @@ use lib.ListN.{length}
 use Rattle.region_graph.specs.Model.{Part}
 use Rattle.region_archive.specs.Bytes.{big}
 use Rattle.region_archive.specs.Image.{part-bytes}
-use Rattle.region_archive.proofs.Fits.{part-list}
-use Rattle.region_archive.proofs.Sizes.{list-size, part-all, part-listed}
+use Rattle.region_archive.proofs.Fits.{part-list, list-size, part-all, part-listed}
 use Rattle.region_archive.proofs.writing.part_size.Statement.{statement}
 use Rattle.region_archive.proofs.writing.part_size.Tie as tie
 

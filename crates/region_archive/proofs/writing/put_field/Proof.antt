@@ -13,7 +13,7 @@ use Rattle.region_archive.specs.Image.{part-bytes}
 use Rattle.region_archive.specs.RecordFields.{PartFits, fields-in, first-width, field-bytes}
 use Rattle.region_archive.proofs.Pieces.{big-length}
 use Rattle.region_archive.proofs.Records.{first-field, second-field, part-field}
-use Rattle.region_archive.proofs.Sizes.{few-fields}
+use Rattle.region_archive.proofs.Fits.{few-fields}
 use Rattle.region_archive.proofs.writing.put_field.Statement.{statement}
 use Rattle.region_archive.proofs.writing.put_field.Tie as tie
 

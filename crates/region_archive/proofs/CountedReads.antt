@@ -1,4 +1,4 @@
--- Bytes that count, and the next place of an array.
+-- Answers of the reading functions, bytes that count, and the next place of an array.
 use mathlib.Core.Path.{_≡_, refl, sym, ap, _∙_}
 use mathlib.Core.Bool.{Bool, true, false}
 use mathlib.Core.List.{List, [], _∷_, _++_}
@@ -9,8 +9,16 @@ use lib.ListN.{length, take, drop, set}
 use lib.Seq.{take-suc-set}
 use Rattle.region_graph.proofs.Lists.{false-true}
 use Rattle.region_archive.specs.Bytes.{big}
-use Rattle.region_archive.specs.Parsing.{Parsed, Unparsed, Answer}
+use Rattle.region_archive.specs.Parsing.{Parsed, Unparsed, Answer, ParsedInto, AnswerInto}
 use Rattle.region_archive.proofs.Delimits.{big-same}
+
+-- an answer that is settled
+module _ {A : Type 0} {good : A → Type 0} {bytes : A → List ℕ} {s : List ℕ} {at : ℕ} {is : A → Type 0} {next : ℕ} where
+  pub found-into : ParsedInto good bytes s at is next → AnswerInto good bytes s at true is next
+  found-into p = record { found = λ e. p; missing = λ e. false-true (sym e) }
+
+  pub none-into : Unparsed good bytes s at → AnswerInto good bytes s at false is next
+  none-into u = record { found = λ e. false-true e; missing = λ e. u }
 
 -- a byte that stands at a place
 pub byte-stands : {good : ℕ → Type 0} {s : List ℕ} {at n next : ℕ} → n < 256 → Parsed good (big 1) s at n next → drop at s ≡ n ∷ drop next s

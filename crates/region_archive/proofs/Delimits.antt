@@ -63,7 +63,7 @@ sized-same w good bytes same d x y r t h k e =
     d x y r t h k (big-mod w m n (sym (append-assoc (big w m) (bytes x) r) ∙ e ∙ append-assoc (big w n) (bytes y) t) .1)
 
 -- bytes that are cut short
-pub unparsed-short : {A : Type 0} (good : A → Type 0) (bytes : A → List ℕ) (w : ℕ) → ((x : A) → w ≤ length (bytes x)) → (s : List ℕ) (at : ℕ)
-    → length s - at < w → Unparsed good bytes s at
+pub unparsed-short : {A : Type 0} (good : A → Type 0) (bytes : A → List ℕ) (w : ℕ) → ((x : A) → w ≤ length (bytes x))
+    → (s : List ℕ) (at : ℕ) → length s - at < w → Unparsed good bytes s at
 unparsed-short good bytes w h s at k x r g e =
     omega (arith, h x, sym (length-drop at s) ∙ ap length e ∙ length-append (bytes x) r)

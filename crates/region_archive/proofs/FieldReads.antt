@@ -21,6 +21,7 @@ use Rattle.region_archive.specs.declared.record_fields.Section.{Section}
 use Rattle.region_archive.specs.declared.record_fields.Section.the-variants as Section
 use Rattle.region_archive.specs.declared.sections.FieldAt.{FieldAt}
 use Rattle.region_archive.proofs.Delimits.{big-same}
+use Rattle.region_archive.proofs.CountedReads.{none-into}
 
 -- the two numbers
 module _ {s : Section} {rs : List ℕ} {floor : ℕ} {bytes : List ℕ} {at : ℕ} {old : List ℕ} where
@@ -30,7 +31,7 @@ module _ {s : Section} {rs : List ℕ} {floor : ℕ} {bytes : List ℕ} {at : �
         → FieldRead s rs floor 0 bytes at old old (record { ok = false; next = next })
     first-missing u = record {
       size = refl;
-      answer = λ x g h. record { found = λ e. false-true e; missing = λ _ y r k e. none y r (k .1 .0) e };
+      answer = λ x g h. none-into (λ y r k e. none y r (k .1 .0) e);
     }
       where
         none : (y : Fields) (r : List ℕ) → y .first < 256 ^ first-width s → drop at bytes ≡ big (first-width s) (y .first) ++ r → ⊥
@@ -67,7 +68,7 @@ module _ {s : Section} {rs : List ℕ} {floor : ℕ} {bytes : List ℕ} {at : �
       → FieldRead s rs floor 1 bytes at old old (record { ok = false; next = next })
   second-missing u = record {
     size = refl;
-    answer = λ x g h. record { found = λ e. false-true e; missing = λ _ y r k e. u (y .second) r (k .1 .0) e };
+    answer = λ x g h. none-into (λ y r k e. u (y .second) r (k .1 .0) e);
   }
 
   pub second-read : {n next : ℕ} → Parsed (λ m. m < 256 ^ 1) (big 1) bytes at n next → 2 ≤ length old → {b : Bool}

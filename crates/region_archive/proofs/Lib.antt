@@ -5,7 +5,6 @@ pub mod Digits
 pub mod Writes
 pub mod Fits
 pub mod Placed
-pub mod Sizes
 pub mod CountedReads
 pub mod Rows
 pub mod FieldLaws
@@ -23,7 +22,6 @@ pub mod Meaning
 pub mod ListReads
 pub mod FieldTests
 pub mod FieldReads
-pub mod LengthReads
 pub mod RecordReads
 pub mod SectionReads
 pub mod RegionReads

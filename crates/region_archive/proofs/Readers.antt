@@ -179,22 +179,19 @@ module _ (rs : List ℕ) (n : All (λ r. r < regions) rs) where
   fit-bundle b h = (h .location, (fit-region (b .region) (h .region), (h .packages .each, h .services .each)))
 
   fit-connection : (c : Connection) → LegalConnection rs c → FitConnection c
-  fit-connection c h = (
-    fit-region (c .source) (h .source),
-    (
-      fit-region (c .target) (h .target),
-      (h .filter .bundles .each, (fit-part (c .filter .packages) (h .filter .packages), fit-part (c .filter .services) (h .filter .services))),
-    ),
-  )
+  fit-connection c h =
+      let f = h .filter in
+      let parts : FitPart (c .filter .packages) × FitPart (c .filter .services) =
+      (fit-part (c .filter .packages) (f .packages), fit-part (c .filter .services) (f .services)) in
+      (fit-region (c .source) (h .source), (fit-region (c .target) (h .target), (f .bundles .each, parts)))
 
 fit-body : (m : Model) → Legal m → FitBody m
-fit-body m h = (
-  all-map (λ r. r < regions) (λ r. r < 256 ^ 1) (λ r k. omega arith) (m .regions) (h .regions-legal .each),
-  (
-    all-map (LegalBundle (m .regions)) FitBundle (fit-bundle (m .regions) (h .regions-legal .each)) (m .bundles) (h .bundles-legal .each),
-    all-map (LegalConnection (m .regions)) FitConnection (fit-connection (m .regions) (h .regions-legal .each)) (m .connections) (h .connections-legal .each),
-  ),
-)
+fit-body m h =
+    let rs = m .regions in
+    let small = h .regions-legal .each in
+    let bundles = all-map (LegalBundle rs) FitBundle (fit-bundle rs small) (m .bundles) (h .bundles-legal .each) in
+    let connections = all-map (LegalConnection rs) FitConnection (fit-connection rs small) (m .connections) (h .connections-legal .each) in
+    (all-map (λ r. r < regions) (λ r. r < 256 ^ 1) (λ r k. omega arith) rs small, (bundles, connections))
 
 -- a legal model is read back from its body
 pub read-body : Reader Legal body

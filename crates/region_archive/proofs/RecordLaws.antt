@@ -7,9 +7,9 @@ use native.Mathlib.Omega.{arith}
 use borrow.Author.Tests.{le-leb, leb-true, not-true}
 use lib.Dec.{leb, ltb, eqb}
 use lib.ListN.{length, length-append}
-use Rattle.region_graph.specs.Size.{regions, most-listed}
+use Rattle.region_graph.specs.Size.{regions, most-provided, most-listed}
 use Rattle.region_graph.specs.Lists.{All, member}
-use Rattle.region_graph.specs.Model.{Part, Connection, Numbered, NumberedPart, LegalConnection}
+use Rattle.region_graph.specs.Model.{Filter, Part, Connection, Numbered, NumberedPart, LegalConnection}
 use Rattle.region_graph.specs.Flat.{Fields, FlatPart}
 use Rattle.region_graph.proofs.Lists.{and-yes, and-fst, and-snd, member-all, false-true, concat-length}
 use Rattle.region_graph.proofs.Ascending.{connection-order}
@@ -25,7 +25,7 @@ use Rattle.region_archive.proofs.Pieces.{big-length}
 use Rattle.region_archive.proofs.Delimits.{Delimits, big-same, head-same, tail-same, sized-same}
 use Rattle.region_archive.proofs.Rows.{Elements, words, row-same}
 use Rattle.region_archive.proofs.FieldLaws.{FieldKinds, to-same}
-use Rattle.region_archive.proofs.Sizes.{few-fields, narrow-first}
+use Rattle.region_archive.proofs.Fits.{few-fields, narrow-first}
 
 -- parts tell themselves apart
 module _ (most : ℕ) (few : most ≤ most-listed) (all : Bool) where
@@ -131,49 +131,37 @@ module _ (rs : List ℕ) (floor : ℕ) where
 
   pub element-of : (s : Section) (f : Fields) → GoodTo (FieldGood s rs floor) (field-count s) f → Element s f
   element-of Section.Bundles f h =
-      let first = h .0 .0 .0 .1 in
-      let second = h .0 .0 .1 in
-      let packages = list-part 8 (part-at f 0) (h .0 .1) in
-      let services = list-part 8 (part-at f 1) (h .1) in
+      let second = h .0 .0 .1 .1 in
+      let packages = list-part most-provided (part-at f 0) (h .0 .1) in
+      let services = list-part most-provided (part-at f 1) (h .1) in
+      let held = and-snd (leb floor (f .first)) (member (f .second) rs) second in
       record {
         elem = record { location = f .first; region = f .second; packages = packages .numbers; services = services .numbers };
         same = ((((tt, refl), refl), packages .is-list), services .is-list);
-        legal =
-            record {
-              location = first .0;
-              region = and-snd (leb floor (f .first)) (member (f .second) rs) (second .1);
-              packages = packages .numbered;
-              services = services .numbered;
-            };
-        high = leb-true floor (f .first) (and-fst (leb floor (f .first)) (member (f .second) rs) (second .1));
+        legal = record { location = h .0 .0 .0 .1 .0; region = held; packages = packages .numbered; services = services .numbered };
+        high = leb-true floor (f .first) (and-fst (leb floor (f .first)) (member (f .second) rs) second);
       }
   element-of Section.Connections f h =
-      let first = h .0 .0 .0 .0 .1 in
-      let second = h .0 .0 .0 .1 in
+      let first = h .0 .0 .0 .0 .1 .1 in
+      let second = h .0 .0 .0 .1 .1 in
       let order = f .first * 256 + f .second in
-      let bundles = list-part 16 (part-at f 0) (h .0 .0 .1) in
-      let ends = and-snd (leb floor order) (not (eqb (f .first) (f .second)) && member (f .second) rs) (second .1) in
+      let apart = not (eqb (f .first) (f .second)) in
+      let ends = and-snd (leb floor order) (apart && member (f .second) rs) second in
+      let bundles = list-part most-listed (part-at f 0) (h .0 .0 .1) in
+      let packages = numbered-part (part-at f 1) (h .0 .1) in
+      let services = numbered-part (part-at f 2) (h .1) in
+      let filter : Filter = record { bundles = bundles .numbers; packages = part-at f 1; services = part-at f 2 } in
       record {
-        elem =
-            record {
-              source = f .first;
-              target = f .second;
-              filter = record { bundles = bundles .numbers; packages = part-at f 1; services = part-at f 2 };
-            };
+        elem = record { source = f .first; target = f .second; filter = filter };
         same = (((((tt, refl), refl), bundles .is-list), refl), refl);
         legal =
             record {
-              source = and-snd (leb floor (f .first * 256 + 255)) (member (f .first) rs) (first .1);
-              target = and-snd (not (eqb (f .first) (f .second))) (member (f .second) rs) ends;
-              differ = not-true (eqb (f .first) (f .second)) (and-fst (not (eqb (f .first) (f .second))) (member (f .second) rs) ends);
-              filter =
-                  record {
-                    bundles = bundles .numbered;
-                    packages = numbered-part (part-at f 1) (h .0 .1);
-                    services = numbered-part (part-at f 2) (h .1);
-                  };
+              source = and-snd (leb floor (f .first * 256 + 255)) (member (f .first) rs) first;
+              target = and-snd apart (member (f .second) rs) ends;
+              differ = not-true (eqb (f .first) (f .second)) (and-fst apart (member (f .second) rs) ends);
+              filter = record { bundles = bundles .numbered; packages = packages; services = services };
             };
-        high = leb-true floor order (and-fst (leb floor order) (not (eqb (f .first) (f .second)) && member (f .second) rs) (second .1));
+        high = leb-true floor order (and-fst (leb floor order) (apart && member (f .second) rs) second);
       }
 
   -- the fields of a legal element are good
@@ -182,35 +170,18 @@ module _ (rs : List ℕ) (floor : ℕ) where
     region-small r e = member-all (λ n. n < regions) r rs small e
 
     pub element-good : (s : Section) (x : Elem s) → LegalElem s rs x → floor ≤ key s x → GoodTo (FieldGood s rs floor) (field-count s) (fields-of s x)
-    element-good Section.Bundles b l h = (
-      (
-        (
-          (tt, (l .location, and-yes (le-leb floor (b .location) h) refl)),
-          (omega (arith, region-small (b .region) (l .region)), and-yes (le-leb floor (b .location) h) (l .region)),
-        ),
-        l .packages,
-      ),
-      l .services,
-    )
-    element-good Section.Connections c l h = (
-      (
-        (
-          (
-            (tt, (omega (arith, region-small (c .source) (l .source)), and-yes (le-leb floor (c .source * 256 + 255) top) (l .source))),
-            (
-              omega (arith, region-small (c .target) (l .target)),
-              and-yes (le-leb floor (c .source * 256 + c .target) h) (and-yes (ap not (l .differ)) (l .target)),
-            ),
-          ),
-          l .filter .bundles,
-        ),
-        open-part (c .filter .packages) (l .filter .packages),
-      ),
-      open-part (c .filter .services) (l .filter .services),
-    )
-      where
-        top : floor ≤ c .source * 256 + 255
-        top = omega (arith, h, region-small (c .target) (l .target))
+    element-good Section.Bundles b l h =
+        let high = le-leb floor (b .location) h in
+        let region = region-small (b .region) (l .region) in
+        ((((tt, (l .location, and-yes high refl)), (omega arith, and-yes high (l .region))), l .packages), l .services)
+    element-good Section.Connections c l h =
+        let source = region-small (c .source) (l .source) in
+        let target = region-small (c .target) (l .target) in
+        let first = and-yes (le-leb floor (c .source * 256 + 255) (omega arith)) (l .source) in
+        let second = and-yes (le-leb floor (c .source * 256 + c .target) h) (and-yes (ap not (l .differ)) (l .target)) in
+        let packages = open-part (c .filter .packages) (l .filter .packages) in
+        let services = open-part (c .filter .services) (l .filter .services) in
+        (((((tt, (omega arith, first)), (omega arith, second)), l .filter .bundles), packages), services)
 
 -- the numbers of an element stand in a row where its fields do
 pub flat-of : (s : Section) (row : List ℕ) (f : Fields) (x : Elem s) → SameFields s f (fields-of s x)
@@ -220,14 +191,11 @@ flat-of Section.Bundles row f x h g = record {
   second = g .0 .0 .1 ∙ h .0 .0 .1;
   parts = (subst (FlatPart row 2) (h .0 .1) (g .0 .1), (subst (FlatPart row 11) (h .1) (g .1), tt));
 }
-flat-of Section.Connections row f x h g = record {
-  first = g .0 .0 .0 .0 .1 ∙ h .0 .0 .0 .0 .1;
-  second = g .0 .0 .0 .1 ∙ h .0 .0 .0 .1;
-  parts = (
-    subst (FlatPart row 2) (h .0 .0 .1) (g .0 .0 .1),
-    (subst (FlatPart row 19) (h .0 .1) (g .0 .1), (subst (FlatPart row 36) (h .1) (g .1), tt)),
-  );
-}
+flat-of Section.Connections row f x h g =
+    let bundles = subst (FlatPart row 2) (h .0 .0 .1) (g .0 .0 .1) in
+    let packages = subst (FlatPart row 19) (h .0 .1) (g .0 .1) in
+    let services = subst (FlatPart row 36) (h .1) (g .1) in
+    record { first = g .0 .0 .0 .0 .1 ∙ h .0 .0 .0 .0 .1; second = g .0 .0 .0 .1 ∙ h .0 .0 .0 .1; parts = (bundles, (packages, (services, tt))) }
 
 -- a section has few records
 pub most-small : (s : Section) → most-records s < 256

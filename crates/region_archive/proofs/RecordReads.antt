@@ -1,4 +1,4 @@
--- The next record of a section: the ways in which none stands at a place, and the one that does.
+-- The length and the next record of a section: the ways in which none stands at a place, and the one that does.
 use mathlib.Core.Path.{_≡_, sym, ap, _∙_, subst}
 use mathlib.Core.Bool.{true, false}
 use mathlib.Core.List.{List, [], _++_, append-nil, append-assoc}
@@ -73,6 +73,22 @@ module _ (s : List ℕ) (mid stop : ℕ) (h : mid ≤ stop) (l : stop ≤ length
 -- no record of a legal element with such a key stands at a place
 pub record NoRecord (q : Source) (at least : ℕ) : Type 0 where
   pub none : NoNext (elements-of q) (q .bytes) at least
+
+-- a length that stands at a place: bytes are missing behind it, or it counts them
+module _ {s : List ℕ} {at size next : ℕ} (p : Parsed (λ m. m < 256 ^ 2) (big 2) s at size next) where
+  pub short-length : length s - next < size → NoLength s at
+  short-length h n l k i e =
+      let d = big-same 2 size n (drop next s) l (p .is-good) k (sym (p .shape) ∙ e) in
+      omega (arith, d .0, sym (length-drop next s) ∙ ap length (d .1))
+
+  pub length-read : size ≤ length s - next → LengthStands s at (record { ok = true; next = next; stop = next + size })
+  length-read h =
+      let same : size ≡ next + size - next = omega arith in
+      record {
+        parsed = subst (λ (n : ℕ). Parsed (λ m. m < 256 ^ 2) (big 2) s at n next) same p;
+        forward = omega arith;
+        room = omega (arith, p .room);
+      }
 
 -- the bytes of an element's fields, and the bytes up to the end of a record
 abbrev all-fields : (q : Source) → Elem (q .section) → List ℕ

@@ -33,8 +33,8 @@ regions-start h = record { going = going-none region-bytes h; set-is = sym set-n
 
 -- one region more
 pub regions-more : {s : List ℕ} {mid : ℕ} {list : List ℕ} {x at least n : ℕ} → Regions s mid list x at least n → n < length list
-    → {region next : ℕ} → Parsed (λ m. m < 256 ^ 1) (big 1) s at region next → least ≤ region → region < regions → {y : ℕ} → y ≡ singleton region
-    → Regions s mid (set list n region) (bitOr x y) next (region + 1) (n + 1)
+    → {region next : ℕ} → Parsed (λ m. m < 256 ^ 1) (big 1) s at region next → least ≤ region → region < regions
+    → {y : ℕ} → y ≡ singleton region → Regions s mid (set list n region) (bitOr x y) next (region + 1) (n + 1)
 regions-more {s} {mid} {list} {x} {n = n} w room {region} {next} p h l e =
     record {
       going =

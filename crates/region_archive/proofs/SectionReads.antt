@@ -13,7 +13,7 @@ use lib.Seq.{length-take-le, take-all, take-at, drop-at, take-add, take-append-l
 use Rattle.region_graph.specs.Size.{regions}
 use Rattle.region_graph.specs.Lists.{All}
 use Rattle.region_graph.specs.Flat.{Flat}
-use Rattle.region_graph.proofs.Lists.{member-all, false-true}
+use Rattle.region_graph.proofs.Lists.{member-all}
 use Rattle.region_archive.specs.Bytes.{big}
 use Rattle.region_archive.specs.Parsing.{Answer}
 use Rattle.region_archive.specs.RecordFields.{field-count, row-width, field-key, FlatElem, Elem, fields-of, key, most-records, LegalElem}
@@ -21,6 +21,7 @@ use Rattle.region_archive.specs.Sections.{LengthStands, SectionRead}
 use Rattle.region_archive.specs.declared.record_fields.Section.{Section}
 use Rattle.region_archive.specs.declared.record_fields.Section.the-variants as Section
 use Rattle.region_archive.specs.declared.sections.LengthAt.{LengthAt}
+use Rattle.region_archive.proofs.CountedReads.{none-into}
 use Rattle.region_archive.proofs.Rows.{Going, going-none, going-more, row-missing, row-answer}
 use Rattle.region_archive.proofs.RecordLaws.{Element, element-of, flat-of, most-small, wide}
 use Rattle.region_archive.proofs.RecordReads.{Source, elements-of, FieldsRead, NoRecord, record-stands}
@@ -144,7 +145,7 @@ module _ (q : Source) {from : ℕ} {ok : Bool} {total mid : ℕ} (a : Answer (λ
       → SectionRead (q .section) (q .rs) (q .bytes) from rows (record { ok = false; next = next; count = 0 })
   section-missing e = record {
     room = omega arith;
-    answer = record { found = λ y. false-true y; missing = λ _. row-missing (elements-of q) (most-small (q .section)) a e };
+    answer = none-into (row-missing (elements-of q) (most-small (q .section)) a e);
   }
 
   pub section-end : ok ≡ true → {rows last : List ℕ} {at least base n : ℕ} → Recording q mid rows at least base n → n ≤ total

@@ -92,21 +92,15 @@ below : (rs : List ℕ) → All (λ r. r < regions) rs → (r : ℕ) → member 
 below rs n r h = lt-ltb r regions (member-all (λ s. s < regions) r rs n h)
 
 -- a legal part, and a legal filter, passes the questions about lists
-part-few : (p : Part) → NumberedPart p → part-within p ≡ true
-part-few (Part.listed xs) h = le-leb (length xs) most-listed (h .few)
-part-few Part.everything h = refl
+part-passes : (p : Part) → NumberedPart p → (part-within p ≡ true) × (part-ascends p ≡ true)
+part-passes (Part.listed xs) h = (le-leb (length xs) most-listed (h .few), h .ascend)
+part-passes Part.everything h = (refl, refl)
 
-part-rises : (p : Part) → NumberedPart p → part-ascends p ≡ true
-part-rises (Part.listed xs) h = h .ascend
-part-rises Part.everything h = refl
-
-filter-few : (f : Filter) → LegalFilter f → filter-within f ≡ true
-filter-few f h =
-    and-yes (le-leb (length (f .bundles)) most-listed (h .bundles .few))
-    (and-yes (part-few (f .packages) (h .packages)) (part-few (f .services) (h .services)))
-
-filter-rises : (f : Filter) → LegalFilter f → filter-ascends f ≡ true
-filter-rises f h = and-yes (h .bundles .ascend) (and-yes (part-rises (f .packages) (h .packages)) (part-rises (f .services) (h .services)))
+filter-passes : (f : Filter) → LegalFilter f → (filter-within f ≡ true) × (filter-ascends f ≡ true)
+filter-passes f h =
+    let p = part-passes (f .packages) (h .packages) in
+    let s = part-passes (f .services) (h .services) in
+    (and-yes (le-leb (length (f .bundles)) most-listed (h .bundles .few)) (and-yes (p .0) (s .0)), and-yes (h .bundles .ascend) (and-yes (p .1) (s .1)))
 
 module _ (k : Section) (m : Model) (xs : List (Elem k)) (x : Elem k) (a : All (λ y. element-before k y x ≡ true) xs) where
   absent : exists (same-place k x) xs ≡ false
@@ -137,7 +131,6 @@ taken Section.Connections m xs c a s h n =
     let ends = and-yes (below (m .regions) s (c .source) (h .source)) (below (m .regions) s (c .target) (h .target)) in
     let held = and-yes (h .source) (h .target) in
     let free = ap not (absent Section.Connections m xs c a) in
-    let few = filter-few (c .filter) (h .filter) in
-    let rise = filter-rises (c .filter) (h .filter) in
+    let lists = filter-passes (c .filter) (h .filter) in
     none-no (questions (filled Section.Connections m xs) (Call.connect c))
-    (ends, (held, (ap not (h .differ), (free, (few, (rise, (lt-ltb (length xs) most-connections n, tt)))))))
+    (ends, (held, (ap not (h .differ), (free, (lists .0, (lists .1, (lt-ltb (length xs) most-connections n, tt)))))))

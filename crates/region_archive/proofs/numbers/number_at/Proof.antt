@@ -24,8 +24,9 @@ cast-number c =
     let s = c .before .before .before in
     omega (arith, small-four (s .args .width) (c .value .result) (s .pre .1) (c .value .ensures .is-good))
 
-returns-2 : tie.Need-returns-2
-returns-2 c = record { found = λ e. c .value .ensures; missing = λ e. false-true (sym e) }
-
 pub number-at-spec : {M : Type 1} → statement M
-number-at-spec = tie.close (tie.spec (λ c. search needs) returns (λ c κs. search needs) cast-number (λ c. search needs) returns-2)
+number-at-spec =
+    tie.close
+    (tie.spec
+    (λ c. search needs) returns (λ c κs. search needs) cast-number (λ c. search needs)
+    (λ c. record { found = λ e. c .value .ensures; missing = λ e. false-true (sym e) }))

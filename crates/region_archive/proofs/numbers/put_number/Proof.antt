@@ -23,9 +23,6 @@ loop-holds c =
     let e : c .args .width - c .args .width ≡ 0 = omega arith in
     (omega arith, rw e (sym (div-one (c .args .number))), rw e (wrote-none (c .args .buffer .now) (c .args .at + c .args .width) (omega arith)))
 
-slice-write-buffer : tie.Need-slice-write-buffer Inv-loop μ-loop
-slice-write-buffer c = omega (arith, wrote-length (c .before .loop .inv .2))
-
 loop-again : tie.Need-loop-again Inv-loop μ-loop
 loop-again c =
     let s = c .before .before .args in
@@ -35,9 +32,6 @@ loop-again c =
       ap (λ (q : ℕ). q / 256) (l .inv .1) ∙ div-next (s .number) (s .width - l .left) ∙ ap (λ (k : ℕ). s .number / 256 ^ k) (sym e),
       wrote-higher (s .number) (s .width - l .left) (omega arith) e (l .inv .1) (l .inv .2),
     )
-
-same-length : tie.Need-same-length Inv-loop μ-loop
-same-length c = wrote-length (c .before .loop .inv .2)
 
 returns : tie.Need-returns Inv-loop μ-loop
 returns c =
@@ -50,5 +44,9 @@ pub put-number-spec : {M : Type 1} → statement M
 put-number-spec =
     tie.close
     (tie.spec
-    Inv-loop μ-loop loop-holds (λ c. search needs) (λ c. search needs) (λ c. search needs) slice-write-buffer (λ c. search needs) loop-again
-    (λ c. search needs) same-length returns)
+    Inv-loop μ-loop loop-holds (λ c. search needs) (λ c. search needs) (λ c. search needs)
+    (λ c. omega (arith, wrote-length (c .before .loop .inv .2)))
+    (λ c. search needs) loop-again
+    (λ c. search needs)
+    (λ c. wrote-length (c .before .loop .inv .2))
+    returns)

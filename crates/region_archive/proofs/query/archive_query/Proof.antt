@@ -24,9 +24,6 @@ returns c =
     let s = c .before .before .before .before .args in
     λ f. query-refused f (s .location) (s .kind) (s .item) (c .before .before .read .ensures .says f .number) (λ z. omega (arith, z, c .if1 .taken))
 
-region-of-requires : tie.Need-region-of-requires
-region-of-requires c κs = c .before .before .before .read .ensures .valid
-
 returns-2 : tie.Need-returns-2
 returns-2 c =
     let a = c .before .before .before .before in
@@ -40,9 +37,6 @@ returns-3 c =
     λ f. query-unknown f (s .location) (s .kind) (s .item) (accepted a f) (means a f) (sym (c .before .before .before .before .region-of .ensures))
     (c .before .before .place .given .1) (c .if2 .taken)
 
-regions-seeing-requires : tie.Need-regions-seeing-requires
-regions-seeing-requires c κs = c .before .before .before .before .before .before .before .before .read .ensures .valid
-
 -- the answer, by whether the region is in the set of those that see the item
 told : (c : tie.After-has) {t : Bool} → c .has .result ≡ t
     → (let s = c .before .before .before .before .before .before .before .before .before .before .before .before .args in
@@ -55,15 +49,14 @@ told c e =
     (c .before .before .if2 .left) (a .before .before .read .ensures .valid .good)
     (c .before .regions-seeing .ensures) (c .has .ensures) e
 
-returns-4 : tie.Need-returns-4
-returns-4 c = told (c .before) (c .if3 .taken)
-
-returns-5 : tie.Need-returns-5
-returns-5 c = told (c .before) (c .if3 .left)
-
 pub archive-query-spec : {M : Type 1} → statement M
 archive-query-spec =
     tie.close
     (tie.spec
-    (λ c κs. search needs) returns region-of-requires (λ c. search needs) (λ c. search needs) returns-2 returns-3 regions-seeing-requires
-    (λ c κs. search needs) returns-4 returns-5)
+    (λ c κs. search needs) returns
+    (λ c κs. c .before .before .before .read .ensures .valid)
+    (λ c. search needs) (λ c. search needs) returns-2 returns-3
+    (λ c κs. c .before .before .before .before .before .before .before .before .read .ensures .valid)
+    (λ c κs. search needs)
+    (λ c. told (c .before) (c .if3 .taken))
+    (λ c. told (c .before) (c .if3 .left)))

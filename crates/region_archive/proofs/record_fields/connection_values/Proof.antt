@@ -1,7 +1,6 @@
 use borrow.Author.Needs.{needs}
 use mathlib.Core.Path.{refl}
-use Rattle.region_archive.proofs.Fits.{list-part}
-use Rattle.region_archive.proofs.Sizes.{list-in}
+use Rattle.region_archive.proofs.Fits.{list-part, list-in}
 use Rattle.region_archive.proofs.record_fields.connection_values.Statement.{statement}
 use Rattle.region_archive.proofs.record_fields.connection_values.Tie as tie
 

@@ -2,8 +2,9 @@ use borrow.Author.Needs.{needs}
 use Rattle.region_archive.proofs.record_fields.field_key.Statement.{statement}
 use Rattle.region_archive.proofs.record_fields.field_key.Tie as tie
 
-returns-2 : tie.Need-returns-2
-returns-2 c = rw (c .enum-told2 .given .1)
-
 pub field-key-spec : {M : Type 1} → statement M
-field-key-spec = tie.close (tie.spec (λ c. search needs) (λ c. search needs) (λ c. search needs) (λ c. search needs) (λ c. search needs) returns-2)
+field-key-spec =
+    tie.close
+    (tie.spec
+    (λ c. search needs) (λ c. search needs) (λ c. search needs) (λ c. search needs) (λ c. search needs)
+    (λ c. rw (c .enum-told2 .given .1)))

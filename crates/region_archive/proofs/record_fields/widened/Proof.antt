@@ -29,9 +29,6 @@ provided-at : (n : Provided) (i : ℕ) → i < n .count → getD (n .items) i 0 
 unfolding provided-of
 provided-at n i h = sym (getD-take (n .count) (n .items) i 0 h)
 
-loop-holds : tie.Need-loop-holds Inv-loop μ-loop
-loop-holds c = (omega arith, c .pre .count, filled-none)
-
 loop-again : tie.Need-loop-again Inv-loop μ-loop
 loop-again c =
     let a = c .before .before in
@@ -52,5 +49,7 @@ pub widened-spec : {M : Type 1} → statement M
 widened-spec =
     tie.close
     (tie.spec
-    Inv-loop μ-loop loop-holds (λ c. search needs) (λ c. search needs) (λ c. search needs) (λ c. search needs) (λ c. search needs)
+    Inv-loop μ-loop
+    (λ c. (omega arith, c .pre .count, filled-none))
+    (λ c. search needs) (λ c. search needs) (λ c. search needs) (λ c. search needs) (λ c. search needs)
     (λ c. search needs) loop-again returns)

@@ -1,7 +1,7 @@
 use native.Mathlib.Omega.{arith}
 use borrow.Author.Needs.{needs}
 use borrow.Author.Tests.{not-true, not-false}
-use Rattle.region_archive.proofs.Sizes.{narrow-first}
+use Rattle.region_archive.proofs.Fits.{narrow-first}
 use Rattle.region_archive.proofs.FieldReads.{first-missing, first-read}
 use Rattle.region_archive.proofs.sections.first_at.Statement.{statement}
 use Rattle.region_archive.proofs.sections.first_at.Tie as tie

@@ -3,7 +3,7 @@ use native.Mathlib.Omega.{arith}
 use borrow.Author.Needs.{needs}
 use borrow.Author.Tests.{not-true, not-false}
 use Rattle.region_graph.proofs.Lists.{false-true}
-use Rattle.region_archive.proofs.LengthReads.{short-length, length-read}
+use Rattle.region_archive.proofs.RecordReads.{short-length, length-read}
 use Rattle.region_archive.proofs.sections.length_at.Statement.{statement}
 use Rattle.region_archive.proofs.sections.length_at.Tie as tie
 
@@ -11,9 +11,6 @@ returns : tie.Need-returns
 returns c =
     let r = c .before .before .number-at in
     record { found = λ e. false-true e; missing = λ e n l h k f. r .ensures .missing (not-true _ (c .if1 .taken)) n l h f }
-
-sub-if2 : tie.Need-sub-if2
-sub-if2 c = omega (arith, c .before .before .before .before .number-at .ensures .found (not-false _ (c .before .before .if1 .left)) .room)
 
 returns-2 : tie.Need-returns-2
 returns-2 c =
@@ -33,4 +30,8 @@ returns-3 c =
 
 pub length-at-spec : {M : Type 1} → statement M
 length-at-spec =
-    tie.close (tie.spec (λ c κs. search needs) returns (λ c. search needs) sub-if2 returns-2 (λ c. search needs) returns-3)
+    tie.close
+    (tie.spec
+    (λ c κs. search needs) returns (λ c. search needs)
+    (λ c. omega (arith, c .before .before .before .before .number-at .ensures .found (not-false _ (c .before .before .if1 .left)) .room))
+    returns-2 (λ c. search needs) returns-3)

@@ -4,9 +4,6 @@ use Rattle.region_archive.proofs.FieldReads.{second-missing, second-rea
 use Rattle.region_archive.proofs.sections.second_at.Statement.{statement}
 use Rattle.region_archive.proofs.sections.second_at.Tie as tie
 
-returns : tie.Need-returns
-returns c = second-missing (c .before .before .number-at .ensures .missing (not-true _ (c .if1 .taken)))
-
 returns-2 : tie.Need-returns-2
 returns-2 c =
     let a = c .before .before .before .before in
@@ -16,4 +13,6 @@ pub second-at-spec : {M : Type 1} → statement M
 second-at-spec =
     tie.close
     (tie.spec
-    (λ c κs. search needs) returns (λ c. search needs) (λ c. search needs) (λ c κs. search needs) (λ c. search needs) returns-2)
+    (λ c κs. search needs)
+    (λ c. second-missing (c .before .before .number-at .ensures .missing (not-true _ (c .if1 .taken))))
+    (λ c. search needs) (λ c. search needs) (λ c κs. search needs) (λ c. search needs) returns-2)

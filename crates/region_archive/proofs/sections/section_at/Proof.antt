@@ -17,7 +17,7 @@ use Rattle.region_archive.specs.RecordFields.{field-count, row-width, mo
 use Rattle.region_archive.specs.Sections.{LengthStands}
 use Rattle.region_archive.specs.declared.record_fields.Section.{Section}
 use Rattle.region_archive.proofs.RecordLaws.{wide, most-small}
-use Rattle.region_archive.proofs.Sizes.{few-fields}
+use Rattle.region_archive.proofs.Fits.{few-fields}
 use Rattle.region_archive.proofs.RecordReads.{Source, FieldsRead, fields-start, fields-more, lengthless, no-field, misfit}
 use Rattle.region_archive.proofs.SectionReads.{Recording, RecordRead, recording-start, recording-more, read-element, order-is, key-small}
 use Rattle.region_archive.proofs.SectionReads.{rows-small, row-room, mid-put, section-missing, section-end}
@@ -255,8 +255,7 @@ section-at-spec =
     (λ c. omega (arith, room (c .before .before .before .before .before .before) .1))
     (λ c. omega arith) (λ c. omega arith)
     (λ c. reached (c .before .before))
-    field-at-requires
-    add-field
+    field-at-requires add-field
     (λ c. omega (arith, c .before .before .before .before .before .before .before .fields-test .taken))
     fields-again
     (λ c. omega (arith, room (c .before .before .before .before .before .before) .1))

@@ -6,7 +6,7 @@ use lib.ListN.{length, length-append}
 use Rattle.region_archive.specs.Bounds.{part-bound}
 use Rattle.region_archive.specs.RecordFields.{bytes-to, field-bytes, fields-in, field-count}
 use Rattle.region_archive.proofs.Pieces.{bytes-next}
-use Rattle.region_archive.proofs.Sizes.{few-fields}
+use Rattle.region_archive.proofs.Fits.{few-fields}
 use Rattle.region_archive.proofs.writing.fields_size.Statement.{statement}
 use Rattle.region_archive.proofs.writing.fields_size.Tie as tie
 

@@ -4,14 +4,9 @@ use lib.ListN.{length}
 use Rattle.region_graph.specs.Model.{Part}
 use Rattle.region_archive.specs.Bytes.{big}
 use Rattle.region_archive.specs.Image.{part-bytes}
-use Rattle.region_archive.proofs.Fits.{part-list}
-use Rattle.region_archive.proofs.Sizes.{list-size, part-all, part-listed}
+use Rattle.region_archive.proofs.Fits.{part-list, list-size, part-all, part-listed}
 use Rattle.region_archive.proofs.writing.part_size.Statement.{statement}
 use Rattle.region_archive.proofs.writing.part_size.Tie as tie
-
-returns : tie.Need-returns
-returns c =
-    (ap (λ (p : Part). length (part-bytes (big 4) p)) (sym (part-all (c .before .before .args .part) (c .if1 .taken))), omega arith)
 
 returns-2 : tie.Need-returns-2
 returns-2 c =
@@ -24,7 +19,7 @@ pub part-size-spec : {M : Type 1} → statement M
 part-size-spec =
     tie.close
     (tie.spec
-    returns
+    (λ c. (ap (λ (p : Part). length (part-bytes (big 4) p)) (sym (part-all (c .before .before .args .part) (c .if1 .taken))), omega arith))
     (λ c. omega (arith, c .before .before .before .pre .count (c .before .if1 .left)))
     (λ c. omega (arith, c .before .before .before .pre .count (c .before .if1 .left)))
     returns-2)

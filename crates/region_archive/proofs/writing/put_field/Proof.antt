@@ -13,7 +13,7 @@ use Rattle.region_archive.specs.Image.{part-bytes}
 use Rattle.region_archive.specs.RecordFields.{PartFits, fields-in, first-width, field-bytes}
 use Rattle.region_archive.proofs.Pieces.{big-length}
 use Rattle.region_archive.proofs.Records.{first-field, second-field, part-field}
-use Rattle.region_archive.proofs.Sizes.{few-fields}
+use Rattle.region_archive.proofs.Fits.{few-fields}
 use Rattle.region_archive.proofs.writing.put_field.Statement.{statement}
 use Rattle.region_archive.proofs.writing.put_field.Tie as tie
 
@@ -59,9 +59,6 @@ returns-2 c =
     let s = m .before .before in
     wrote-is (sym (second-field (s .args .section) (fields-in (s .args .t5)) (m .match .keys2))) (c .before .before .put-number2 .ensures)
 
-returns-3 : tie.Need-returns-3
-returns-3 c = wrote-is (sym (part-is (c .before .before .before .before .before .before .before) (omega arith) _)) (c .before .before .put-part .ensures)
-
 pub put-field-spec : {M : Type 1} → statement M
 put-field-spec =
     tie.close
@@ -75,4 +72,4 @@ put-field-spec =
     (λ c. wrote-length (c .before .before .put-number2 .ensures))
     returns-2
     (λ c. wrote-length (c .before .before .put-part .ensures))
-    returns-3)
+    (λ c. wrote-is (sym (part-is (c .before .before .before .before .before .before .before) (omega arith) _)) (c .before .before .put-part .ensures)))

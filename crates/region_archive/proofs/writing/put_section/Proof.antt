@@ -11,7 +11,7 @@ use Rattle.text_lines.specs.Written.{WrittenAt}
 use Rattle.text_lines.proofs.Writes.{wrote-start, wrote-then, wrote-is, wrote-length, wrote-room}
 use Rattle.region_archive.specs.RecordFields.{record-bytes, section-bytes, elements, ValuesAre}
 use Rattle.region_archive.proofs.Records.{values-record}
-use Rattle.region_archive.proofs.Sizes.{few-elements}
+use Rattle.region_archive.proofs.Fits.{few-elements}
 use Rattle.region_archive.proofs.Placed.{element-at, records-to, placed-model, Placed, Place, placed-all, place-next, place-within}
 use Rattle.region_archive.proofs.Placed.{bundle-inside, bundle-fit, bundle-element, connection-inside, connection-fit, connection-element}
 use Rattle.region_archive.proofs.Writes.{wrote-counted}

@@ -7,7 +7,7 @@ use lib.ListN.{length, length-append}
 use Rattle.region_graph.specs.Model.{Model}
 use Rattle.region_archive.specs.RecordFields.{record-bytes, fields-in, fields-of, ValuesAre}
 use Rattle.region_archive.proofs.RecordLaws.{same-bytes}
-use Rattle.region_archive.proofs.Sizes.{few-elements}
+use Rattle.region_archive.proofs.Fits.{few-elements}
 use Rattle.region_archive.proofs.Placed.{element-at, records-to, placed-model, Placed, Place, placed-all, place-next}
 use Rattle.region_archive.proofs.Placed.{bundle-inside, bundle-fit, bundle-element, connection-inside, connection-fit, connection-element}
 use Rattle.region_archive.proofs.writing.section_size.Statement.{statement}

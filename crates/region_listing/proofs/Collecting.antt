@@ -19,7 +19,7 @@ use Rattle.region_graph.specs.Promise.{bundle-places}
 use Rattle.region_graph.specs.declared.Graph.{Graph}
 use Rattle.region_graph.specs.declared.bundles.StoredBundle.{StoredBundle}
 use Rattle.region_graph.specs.declared.bundles.Bundles.{Bundles}
-use Rattle.region_graph.proofs.Lists.{pick-yes, pick-no, exists-append, exists-none, Distinct, distinct-snoc, concat-next, concat-within, concat-most, false-true, eqb-sym}
+use Rattle.region_graph.proofs.Lists.{pick-yes, pick-no, exists-append, exists-none, Distinct, distinct-snoc, concat-next, concat-within, concat-most}
 use Rattle.region_graph.proofs.Arrays.{filled-means}
 use Rattle.region_graph.proofs.Storing.{bundles-each, bundles-back, stored-as, bundles-filled, filled-bundles, bundles-stored}
 use Rattle.region_routes.specs.Hooks.{kind-number}

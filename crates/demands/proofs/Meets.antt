@@ -14,7 +14,7 @@ use Rattle.region_routes.specs.declared.Routed.{Routed}
 use Rattle.region_routes.specs.declared.Kept.{Kept}
 use Rattle.region_archive.specs.Promise.{ReadsOver, archived, written-as, write-outcome, Queried}
 use Rattle.region_archive.specs.declared.Written.{Written}
-use Rattle.region_host.specs.CNumbers.{Answered, answered, for-c, routed-value, routed-of, kept-value, kept-of, written-value, written-of, CountFits}
+use Rattle.region_host.specs.CNumbers.{CAnswer, answered, for-c, routed-value, routed-of, kept-value, kept-of, written-value, written-of, CountFits}
 use Rattle.region_host.proofs.Outcomes.{read-off, route-whole, find-whole, event-whole, write-whole}
 use Rattle.region_host.proofs.ReadBack.{routed-back, kept-back, written-back}
 use Rattle.region_host.proofs.Given.{route-given, find-given, event-given, write-given}
@@ -113,7 +113,7 @@ lent-routes (lent.by-route κs g was out l kind number v e) =
     read-off routed-as routed-value routed-of (route-whole m l kind number (was .now)) (routed-back _ (route-given m l kind number (was .now))) e
 
 found : (g : Graph) (k : Kind) (l : ℕ) (xs entry exit : List ℕ) (v : ℕ) → CountFits (length xs)
-    → _≡_ {A = Answered} (answered v exit) (for-c kept-value (find-outcome (meaning g) k l xs entry))
+    → _≡_ {A = CAnswer} (answered v exit) (for-c kept-value (find-outcome (meaning g) k l xs entry))
     → _≡_ {A = Outcome Kept} (kept (kept-of v) exit) (find-outcome (meaning g) k l xs entry)
 found g k l xs entry exit v f e =
     read-off kept-as kept-value kept-of (find-whole (meaning g) k l xs entry) (kept-back _ (find-given (meaning g) k l xs entry f)) e
@@ -125,7 +125,7 @@ lent-finds (lent.by-resolve κs g was xs out l v f e) = found (g .now) Kind.Pack
 lent-finds (lent.by-service-find κs g was xs out l v f e) = found (g .now) Kind.Service l (xs .now) (was .now) (out .now) v f e
 
 told : (g : Graph) (k : Kind) (number : ℕ) (xs entry exit : List ℕ) (v : ℕ) → CountFits (length xs)
-    → _≡_ {A = Answered} (answered v exit) (for-c kept-value (event-outcome (meaning g) k xs number entry))
+    → _≡_ {A = CAnswer} (answered v exit) (for-c kept-value (event-outcome (meaning g) k xs number entry))
     → _≡_ {A = Outcome Kept} (kept (kept-of v) exit) (event-outcome (meaning g) k xs number entry)
 told g k number xs entry exit v f e =
     read-off kept-as kept-value kept-of (event-whole (meaning g) k xs number entry) (kept-back _ (event-given (meaning g) k xs number entry f)) e

@@ -7,11 +7,11 @@ use lib.ListN.{length}
 use borrow.Author.Needs.{needs}
 use Rattle.region_graph.specs.Lists.{All, keep}
 use Rattle.region_graph.specs.Model.{Legal, nothing}
-use Rattle.region_graph.specs.Calls.{Call, Words, run}
+use Rattle.region_graph.specs.Calls.{Call, run}
 use Rattle.region_graph.specs.Promise.{place-of}
 use Rattle.region_graph.specs.declared.Item.{Item}
 use Rattle.region_graph.specs.declared.Place.the-variants.{Within}
-use Rattle.region_graph.proofs.Legal.{legal-nothing, legal-run}
+use Rattle.region_graph.proofs.Legal.{legal-nothing, legal-run, Words}
 use Rattle.region_routes.specs.Chosen.{chosen-by, chosen, sees}
 use Rattle.region_routes.specs.Hooks.{item}
 use Rattle.demands.specs.JointTable.{Says, RowHolds, rows, graph-g, cycle, diamond, resolves, routes, hides}

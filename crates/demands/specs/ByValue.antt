@@ -5,7 +5,7 @@ use Prim.Native.Nat.{ℕ}
 use contract.Lifetimes.{Lfts}
 use denote.Ref.{RefT}
 use Rattle.region_graph.specs.Calls.{Call}
-use Rattle.region_graph.specs.Promise.{bundle, connection}
+use Rattle.region_graph.specs.Promise.{new-bundle, new-connection}
 use Rattle.region_graph.specs.declared.Graph.{Graph}
 use Rattle.region_graph.specs.declared.Changed.{Changed}
 use Rattle.region_graph.proofs.Graph.empty.Reads as empty
@@ -42,11 +42,11 @@ pub data ValueChange (g : Graph) : Call → ℕ → Graph → Type 0 where
       → ValueChange g (Call.remove-region r) n h
   by-install : (κs : Lfts 2) (r l : ℕ) (ps ss : RefT (List ℕ)) (n : ℕ) (h : Graph)
       → install.Learnt κs (g, (r, (l, (ps, (ss, tt))))) (changed n h) (g, (r, (l, (ps, (ss, tt)))))
-      → ValueChange g (Call.install (bundle r l (ps .now) (ss .now))) n h
+      → ValueChange g (Call.install (new-bundle r l (ps .now) (ss .now))) n h
   by-uninstall : (l n : ℕ) (h : Graph) → uninstall.Learnt tt (g, (l, tt)) (changed n h) (g, (l, tt)) → ValueChange g (Call.uninstall l) n h
   by-connect : (κs : Lfts 3) (r s : ℕ) (bs : RefT (List ℕ)) (p : Bool) (ps : RefT (List ℕ)) (q : Bool) (ss : RefT (List ℕ)) (n : ℕ) (h : Graph)
       → connect.Learnt κs (g, (r, (s, (bs, (p, (ps, (q, (ss, tt)))))))) (changed n h) (g, (r, (s, (bs, (p, (ps, (q, (ss, tt))))))))
-      → ValueChange g (Call.connect (connection r s (bs .now) p (ps .now) q (ss .now))) n h
+      → ValueChange g (Call.connect (new-connection r s (bs .now) p (ps .now) q (ss .now))) n h
   by-disconnect : (r s n : ℕ) (h : Graph) → disconnect.Learnt tt (g, (r, (s, tt))) (changed n h) (g, (r, (s, tt)))
       → ValueChange g (Call.disconnect r s) n h
 

@@ -12,7 +12,7 @@ use borrow.Fn.Claims.{AllOf}
 use borrow.Fn.Read.{ReadAt, no-know, r-last}
 use borrow.Fn.World.{World, Pr, w₀}
 use Rattle.region_graph.specs.Calls.{Call}
-use Rattle.region_graph.specs.Promise.{bundle, connection}
+use Rattle.region_graph.specs.Promise.{new-bundle, new-connection}
 use Rattle.region_graph.specs.declared.Graph.{Graph}
 use Rattle.region_routes.specs.declared.Kind.{Kind}
 use Rattle.region_routes.specs.declared.Kind.the-variants as Kind
@@ -129,11 +129,11 @@ pub data LentChange : Graph → Call → ℕ → Graph → Type 0 where
   by-add : (κs : Lfts 1) (was is : LentGraph) (r n : ℕ) → Adds κs was r is n → LentChange (was .now) (Call.add-region r) n (is .now)
   by-remove : (κs : Lfts 1) (was is : LentGraph) (r n : ℕ) → Removes κs was r is n → LentChange (was .now) (Call.remove-region r) n (is .now)
   by-install : (κs : Lfts 3) (was is : LentGraph) (r l n : ℕ) (ps ss : Slice) → Installs κs was r l ps ss is n
-      → LentChange (was .now) (Call.install (bundle r l (ps .now) (ss .now))) n (is .now)
+      → LentChange (was .now) (Call.install (new-bundle r l (ps .now) (ss .now))) n (is .now)
   by-uninstall : (κs : Lfts 1) (was is : LentGraph) (l n : ℕ) → Uninstalls κs was l is n → LentChange (was .now) (Call.uninstall l) n (is .now)
   by-connect : (κs : Lfts 4) (was is : LentGraph) (r s n : ℕ) (bs : Slice) (p : Bool) (ps : Slice) (q : Bool) (ss : Slice)
       → Connects κs was r s bs p ps q ss is n
-      → LentChange (was .now) (Call.connect (connection r s (bs .now) p (ps .now) q (ss .now))) n (is .now)
+      → LentChange (was .now) (Call.connect (new-connection r s (bs .now) p (ps .now) q (ss .now))) n (is .now)
   by-disconnect : (κs : Lfts 1) (was is : LentGraph) (r s n : ℕ) → Disconnects κs was r s is n → LentChange (was .now) (Call.disconnect r s) n (is .now)
 
 -- a refused read leaves the lent record as it was

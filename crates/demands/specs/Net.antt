@@ -6,11 +6,11 @@ use Prim.Native.Nat.{ℕ}
 use Rattle.region_graph.specs.Lists.{member}
 use Rattle.region_graph.specs.Model.{Model}
 use Rattle.region_graph.specs.declared.Item.{Item}
-use Rattle.region_routes.specs.Chosen.{Crosses, Holds}
+use Rattle.region_routes.specs.Chosen.{PassesTo, HeldAt}
 
 -- the item is in r's own region, or in the net region, filtered, of a region that r is connected to
 abbrev pub OwnOrPassed : Model → Item → (ℕ → Type 0) → ℕ → Type 0
-OwnOrPassed m i N r = Holds m i r ⊎ ((s : ℕ) × Crosses m i r s × N s)
+OwnOrPassed m i N r = HeldAt m i r ⊎ ((s : ℕ) × PassesTo m i r s × N s)
 
 -- N r, for each region r, that the item is in its net region: the equation, read both ways
 pub record Solves (m : Model) (i : Item) (N : ℕ → Type 0) : Type 0 where

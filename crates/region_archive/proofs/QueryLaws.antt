@@ -16,7 +16,8 @@ use Rattle.region_graph.specs.declared.Place.{Place}
 use Rattle.region_graph.specs.declared.Place.the-variants.{Within, Nowhere}
 use Rattle.region_graph.proofs.Legal.{all-yes, first-no-stops, first-no-goes-on}
 use Rattle.region_routes.specs.Chosen.{sees}
-use Rattle.region_routes.specs.Hooks.{item, is-installed, sees-from, stands-in}
+use Rattle.region_routes.specs.Hooks.{item, is-installed, sees-from}
+use Rattle.region_routes.specs.Tables.{stands-in}
 use Rattle.region_routes.proofs.Judging.{stands-sees}
 use Rattle.region_archive.specs.File.{FileMeaning, read-model, read-questions, read-number}
 use Rattle.region_archive.specs.Promise.{seen-number, hidden-number, query-answer}

@@ -9,12 +9,12 @@ use lib.ListN.{length, length-append}
 use Rattle.region_graph.specs.Size.{regions}
 use Rattle.region_graph.specs.Lists.{All}
 use Rattle.region_graph.specs.Model.{Model, Part, Sorted, Legal, NumberedPart, nothing}
-use Rattle.region_graph.specs.Calls.{Call, after, run, Words, PartWords}
+use Rattle.region_graph.specs.Calls.{Call, after, run}
 use Rattle.region_graph.specs.Record.{Valid, store, meaning}
 use Rattle.region_graph.specs.declared.Graph.{Graph}
 use Rattle.region_graph.proofs.Lists.{all-map, all-join, all-rest}
 use Rattle.region_graph.proofs.Ascending.{Strict, Rising, rising-ascends, ascends-rising, strict-numbers, strict-bundles, strict-connections}
-use Rattle.region_graph.proofs.Legal.{legal-nothing, legal-run}
+use Rattle.region_graph.proofs.Legal.{legal-nothing, legal-run, Words, PartWords}
 use Rattle.region_graph.proofs.Storing.{stores-valid}
 use Rattle.region_archive.specs.RecordFields.{Elem, most-records, element-before, LegalElem, SectionRow, elements}
 use Rattle.region_archive.specs.Sections.{RegionRow}

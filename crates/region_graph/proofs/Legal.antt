@@ -11,11 +11,24 @@ use Rattle.region_graph.specs.Size.{regions, most-bundles, most-connecti
 use Rattle.region_graph.specs.Refusals.{not-refused}
 use Rattle.region_graph.specs.Lists.{pick, keep, exists, All, member, insert-by, ascends}
 use Rattle.region_graph.specs.Model.{Word, Sorted, Model, Bundle, Part, Connection, NumberedPart, LegalBundle, LegalConnection, Legal, nothing}
-use Rattle.region_graph.specs.Calls.{Call, Question, first-no, end-questions, questions, number, accepted, after, run, Words, PartWords, is-region, at-location, in-region, joins, touches, within, part-within, part-ascends}
+use Rattle.region_graph.specs.Calls.{Call, Question, first-no, end-questions, questions, number, accepted, after, run, is-region, at-location, in-region, joins, touches, within, part-within, part-ascends}
 use Rattle.region_graph.specs.Places.{ShortPart}
-use Rattle.region_graph.specs.Promise.{part}
+use Rattle.region_graph.specs.Promise.{new-part}
 use Rattle.region_graph.proofs.Lists.{eqb-sym, and-fst, and-snd, false-true, pick-yes, keep-length, exists-insert, insert-length, exists-none, all-map, all-kept, all-insert, keep-all, member-all, member-kept, other-member, and-yes}
 use Rattle.region_graph.proofs.Ascending.{Strict, Rising, or-right, ascends-rising, ascends-keep, ascends-insert, strict-numbers, strict-bundles, strict-connections, numbers-differ, connections-differ}
+
+-- the locations and listed numbers that a call is handed have 32 bits
+abbrev pub PartWords : Part → Type 0
+PartWords (Part.listed xs) = All Word xs
+PartWords Part.everything = Unit {0}
+
+abbrev pub Words : Call → Type 0
+Words (Call.add-region r) = Unit {0}
+Words (Call.remove-region r) = Unit {0}
+Words (Call.install b) = Word (b .location) × All Word (b .packages) × All Word (b .services)
+Words (Call.uninstall l) = Unit {0}
+Words (Call.connect c) = All Word (c .filter .bundles) × PartWords (c .filter .packages) × PartWords (c .filter .services)
+Words (Call.disconnect r s) = Unit {0}
 
 -- neither of two tests
 not-or : (a b : Bool) → not (a || b) ≡ true → (not a ≡ true) × (not b ≡ true)
@@ -353,7 +366,7 @@ module _ (m : Model) (l : Legal m) where
       absent false e = exists-none (joins r s) (m .connections) e
 
 -- a part that was handed over as a flag and a list
-pub part-words : (all : Bool) (xs : List ℕ) → All Word xs → PartWords (part all xs)
+pub part-words : (all : Bool) (xs : List ℕ) → All Word xs → PartWords (new-part all xs)
 part-words true xs h = tt
 part-words false xs h = h
 

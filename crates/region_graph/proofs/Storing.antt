@@ -14,7 +14,7 @@ use Rattle.region_graph.specs.Refusals.{not-refused}
 use Rattle.region_graph.specs.Lists.{All, member, keep, insert-by, count-from}
 use Rattle.region_graph.specs.Sets.{bit, has, singleton, members, set-of}
 use Rattle.region_graph.specs.Model.{Model, Bundle, Part, Connection, Sorted, Legal, LegalBundle, LegalConnection, NumberedPart, nothing}
-use Rattle.region_graph.specs.Calls.{Call, number, accepted, Words}
+use Rattle.region_graph.specs.Calls.{Call, number, accepted}
 use Rattle.region_graph.specs.Record
 use Rattle.region_graph.specs.Record.{number-places, Stored, Valid, store, meaning, no-bundle, no-connection}
 use Rattle.region_graph.specs.Record.{store-numbers, numbers-of, store-provided, provided-of, store-part, part-in}
@@ -34,7 +34,7 @@ use Rattle.region_graph.specs.declared.Changed.{Changed}
 use Rattle.region_graph.proofs.Lists.{pick-yes, pick-no, all-map, all-at, keep-same, member-kept, member-counted, exists-insert, eqb-sym}
 use Rattle.region_graph.proofs.Ascending.{members-back}
 use Rattle.region_graph.proofs.Bits.{has-set, set-ext, set-join, set-leave}
-use Rattle.region_graph.proofs.Legal.{legal-accepted, legal-nothing}
+use Rattle.region_graph.proofs.Legal.{legal-accepted, legal-nothing, Words}
 use Rattle.region_graph.proofs.Arrays.{Filled, filled-none, filled-at, filled-inside, drop-replicate}
 
 -- the used places hold the list

@@ -6,9 +6,9 @@ use lib.Dec.{eqb, leb, ltb}
 use lib.ListN.{length}
 use Rattle.region_graph.specs.Size.{regions, most-bundles, most-connections, most-provided, most-listed}
 use Rattle.region_graph.specs.Refusals.{not-refused, not-a-region, region-used, no-such-region, ends-equal, connected, not-connected, list-too-long, list-out-of-order, installed, filtered, full, not-installed}
-use Rattle.region_graph.specs.Lists.{pick, keep, exists, All, member, insert-by, ascends}
+use Rattle.region_graph.specs.Lists.{pick, keep, exists, member, insert-by, ascends}
 use Rattle.region_graph.specs.Steps.{run-by, answers-by}
-use Rattle.region_graph.specs.Model.{Model, Bundle, Filter, Part, Connection, Word, bundle-before, connection-before}
+use Rattle.region_graph.specs.Model.{Model, Bundle, Filter, Part, Connection, bundle-before, connection-before}
 
 pub data Call : Type 0 where
   add-region : ℕ → Call
@@ -153,16 +153,3 @@ run = run-by after
 
 abbrev pub numbers : Model → List Call → List ℕ
 numbers = answers-by number after
-
--- the locations and listed numbers that a call is handed have 32 bits
-abbrev pub PartWords : Part → Type 0
-PartWords (Part.listed xs) = All Word xs
-PartWords Part.everything = Unit {0}
-
-abbrev pub Words : Call → Type 0
-Words (add-region r) = Unit {0}
-Words (remove-region r) = Unit {0}
-Words (install b) = Word (b .location) × All Word (b .packages) × All Word (b .services)
-Words (uninstall l) = Unit {0}
-Words (connect c) = All Word (c .filter .bundles) × PartWords (c .filter .packages) × PartWords (c .filter .services)
-Words (disconnect r s) = Unit {0}

@@ -33,20 +33,20 @@ pub record Follows (g : Graph) (c : Call) (r : Changed) : Type 0 where
   pub kept : (r .number ≡ not-refused → ⊥) → r .graph ≡ g
 
 -- a part of a filter as a call is handed it: with the flag "all" the list is no part of it
-abbrev pub part : Bool → List ℕ → Part
-part all xs = pick all Part.everything (Part.listed xs)
+abbrev pub new-part : Bool → List ℕ → Part
+new-part all xs = pick all Part.everything (Part.listed xs)
 
 -- the bundle and the connection that a call is handed
-abbrev pub bundle : ℕ → ℕ → List ℕ → List ℕ → Bundle
-bundle region location packages services =
+abbrev pub new-bundle : ℕ → ℕ → List ℕ → List ℕ → Bundle
+new-bundle region location packages services =
     record { location = location; region = region; packages = packages; services = services }
 
 abbrev pub new-filter : List ℕ → Bool → List ℕ → Bool → List ℕ → Filter
 new-filter bundles all-packages packages all-services services =
-    record { bundles = bundles; packages = part all-packages packages; services = part all-services services }
+    record { bundles = bundles; packages = new-part all-packages packages; services = new-part all-services services }
 
-abbrev pub connection : ℕ → ℕ → List ℕ → Bool → List ℕ → Bool → List ℕ → Connection
-connection source target bundles all-packages packages all-services services =
+abbrev pub new-connection : ℕ → ℕ → List ℕ → Bool → List ℕ → Bool → List ℕ → Connection
+new-connection source target bundles all-packages packages all-services services =
     record { source = source; target = target; filter = new-filter bundles all-packages packages all-services services }
 
 -- the region in which a location is installed, if any

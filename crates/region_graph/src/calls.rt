@@ -5,7 +5,7 @@ ghost use Rattle.region_graph.specs.Calls.{Call, «first-no», «new-reg
 ghost use Rattle.region_graph.specs.Sets.{members};
 ghost use Rattle.region_graph.specs.Record.{Valid, «bundles-of», «connections-of»};
 ghost use Rattle.region_graph.specs.Places.{BundlesStored, ConnectionsStored};
-ghost use Rattle.region_graph.specs.Promise.{Follows, bundle, connection};
+ghost use Rattle.region_graph.specs.Promise.{Follows, «new-bundle», «new-connection»};
 use crate::Changed;
 use crate::Graph;
 use crate::bundles::BundleTest;
@@ -136,7 +136,7 @@ fn connect_number(
     services: &[u32],
 ) -> u32
     requires { ⌜ ConnectionsStored connections ⌝ }
-    ensures { λ r. ⌜ r ≡ first-no (connection-questions (connections-of connections) (connection source target (now (bundles .entry)) «all_packages» (now (packages .entry)) «all_services» (now (services .entry)))) ⌝ }
+    ensures { λ r. ⌜ r ≡ first-no (connection-questions (connections-of connections) (new-connection source target (now (bundles .entry)) «all_packages» (now (packages .entry)) «all_services» (now (services .entry)))) ⌝ }
 {
     if connections.first(ConnectionTest::Joining(source, target)) < connections.count {
         return CONNECTED;
@@ -192,7 +192,7 @@ impl Graph {
 
     pub fn install(self, region: u32, location: u32, packages: &[u32], services: &[u32]) -> Changed
         requires { ⌜ Valid self ⌝ }
-        ensures { λ r. ⌜ Follows self (Call.install (bundle region location (now (packages .entry)) (now (services .entry)))) r ⌝ }
+        ensures { λ r. ⌜ Follows self (Call.install (new-bundle region location (now (packages .entry)) (now (services .entry)))) r ⌝ }
     {
         let mut next = self;
         let bundles = self.bundles;
@@ -251,7 +251,7 @@ impl Graph {
         services: &[u32],
     ) -> Changed
         requires { ⌜ Valid self ⌝ }
-        ensures { λ r. ⌜ Follows self (Call.connect (connection source target (now (bundles .entry)) «all_packages» (now (packages .entry)) «all_services» (now (services .entry)))) r ⌝ }
+        ensures { λ r. ⌜ Follows self (Call.connect (new-connection source target (now (bundles .entry)) «all_packages» (now (packages .entry)) «all_services» (now (services .entry)))) r ⌝ }
     {
         let mut next = self;
         let connections = self.connections;

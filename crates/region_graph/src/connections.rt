@@ -10,7 +10,7 @@ ghost use Rattle.region_graph.specs.Model.{Part};
 ghost use Rattle.region_graph.specs.Calls.{«part-within», «part-ascends», «filter-within», «filter-ascends»};
 ghost use Rattle.region_graph.specs.Record.{«store-part», «store-connection», «connection-in», «no-connection», «store-connections», «connections-of»};
 ghost use Rattle.region_graph.specs.Places.{ConnectionStored, ConnectionsStored, «connection-meets»};
-ghost use Rattle.region_graph.specs.Promise.{part, «new-filter»};
+ghost use Rattle.region_graph.specs.Promise.{«new-part», «new-filter»};
 use crate::numbers::Numbers;
 use crate::numbers::ascending;
 use crate::numbers::copied;
@@ -46,7 +46,7 @@ pub enum ConnectionTest {
 
 // Whether a part handed in is within its count.
 pub fn part_within(all: bool, list: &[u32]) -> bool
-    ensures { λ r. ⌜ r ≡ part-within (part all (now (list .entry))) ⌝ }
+    ensures { λ r. ⌜ r ≡ part-within (new-part all (now (list .entry))) ⌝ }
 {
     if all {
         return true;
@@ -55,7 +55,7 @@ pub fn part_within(all: bool, list: &[u32]) -> bool
 }
 
 pub fn part_ascending(all: bool, list: &[u32]) -> bool
-    ensures { λ r. ⌜ r ≡ part-ascends (part all (now (list .entry))) ⌝ }
+    ensures { λ r. ⌜ r ≡ part-ascends (new-part all (now (list .entry))) ⌝ }
 {
     if all {
         return true;
@@ -109,8 +109,8 @@ pub fn everything() -> Numbers
 }
 
 pub fn part_copied(all: bool, list: &[u32]) -> Numbers
-    requires { ⌜ part-within (part all (now list)) ≡ true ⌝ }
-    ensures { λ r. ⌜ r ≡ store-part (part all (now (list .entry))) ⌝ }
+    requires { ⌜ part-within (new-part all (now list)) ≡ true ⌝ }
+    ensures { λ r. ⌜ r ≡ store-part (new-part all (now (list .entry))) ⌝ }
 {
     if all {
         return everything();

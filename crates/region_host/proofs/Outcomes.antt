@@ -23,11 +23,11 @@ use Rattle.region_routes.specs.declared.Kept.the-variants as Kept
 use Rattle.region_archive.specs.Image.{image}
 use Rattle.region_archive.specs.Promise.{written-as, archived, write-questions, write-outcome}
 use Rattle.region_archive.specs.declared.Written.the-variants as Written
-use Rattle.region_host.specs.CNumbers.{Answered, answered, for-c}
+use Rattle.region_host.specs.CNumbers.{CAnswer, answered, for-c}
 
 module _ {A : Type 0} where
   -- what an answer is for C, with the buffer beside it
-  pub handed-on : (value : A → ℕ) {o p : Outcome A} {n : ℕ} → n ≡ value (o .answer) → o ≡ p → _≡_ {A = Answered} (answered n (o .exit)) (for-c value p)
+  pub handed-on : (value : A → ℕ) {o p : Outcome A} {n : ℕ} → n ≡ value (o .answer) → o ≡ p → _≡_ {A = CAnswer} (answered n (o .exit)) (for-c value p)
   handed-on value {o} e q = ap (λ (n : ℕ). answered n (o .exit)) e ∙ ap (for-c value) q
 
   -- an outcome is an answer, what is returned for it, and a buffer
@@ -39,7 +39,7 @@ module _ {A : Type 0} where
 
   -- what C reads in the number that it gets is the answer, where that is had back from its number
   pub read-off : (gives : A → Returned) (value : A → ℕ) (of : ℕ → A) {o : Outcome A} {v : ℕ} {exit : List ℕ} → Whole gives o
-      → of (value (o .answer)) ≡ o .answer → _≡_ {A = Answered} (answered v exit) (for-c value o)
+      → of (value (o .answer)) ≡ o .answer → _≡_ {A = CAnswer} (answered v exit) (for-c value o)
       → _≡_ {A = Outcome A} (outcome gives (of v) exit) o
   read-off gives value of {o} w b e =
       (λ i. outcome gives (of (e i .value)) (e i .exit)) ∙ ap (λ (a : A). outcome gives a (o .exit)) b ∙ w

@@ -31,15 +31,15 @@ written-value (Written.Bytes n) = n
 written-value (Written.Refused n) = negative n
 
 -- the number that C gets, and the lent buffer as the call leaves it
-pub record Answered : Type 0 where
+pub record CAnswer : Type 0 where
   pub value : ℕ
   pub exit : List ℕ
 
-abbrev pub answered : ℕ → List ℕ → Answered
+abbrev pub answered : ℕ → List ℕ → CAnswer
 answered n exit = record { value = n; exit = exit }
 
 -- an outcome for C
-abbrev pub for-c : {A : Type 0} → (A → ℕ) → Outcome A → Answered
+abbrev pub for-c : {A : Type 0} → (A → ℕ) → Outcome A → CAnswer
 for-c value o = answered (value (o .answer)) (o .exit)
 
 -- what C reads in such a number: a count where it is not below zero, else a number of the papers

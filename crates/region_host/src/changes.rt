@@ -2,7 +2,7 @@
 // this hands back, and returns its number.
 ghost use Rattle.region_graph.specs.Calls.{Call};
 ghost use Rattle.region_graph.specs.Record.{Valid};
-ghost use Rattle.region_graph.specs.Promise.{Empty, Follows, bundle, connection};
+ghost use Rattle.region_graph.specs.Promise.{Empty, Follows, «new-bundle», «new-connection»};
 ghost use Rattle.region_archive.specs.Promise.{ReadsOver};
 use region_archive::read_over;
 use region_graph::Changed;
@@ -46,7 +46,7 @@ pub extern "C" fn region_install(
     services: &[u32],
 ) -> u32
     requires { ⌜ Valid (now graph) ⌝ }
-    ensures { λ n. ⌜ Follows (now (graph .entry)) (Call.install (bundle region location (now (packages .entry)) (now (services .entry)))) (record { graph = now (graph .exit); number = n }) ⌝ }
+    ensures { λ n. ⌜ Follows (now (graph .entry)) (Call.install (new-bundle region location (now (packages .entry)) (now (services .entry)))) (record { graph = now (graph .exit); number = n }) ⌝ }
 {
     let changed = graph.install(region, location, packages, services);
     *graph = changed.graph;
@@ -75,7 +75,7 @@ pub extern "C" fn region_connect(
     services: &[u32],
 ) -> u32
     requires { ⌜ Valid (now graph) ⌝ }
-    ensures { λ n. ⌜ Follows (now (graph .entry)) (Call.connect (connection source target (now (bundles .entry)) «all_packages» (now (packages .entry)) «all_services» (now (services .entry)))) (record { graph = now (graph .exit); number = n }) ⌝ }
+    ensures { λ n. ⌜ Follows (now (graph .entry)) (Call.connect (new-connection source target (now (bundles .entry)) «all_packages» (now (packages .entry)) «all_services» (now (services .entry)))) (record { graph = now (graph .exit); number = n }) ⌝ }
 {
     let changed = graph.connect(
         source,

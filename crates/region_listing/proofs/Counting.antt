@@ -20,7 +20,7 @@ use Rattle.region_routes.specs.Hooks.{kind-number, item}
 use Rattle.region_routes.specs.Search.{In, SetOfRegions}
 use Rattle.region_routes.specs.declared.Kind.{Kind}
 use Rattle.region_routes.proofs.SetLaws.{in-dec}
-use Rattle.region_routes.proofs.SearchLoops.{Removed}
+use Rattle.region_routes.proofs.SearchLoops.{Taken}
 use Rattle.region_listing.specs.Listing.{held, seen-from}
 use Rattle.region_listing.specs.Counts.{most-different, CountsFit, CountedOnce, Counted}
 
@@ -50,7 +50,7 @@ module _ {counts : List ℕ} {all : ℕ} where
   adding-room f {left = left} {r} a h = omega (arith, a .each r h, f .few r h, bit-le all r)
 
   -- one member is counted
-  pub adding-more : {next : List ℕ} {left r rest : ℕ} → Adding counts all next left → Removed left r rest
+  pub adding-more : {next : List ℕ} {left r rest : ℕ} → Adding counts all next left → Taken left r rest
       → Adding counts all (set next r (getD next r 0 + 1)) rest
   adding-more {next} {left} {r} {rest} a t =
       record {

@@ -23,8 +23,9 @@ use Rattle.region_graph.proofs.Lists.{member-all, and-fst, false-true}
 use Rattle.region_graph.proofs.Bits.{bit-le, bit-zero, in-lt, set-below-lt, bit-set-below, set-is, has-set}
 use Rattle.region_graph.proofs.Views.{counted-at}
 use Rattle.region_routes.specs.Route.{Route, last, next, Best}
-use Rattle.region_routes.specs.Chosen.{chosen-by, found, chosen, sees, Crosses, Holds}
-use Rattle.region_routes.specs.Hooks.{Outcome, routed, shown, sees-from, stands-in}
+use Rattle.region_routes.specs.Chosen.{chosen-by, found, chosen, sees, PassesTo, HeldAt}
+use Rattle.region_routes.specs.Hooks.{Outcome, routed, shown, sees-from}
+use Rattle.region_routes.specs.Tables.{stands-in}
 use Rattle.region_routes.specs.Search.{In, RegionSets, Conn, Searched, Reached, InLayer, Walkable, Walked}
 use Rattle.region_routes.specs.declared.Routed.{Routed}
 use Rattle.region_routes.specs.declared.Routed.the-variants.{Count}
@@ -163,11 +164,11 @@ none-searched pred = record {
 
 module _ (m : Model) (i : Item) (h : Legal m) where
   -- the predecessor sets are the connections that pass the item, the holder set the regions that hold it
-  conn-crosses : (r s : ℕ) → Conn (predecessor-sets m i) r s → Crosses m i r s
+  conn-crosses : (r s : ℕ) → Conn (predecessor-sets m i) r s → PassesTo m i r s
   unfolding predecessor-sets
   conn-crosses r s c = go (lt-or-ge s regions)
     where
-      go : (s < regions) ⊎ (regions ≤ s) → Crosses m i r s
+      go : (s < regions) ⊎ (regions ≤ s) → PassesTo m i r s
       go (inl l) =
           set-in (λ n. crosses m i n s) r
           (subst (λ (x : ℕ). In x r) (counted-at (λ k. set-of (λ n. crosses m i n k)) 0 regions s s 0 l (omega arith)) c)
@@ -175,17 +176,17 @@ module _ (m : Model) (i : Item) (h : Legal m) where
           let z : _≡_ {A = ℕ} 0 1 = sym (bit-zero r) ∙ subst (λ (x : ℕ). In x r) (List·getD-eq-default (predecessor-sets m i) 0 l) c in
           absurd (omega arith)
 
-  crosses-conn : (r s : ℕ) → Crosses m i r s → Conn (predecessor-sets m i) r s
+  crosses-conn : (r s : ℕ) → PassesTo m i r s → Conn (predecessor-sets m i) r s
   unfolding predecessor-sets
   crosses-conn r s c =
       let l = crosses-inside m i r s h c in
       subst (λ (x : ℕ). In x r) (sym (counted-at (λ k. set-of (λ n. crosses m i n k)) 0 regions s s 0 (l .1) (omega arith)))
       (in-set (λ n. crosses m i n s) r (l .0) c)
 
-  in-holds : (n : ℕ) → In (holder-set m i) n → Holds m i n
+  in-holds : (n : ℕ) → In (holder-set m i) n → HeldAt m i n
   in-holds n k = set-in (holds m i) n k
 
-  holds-in : (n : ℕ) → Holds m i n → In (holder-set m i) n
+  holds-in : (n : ℕ) → HeldAt m i n → In (holder-set m i) n
   holds-in n k = in-set (holds m i) n (held-inside (m .regions) (h .regions-legal .each) i n (m .bundles) (h .bundles-legal .each) k) k
 
   tied : Tied (crosses m i) (holds m i) (predecessor-sets m i) (holder-set m i)

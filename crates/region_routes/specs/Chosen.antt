@@ -56,17 +56,17 @@ abbrev pub sees : Model → Item → ℕ → Bool
 sees m i r = found (chosen m i r)
 
 -- the routes of a model for an item
-abbrev pub Crosses : Model → Item → ℕ → ℕ → Type 0
-Crosses m i r s = crosses m i r s ≡ true
+abbrev pub PassesTo : Model → Item → ℕ → ℕ → Type 0
+PassesTo m i r s = crosses m i r s ≡ true
 
-abbrev pub Holds : Model → Item → ℕ → Type 0
-Holds m i r = holds m i r ≡ true
+abbrev pub HeldAt : Model → Item → ℕ → Type 0
+HeldAt m i r = holds m i r ≡ true
 
 abbrev pub RouteFor : Model → Item → ℕ → List ℕ → Type 0
-RouteFor m i = Route (Crosses m i) (Holds m i)
+RouteFor m i = Route (PassesTo m i) (HeldAt m i)
 
 abbrev pub NoRouteFor : Model → Item → ℕ → Type 0
-NoRouteFor m i = NoRoute (Crosses m i) (Holds m i)
+NoRouteFor m i = NoRoute (PassesTo m i) (HeldAt m i)
 
 abbrev pub BestFor : Model → Item → ℕ → List ℕ → Type 0
-BestFor m i = Best (Crosses m i) (Holds m i)
+BestFor m i = Best (PassesTo m i) (HeldAt m i)

@@ -8,7 +8,6 @@ use lib.ListN.{length, drop}
 use Rattle.region_graph.specs.Size.{regions}
 use Rattle.region_graph.specs.Refusals.{not-refused, not-installed, not-a-kind, no-place}
 use Rattle.region_graph.specs.Lists.{pick, keep}
-use Rattle.region_graph.specs.Sets.{has}
 use Rattle.region_graph.specs.Model.{Model}
 use Rattle.region_graph.specs.Calls.{Question, ask, first-no}
 use Rattle.region_graph.specs.Promise.{place-of}
@@ -119,10 +118,6 @@ kept-outcome xs entry = kept (Kept.Wrote (length xs)) (written xs entry)
 abbrev pub sees-from : Model → Item → Place → Bool
 sees-from m i (Within r) = sees m i r
 sees-from m i Nowhere = false
-
-abbrev pub stands-in : ℕ → Place → Bool
-stands-in set (Within r) = has set r
-stands-in set Nowhere = false
 
 -- a find writes the candidates that its bundle sees
 abbrev pub find-outcome : Model → Kind → ℕ → List ℕ → List ℕ → Outcome Kept

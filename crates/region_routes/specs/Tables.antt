@@ -7,7 +7,7 @@ use lib.Dec.{eqb}
 use lib.ListN.{length, take}
 use Rattle.region_graph.specs.Size.{regions, most-connections, most-listed}
 use Rattle.region_graph.specs.Lists.{pick, exists, concat-map, count-from}
-use Rattle.region_graph.specs.Sets.{set-of}
+use Rattle.region_graph.specs.Sets.{has, set-of}
 use Rattle.region_graph.specs.Model.{Model, Bundle, Part, Connection, Legal}
 use Rattle.region_graph.specs.Items.{provided, part-of}
 use Rattle.region_graph.specs.declared.Place.{Place}
@@ -92,6 +92,11 @@ predecessors-by step = map (λ s. set-of (λ r. step r s)) (count-from 0 regions
 abbrev pub place-at : List ℕ → ℕ → Place
 place-at [] l = Nowhere
 place-at (e ∷ es) l = pick (eqb (number-in e) l) (Within (place-in e)) (place-at es l)
+
+-- whether a place is in a set
+abbrev pub stands-in : ℕ → Place → Bool
+stands-in set (Within r) = has set r
+stands-in set Nowhere = false
 
 -- each number has a place
 abbrev pub all-placed : (ℕ → Place) → List ℕ → Bool

@@ -9,7 +9,7 @@ use borrow.Author.Tests.{le-leb, lt-leb, leb-true, not-true, not-false}
 use lib.Dec.{leb}
 use lib.ListN.{length, take, drop}
 use Rattle.region_graph.proofs.Lists.{pick-yes, pick-no}
-use Rattle.text_lines.specs.Outcome.{Put, put, put-outcome}
+use Rattle.text_lines.specs.Outcome.{PutAnswer, put, put-outcome}
 use Rattle.text_lines.specs.Written.{WrittenAt}
 use Rattle.text_lines.proofs.Writes.{wrote-then, room-first, room-rest}
 
@@ -26,7 +26,7 @@ pub has-place : (n size : ℕ) {room : Bool} → room ≡ leb n size → not roo
 has-place n size {room} e f = leb-true n size (sym e ∙ not-false room f)
 
 -- the outcome where there is room
-abbrev whole : List ℕ → ℕ → List ℕ → Put
+abbrev whole : List ℕ → ℕ → List ℕ → PutAnswer
 whole entry at xs = put (at + length xs) (take at entry ++ (xs ++ drop (at + length xs) entry))
 
 put-whole : (entry : List ℕ) (at : ℕ) (xs : List ℕ) → at + length xs ≤ length entry → put-outcome entry at xs ≡ whole entry at xs
@@ -45,9 +45,9 @@ module _ {entry exit : List ℕ} {at next : ℕ} {xs : List ℕ} where
   pub put-wrote : put next exit ≡ put-outcome entry at xs → at + length xs ≤ length entry → WrittenAt entry exit at xs next
   put-wrote e h =
       let f : put next exit ≡ whole entry at xs = e ∙ put-whole entry at xs h in
-      let g : next ≡ at + length xs = ap (λ (p : Put). p .next) f in
+      let g : next ≡ at + length xs = ap (λ (p : PutAnswer). p .next) f in
       record {
-        shape = ap (λ (p : Put). p .exit) f ∙ ap (λ (n : ℕ). take at entry ++ (xs ++ drop n entry)) (sym g);
+        shape = ap (λ (p : PutAnswer). p .exit) f ∙ ap (λ (n : ℕ). take at entry ++ (xs ++ drop n entry)) (sym g);
         ends = g;
         room = omega (arith, g);
       }

@@ -5,7 +5,7 @@ use Rattle.region_graph.specs.Model.{Connection, Word, connection-before
 use Rattle.region_graph.specs.Calls.{Call, number, accepted, end-questions, connection-questions}
 use Rattle.region_graph.specs.Record.{meaning, store-connection, store-connections, connection-in}
 use Rattle.region_graph.specs.Places.{ShortConnection, connection-meets}
-use Rattle.region_graph.specs.Promise.{connection}
+use Rattle.region_graph.specs.Promise.{new-connection}
 use Rattle.region_graph.specs.declared.connections.ConnectionTest.the-variants.{After}
 use Rattle.region_graph.proofs.Lists.{all-of, position-le, insert-stored}
 use Rattle.region_graph.proofs.Legal.{first-step, second-step, Connectable, connectable, part-words, part-short}
@@ -17,7 +17,7 @@ use Rattle.region_graph.proofs.Graph.connect.Tie as tie
 abbrev given : tie.Start → Connection
 given s =
     let a = s .args in
-    connection (a .source) (a .target) (a .bundles .now) (a .all-packages) (a .packages .now) (a .all-services) (a .services .now)
+    new-connection (a .source) (a .target) (a .bundles .now) (a .all-packages) (a .packages .now) (a .all-services) (a .services .now)
 
 -- the call's start
 abbrev start : tie.Joined1 → tie.Start

@@ -5,7 +5,7 @@ use Rattle.region_graph.specs.Model.{Bundle, Word, bundle-before}
 use Rattle.region_graph.specs.Calls.{Call, number, accepted, provided-questions, bundle-questions}
 use Rattle.region_graph.specs.Record.{meaning, store-bundle, store-bundles, bundle-in}
 use Rattle.region_graph.specs.Places.{ShortBundle, bundle-meets}
-use Rattle.region_graph.specs.Promise.{bundle}
+use Rattle.region_graph.specs.Promise.{new-bundle}
 use Rattle.region_graph.specs.declared.bundles.BundleTest.the-variants.{After}
 use Rattle.region_graph.proofs.Lists.{all-of, position-le, insert-stored}
 use Rattle.region_graph.proofs.Legal.{first-step, second-step, Installable, installable}
@@ -15,7 +15,7 @@ use Rattle.region_graph.proofs.Graph.install.Tie as tie
 
 -- the bundle that is handed in
 abbrev given : tie.Start → Bundle
-given s = let a = s .args in bundle (a .region) (a .location) (a .packages .now) (a .services .now)
+given s = let a = s .args in new-bundle (a .region) (a .location) (a .packages .now) (a .services .now)
 
 -- the call's start
 abbrev start : tie.Joined1 → tie.Start

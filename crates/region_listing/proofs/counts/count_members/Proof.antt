@@ -1,6 +1,6 @@
 use native.Mathlib.Omega.{arith}
 use borrow.Author.Needs.{needs}
-use Rattle.region_routes.proofs.SearchLoops.{above-none, Removed, removed}
+use Rattle.region_routes.proofs.SearchLoops.{above-none, Taken, taken}
 use Rattle.region_listing.specs.Counts.{CountsFit}
 use Rattle.region_listing.proofs.Counting.{Adding, adding-start, adding-room, adding-more, adding-end}
 use Rattle.region_listing.proofs.counts.count_members.Statement.{statement}
@@ -14,10 +14,10 @@ abbrev μ-loop : tie.MeasureT-loop
 
 -- what a turn takes out of `left`
 turn : (c : tie.After-difference Inv-loop μ-loop)
-    → Removed (c .before .before .before .before .loop .left) (c .before .before .lowest .result) (c .difference .result)
+    → Taken (c .before .before .before .before .loop .left) (c .before .before .lowest .result) (c .difference .result)
 turn c =
     let a = c .before .before .before .before .loop .inv .1 in
-    removed (a .inside) (a .word) (above-none _ (c .before .before .before .loop-test .taken)) (c .before .before .lowest .ensures)
+    taken (a .inside) (a .word) (above-none _ (c .before .before .before .loop-test .taken)) (c .before .before .lowest .ensures)
     (c .before .singleton .ensures) (c .difference .ensures)
 
 loop-holds : tie.Need-loop-holds Inv-loop μ-loop

@@ -3,8 +3,7 @@ use Prim.Native.Nat.{_-_}
 use native.Mathlib.Omega.{arith}
 use borrow.Author.Needs.{needs}
 use lib.ListN.{length}
-use Rattle.region_routes.specs.Hooks.{stands-in}
-use Rattle.region_routes.specs.Tables.{place-at}
+use Rattle.region_routes.specs.Tables.{place-at, stands-in}
 use Rattle.region_routes.proofs.Keeping.{Keeping, keeping-start, keeping-passed, keeping-failed, keeping-end}
 use Rattle.region_routes.proofs.hooks.keep_standing.Statement.{statement}
 use Rattle.region_routes.proofs.hooks.keep_standing.Tie as tie

@@ -1,7 +1,6 @@
 use borrow.Author.Needs.{needs}
 use mathlib.Core.Path.{_≡_, sym, ap, _∙_}
-use Rattle.region_routes.specs.Hooks.{stands-in}
-use Rattle.region_routes.specs.Tables.{place-at}
+use Rattle.region_routes.specs.Tables.{place-at, stands-in}
 use Rattle.region_routes.proofs.hooks.stands_in.Statement.{statement}
 use Rattle.region_routes.proofs.hooks.stands_in.Tie as tie
 

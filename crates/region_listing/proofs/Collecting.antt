@@ -8,7 +8,7 @@ use native.Mathlib.Omega.{arith}
 use borrow.Author.Tests.{eqb-true}
 use lib.Dec.{eqb}
 use lib.ListN.{length, getD, take, set, length-append, length-set}
-use lib.Seq.{take-suc, take-length, length-take-le}
+use lib.Seq.{take-suc, take-suc-set, take-length, length-take-le}
 use Rattle.region_graph.specs.Size.{most-bundles, most-provided}
 use Rattle.region_graph.specs.Lists.{pick, member, concat-map}
 use Rattle.region_graph.specs.Model.{Bundle}
@@ -25,7 +25,6 @@ use Rattle.region_graph.proofs.Storing.{bundles-each, bundles-back, stored-as, 
 use Rattle.region_routes.specs.Hooks.{kind-number}
 use Rattle.region_routes.specs.declared.Kind.{Kind}
 use Rattle.region_routes.specs.declared.Kind.the-variants as Kind
-use Rattle.region_archive.proofs.CountedReads.{take-set}
 use Rattle.region_listing.specs.Listing.{joined, joined-all, different, held}
 use Rattle.region_listing.specs.Counts.{most-different, numbers-in, Collected}
 use Rattle.region_listing.specs.declared.collection.Collection.{Collection}
@@ -96,7 +95,9 @@ module _ {start ls items : List ℕ} {n i : ℕ} (j : Joining start ls items n i
           room = j .room;
           inside = omega arith;
           those =
-              take-set items n x (omega (arith, j .size, joining-room)) ∙ sym (next ∙ pick-no (take n items) (take n items ++ (x ∷ [])) e);
+              let more : take (n + 1) (set items n x) ≡ take n items ++ (x ∷ []) =
+              rw add-one (take-suc-set items n x (omega (arith, j .size, joining-room))) in
+              more ∙ sym (next ∙ pick-no (take n items) (take n items ++ (x ∷ [])) e);
         }
 
 -- the numbers of a collection are as many as it says

@@ -22,8 +22,7 @@ use Rattle.region_archive.specs.declared.record_fields.Section.the-varia
 use Rattle.region_archive.specs.declared.sections.RegionsAt.{RegionsAt}
 use Rattle.region_archive.specs.declared.sections.SectionAt.{SectionAt}
 use Rattle.region_archive.proofs.Rows.{region-bytes, row-same}
-use Rattle.region_archive.proofs.RecordLaws.{section-elements}
-use Rattle.region_archive.proofs.Records.{body-sections, legal-row}
+use Rattle.region_archive.proofs.Records.{body-sections, legal-row, section-elements}
 use Rattle.region_archive.proofs.OneImage.{body-same}
 
 -- what follows the regions of a body, and a body as its three sections

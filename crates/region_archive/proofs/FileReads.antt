@@ -24,10 +24,9 @@ use Rattle.region_archive.specs.File.{FileMeaning, means, means-none, is
 use Rattle.region_archive.specs.Parsing.{Parsed}
 use Rattle.region_archive.specs.Promise.{Reads, ReadsOver}
 use Rattle.region_archive.specs.Sections.{BodyRead, whole, broken}
-use Rattle.region_archive.proofs.Delimits.{head-same}
+use Rattle.region_archive.proofs.Delimits.{head-same, word-bytes}
 use Rattle.region_archive.proofs.Digits.{drop-byte, digits-none, digits-more, digits-all}
 use Rattle.region_archive.proofs.CountedReads.{byte-stands}
-use Rattle.region_archive.proofs.Readers.{word-bytes}
 use Rattle.region_archive.proofs.OneImage.{image-body, one-image, image-front}
 
 -- the length field, as the four bytes after the first

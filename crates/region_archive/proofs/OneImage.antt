@@ -20,11 +20,11 @@ use Rattle.region_archive.specs.RecordFields.{Elem, most-records, LegalE
 use Rattle.region_archive.specs.declared.record_fields.Section.{Section}
 use Rattle.region_archive.specs.declared.record_fields.Section.the-variants as Section
 use Rattle.region_archive.proofs.Pieces.{big-length}
-use Rattle.region_archive.proofs.Delimits.{Delimits}
+use Rattle.region_archive.proofs.Delimits.{Delimits, reader-same, word-bytes}
 use Rattle.region_archive.proofs.RecordLaws.{open-part, part-length}
 use Rattle.region_archive.proofs.Records.{bundle-record, connection-record, legal-row}
 use Rattle.region_archive.proofs.Images.{body-size, image-size}
-use Rattle.region_archive.proofs.Readers.{reader-same, word-bytes, read-body}
+use Rattle.region_archive.proofs.Readers.{read-body}
 
 -- bytes tell a legal model
 pub body-same : Delimits Legal body _≡_

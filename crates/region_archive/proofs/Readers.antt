@@ -1,9 +1,8 @@
 -- Values that can be read back from their bytes, whatever follows them: by small pieces, up to the body of an image.
-use mathlib.Core.Path.{_≡_, refl, sym, ap, _∙_}
+use mathlib.Core.Path.{_≡_, refl, ap, _∙_}
 use mathlib.Core.Bool.{true}
 use mathlib.Core.List.{List, [], _∷_, _++_, append-assoc}
-use Prim.Native.Nat.{ℕ, zero, suc, _+_, _*_, _/_, _%_, _^_, _<_}
-use native.Mathlib.Nat.{pow-suc, mod-one, mod-eq-of-lt}
+use Prim.Native.Nat.{ℕ, zero, suc, _+_, _^_, _<_}
 use native.Mathlib.Omega.{arith}
 use lib.Dec.{eqb}
 use lib.ListN.{length, drop}
@@ -16,41 +15,7 @@ use Rattle.region_graph.proofs.Lists.{all-map, member-all}
 use Rattle.region_archive.specs.Bytes.{big, counted, sized}
 use Rattle.region_archive.specs.Image.{version, part-bytes, bundle-fields, connection-fields, body}
 use Rattle.region_archive.proofs.Pieces.{big-length}
-use Rattle.region_archive.proofs.Delimits.{Delimits, mod-step, pow-pos}
-
--- a value and the rest are read back from the bytes of a good value and what follows them
-pub record Reader {A : Type 0} (good : A → Type 0) (bytes : A → List ℕ) : Type 0 where
-  pub read : List ℕ → A × List ℕ
-  pub back : (x : A) (r : List ℕ) → good x → read (bytes x ++ r) ≡ (x, r)
-
--- what can be read back is told apart by its bytes
-pub reader-same : {A : Type 0} (good : A → Type 0) (bytes : A → List ℕ) → Reader good bytes → Delimits good bytes _≡_
-reader-same {A} good bytes p x y r t h g e =
-    let d : _≡_ {A = A × List ℕ} (x, r) (y, t) = sym (p .back x r h) ∙ ap (p .read) e ∙ p .back y t g in
-    (ap (λ q. q .0) d, ap (λ q. q .1) d)
-
--- a number's bytes, added up
-read-big : ℕ → List ℕ → ℕ × List ℕ
-read-big zero s = (0, s)
-read-big (suc w) [] = (0, [])
-read-big (suc w) (b ∷ s) = (b * 256 ^ w + read-big w s .0, read-big w s .1)
-
--- give the number, as far as w bytes hold it
-big-back : (w n : ℕ) (r : List ℕ) → read-big w (big w n ++ r) ≡ (n % 256 ^ w, r)
-unfolding read-big
-big-back zero n r = λ i. (sym (mod-one n) i, r)
-big-back (suc w) n r =
-    (λ i. (n / 256 ^ w % 256 * 256 ^ w + big-back w n r i .0, big-back w n r i .1))
-    ∙ (λ i. ((sym (mod-step n (256 ^ w) (pow-pos w)) ∙ ap (λ (m : ℕ). n % m) (sym (pow-suc 256 w))) i, r))
-
--- a number of w bytes
-pub read-number : (w : ℕ) → Reader (λ n. n < 256 ^ w) (big w)
-read-number w = record { read = read-big w; back = λ n r h. big-back w n r ∙ (λ i. (mod-eq-of-lt h i, r)) }
-
--- four bytes make the number that they are of
-pub word-bytes : (n : ℕ) → n < 256 ^ 4 → n / 256 ^ 3 % 256 * 16777216 + n / 256 ^ 2 % 256 * 65536 + n / 256 ^ 1 % 256 * 256 + n / 256 ^ 0 % 256 ≡ n
-unfolding read-big
-word-bytes n h = omega (arith, ap (λ q. q .0) (big-back 4 n []), mod-eq-of-lt h)
+use Rattle.region_archive.proofs.Delimits.{Reader, read-number}
 
 -- elements one after the other, with their count in front
 module _ {A : Type 0} where
@@ -120,7 +85,7 @@ read-numbers : Reader (All Word) (counted (big 4))
 read-numbers = read-list (read-number 4)
 
 -- a part whose count is not the sign "all"
-abbrev FitPart : Part → Type 0
+abbrev pub FitPart : Part → Type 0
 FitPart (Part.listed xs) = (length xs < 255) × All Word xs
 FitPart Part.everything = Unit {0}
 
@@ -138,21 +103,21 @@ read-part = record { read = read; back = back }
     back Part.everything r h = refl
 
 -- a bundle, a connection and a model whose numbers fit their bytes
-abbrev FitBundle : Bundle → Type 0
+abbrev pub FitBundle : Bundle → Type 0
 FitBundle b = (b .location < 256 ^ 4) × ((b .region < 256 ^ 1) × (All Word (b .packages) × All Word (b .services)))
 
-read-bundle : Reader FitBundle (bundle-fields version (big 4) (big 4))
+pub read-bundle : Reader FitBundle (bundle-fields version (big 4) (big 4))
 read-bundle =
     read-as (λ t. record { location = t .0; region = t .1 .0; packages = t .1 .1 .0; services = t .1 .1 .1 })
     (λ b. (b .location, (b .region, (b .packages, b .services)))) (λ b. refl)
     (read-both (read-number 4) (read-both (read-number 1) (read-both read-numbers read-numbers)))
 
-abbrev FitConnection : Connection → Type 0
+abbrev pub FitConnection : Connection → Type 0
 FitConnection c =
     (c .source < 256 ^ 1)
     × ((c .target < 256 ^ 1) × (All Word (c .filter .bundles) × (FitPart (c .filter .packages) × FitPart (c .filter .services))))
 
-read-connection : Reader FitConnection (connection-fields version (big 4) (big 4))
+pub read-connection : Reader FitConnection (connection-fields version (big 4) (big 4))
 read-connection =
     read-as (λ t. record { source = t .0; target = t .1 .0; filter = record { bundles = t .1 .1 .0; packages = t .1 .1 .1 .0; services = t .1 .1 .1 .1 } })
     (λ c. (c .source, (c .target, (c .filter .bundles, (c .filter .packages, c .filter .services))))) (λ c. refl)
@@ -175,10 +140,10 @@ module _ (rs : List ℕ) (n : All (λ r. r < regions) rs) where
   fit-region : (r : ℕ) → member r rs ≡ true → r < 256 ^ 1
   fit-region r e = omega (arith, member-all (λ s. s < regions) r rs n e)
 
-  fit-bundle : (b : Bundle) → LegalBundle rs b → FitBundle b
+  pub fit-bundle : (b : Bundle) → LegalBundle rs b → FitBundle b
   fit-bundle b h = (h .location, (fit-region (b .region) (h .region), (h .packages .each, h .services .each)))
 
-  fit-connection : (c : Connection) → LegalConnection rs c → FitConnection c
+  pub fit-connection : (c : Connection) → LegalConnection rs c → FitConnection c
   fit-connection c h =
       let f = h .filter in
       let parts : FitPart (c .filter .packages) × FitPart (c .filter .services) =

@@ -5,25 +5,24 @@ use mathlib.Core.List.{List, _++_}
 use Prim.Native.Nat.{ℕ, zero, suc, _+_, _*_, _^_, _≤_, _<_}
 use native.Mathlib.Omega.{arith}
 use borrow.Author.Tests.{le-leb, leb-true, not-true}
-use lib.Dec.{leb, ltb, eqb}
+use lib.Dec.{leb, eqb}
 use lib.ListN.{length, length-append}
 use Rattle.region_graph.specs.Size.{regions, most-provided, most-listed}
 use Rattle.region_graph.specs.Lists.{All, member}
-use Rattle.region_graph.specs.Model.{Filter, Part, Connection, Numbered, NumberedPart, LegalConnection}
+use Rattle.region_graph.specs.Model.{Filter, Part, Numbered, NumberedPart}
 use Rattle.region_graph.specs.Flat.{Fields, FlatPart}
 use Rattle.region_graph.proofs.Lists.{and-yes, and-fst, and-snd, member-all, false-true, concat-length}
-use Rattle.region_graph.proofs.Ascending.{connection-order}
 use Rattle.region_archive.specs.Bounds.{part-bound}
 use Rattle.region_archive.specs.Bytes.{big}
 use Rattle.region_archive.specs.Image.{part-bytes}
 use Rattle.region_archive.specs.RecordFields.{bytes-to, SameTo, GoodTo, part-at, first-width, field-count, most-in, row-width, part-open}
 use Rattle.region_archive.specs.RecordFields.{PartGood, first-good, second-good, FieldGood, field-bytes, fields-bytes, FieldSame, FlatField}
-use Rattle.region_archive.specs.RecordFields.{FlatElem, SameFields, Elem, fields-of, record-bytes, key, most-records, element-before, LegalElem}
+use Rattle.region_archive.specs.RecordFields.{FlatElem, SameFields, Elem, fields-of, key, most-records, LegalElem}
 use Rattle.region_archive.specs.declared.record_fields.Section.{Section}
 use Rattle.region_archive.specs.declared.record_fields.Section.the-variants as Section
 use Rattle.region_archive.proofs.Pieces.{big-length}
-use Rattle.region_archive.proofs.Delimits.{Delimits, big-same, head-same, tail-same, sized-same}
-use Rattle.region_archive.proofs.Rows.{Elements, words, row-same}
+use Rattle.region_archive.proofs.Delimits.{Delimits, big-same, head-same, tail-same}
+use Rattle.region_archive.proofs.Rows.{words, row-same}
 use Rattle.region_archive.proofs.FieldLaws.{FieldKinds, to-same}
 use Rattle.region_archive.proofs.Fits.{few-fields, narrow-first}
 
@@ -88,20 +87,6 @@ module _ (s : Section) (rs : List ℕ) (floor : ℕ) where
 
   pub fields-same : Delimits (GoodTo (FieldGood s rs floor) (field-count s)) (fields-bytes s) (SameFields s)
   fields-same = to-same record-fields (field-count s)
-
--- elements with the same fields are the same
-listed-same : {xs ys : List ℕ} → Part.listed xs ≡ Part.listed ys → xs ≡ ys
-listed-same e = cc
-
-pub same-element : (s : Section) (x y : Elem s) → SameFields s (fields-of s x) (fields-of s y) → x ≡ y
-same-element Section.Bundles x y h =
-    λ i. record { location = h .0 .0 .0 .1 i; region = h .0 .0 .1 i; packages = listed-same (h .0 .1) i; services = listed-same (h .1) i }
-same-element Section.Connections x y h =
-    λ i. record {
-      source = h .0 .0 .0 .0 .1 i;
-      target = h .0 .0 .0 .1 i;
-      filter = record { bundles = listed-same (h .0 .0 .1) i; packages = h .0 .1 i; services = h .1 i };
-    }
 
 -- a part that may be everything, and one that may not
 pub open-part : (p : Part) → NumberedPart p → PartGood most-listed true p
@@ -201,36 +186,6 @@ flat-of Section.Connections row f x h g =
 pub most-small : (s : Section) → most-records s < 256
 most-small Section.Bundles = omega arith
 most-small Section.Connections = omega arith
-
--- the elements of a section: a legal element's record tells it apart, and its key is its place in the order
-module _ (rs : List ℕ) (small : All (λ r. r < regions) rs) where
-  pub element-same : (s : Section) → Delimits (LegalElem s rs) (record-bytes s) _≡_
-  element-same s = sized-same 2 (LegalElem s rs) (λ y. fields-bytes s (fields-of s y)) _≡_ one
-    where
-      one : Delimits (LegalElem s rs) (λ y. fields-bytes s (fields-of s y)) _≡_
-      one x y r t h k e =
-          let good : (z : Elem s) → LegalElem s rs z → GoodTo (FieldGood s rs 0) (field-count s) (fields-of s z) =
-          λ z l. element-good rs 0 small s z l (omega arith) in
-          let d = fields-same s rs 0 (fields-of s x) (fields-of s y) r t (good x h) (good y k) e in
-          (same-element s x y (d .0), d .1)
-
-  pub element-keyed : (s : Section) (x y : Elem s) → LegalElem s rs x → LegalElem s rs y → element-before s x y ≡ ltb (key s x) (key s y)
-  element-keyed Section.Bundles x y h g = refl
-  element-keyed Section.Connections x y h g = connection-order 256 x y (target x h) (target y g)
-    where
-      target : (c : Connection) → LegalConnection rs c → c .target < 256
-      target c l = omega (arith, member-all (λ r. r < regions) (c .target) rs small (l .target))
-
-  abbrev pub section-elements : (s : Section) → Elements (Elem s)
-  section-elements s = record {
-    good = LegalElem s rs;
-    bytes = record-bytes s;
-    before = element-before s;
-    key = key s;
-    most = most-records s;
-    same = element-same s;
-    keyed = element-keyed s;
-  }
 
 -- how long the fields of a record can be
 module _ (s : Section) (rs : List ℕ) (floor : ℕ) where

@@ -22,7 +22,8 @@ use Rattle.region_archive.proofs.Pieces.{big-length}
 use Rattle.region_archive.proofs.Delimits.{big-same}
 use Rattle.region_archive.proofs.Rows.{Elements, NoNext}
 use Rattle.region_archive.proofs.FieldLaws.{FieldKinds, to-none, to-more, to-stuck, to-all}
-use Rattle.region_archive.proofs.RecordLaws.{record-fields, fields-same, fields-small, same-bytes, element-good, section-elements}
+use Rattle.region_archive.proofs.RecordLaws.{record-fields, fields-same, fields-small, same-bytes, element-good}
+use Rattle.region_archive.proofs.Records.{section-elements}
 
 -- what a section is read from: its kind, the regions of the graph, and the bytes
 pub record Source : Type 0 where

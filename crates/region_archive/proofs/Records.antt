@@ -1,21 +1,29 @@
 -- The records of an archive as their fields in order are the records of the image.
-use mathlib.Core.Path.{_≡_, sym, ap}
+use mathlib.Core.Path.{_≡_, refl, sym, ap, subst}
 use mathlib.Core.List.{List, [], _++_, append-assoc}
 use Prim.Native.Nat.{ℕ, zero, suc, _-_, _≤_, _<_}
 use native.Mathlib.Omega.{arith}
+use lib.Dec.{ltb}
 use lib.ListN.{length, getD}
-use Rattle.region_graph.specs.Model.{Model, Bundle, Connection, Part, Legal}
+use Rattle.region_graph.specs.Size.{regions}
+use Rattle.region_graph.specs.Lists.{All}
+use Rattle.region_graph.specs.Model.{Model, Bundle, Connection, Part, LegalBundle, LegalConnection, Legal}
 use Rattle.region_graph.specs.Flat.{Fields}
 use Rattle.region_graph.specs.Record.{part-in}
 use Rattle.region_graph.specs.declared.numbers.Numbers.{Numbers}
+use Rattle.region_graph.proofs.Lists.{member-all}
+use Rattle.region_graph.proofs.Ascending.{connection-order}
 use Rattle.region_graph.proofs.Arrays.{getD-map-in}
 use Rattle.region_archive.specs.Bytes.{big, counted, sized}
 use Rattle.region_archive.specs.Image.{version, part-bytes, bundle-fields, connection-fields, body}
 use Rattle.region_archive.specs.RecordFields.{field-bytes, fields-bytes, first-width, Elem, fields-of, fields-in, ValuesAre}
-use Rattle.region_archive.specs.RecordFields.{record-bytes, section-bytes, elements, SectionRow}
+use Rattle.region_archive.specs.RecordFields.{record-bytes, section-bytes, elements, key, most-records, element-before, LegalElem, SectionRow}
 use Rattle.region_archive.specs.declared.record_fields.FieldValues.{FieldValues}
 use Rattle.region_archive.specs.declared.record_fields.Section.{Section}
 use Rattle.region_archive.specs.declared.record_fields.Section.the-variants as Section
+use Rattle.region_archive.proofs.Delimits.{Delimits, reader-same}
+use Rattle.region_archive.proofs.Readers.{read-where, read-sized, read-bundle, read-connection, fit-bundle, fit-connection}
+use Rattle.region_archive.proofs.Rows.{Elements}
 use Rattle.region_archive.proofs.RecordLaws.{same-bytes}
 
 -- a bundle's record is the length of its four fields and the fields
@@ -31,6 +39,35 @@ connection-record c = ap (λ (l : List ℕ). big 2 (length l) ++ l) fields
   where
     fields : fields-bytes Section.Connections (fields-of Section.Connections c) ≡ connection-fields version (big 4) (big 4) c
     fields = simp append-assoc
+
+-- the elements of a section: a legal element's record tells it apart, and its key is its place in the order
+module _ (rs : List ℕ) (small : All (λ r. r < regions) rs) where
+  pub element-same : (s : Section) → Delimits (LegalElem s rs) (record-bytes s) _≡_
+  element-same Section.Bundles =
+      subst (λ (f : Bundle → List ℕ). Delimits (LegalBundle rs) f _≡_) (λ i b. sym (bundle-record b) i)
+      (reader-same (LegalBundle rs) (sized 2 (bundle-fields version (big 4) (big 4))) (read-where (fit-bundle rs small) (read-sized 2 read-bundle)))
+  element-same Section.Connections =
+      subst (λ (f : Connection → List ℕ). Delimits (LegalConnection rs) f _≡_) (λ i c. sym (connection-record c) i)
+      (reader-same (LegalConnection rs) (sized 2 (connection-fields version (big 4) (big 4)))
+      (read-where (fit-connection rs small) (read-sized 2 read-connection)))
+
+  pub element-keyed : (s : Section) (x y : Elem s) → LegalElem s rs x → LegalElem s rs y → element-before s x y ≡ ltb (key s x) (key s y)
+  element-keyed Section.Bundles x y h g = refl
+  element-keyed Section.Connections x y h g = connection-order 256 x y (target x h) (target y g)
+    where
+      target : (c : Connection) → LegalConnection rs c → c .target < 256
+      target c l = omega (arith, member-all (λ r. r < regions) (c .target) rs small (l .target))
+
+  abbrev pub section-elements : (s : Section) → Elements (Elem s)
+  section-elements s = record {
+    good = LegalElem s rs;
+    bytes = record-bytes s;
+    before = element-before s;
+    key = key s;
+    most = most-records s;
+    same = element-same s;
+    keyed = element-keyed s;
+  }
 
 -- a body is the regions and the two sections
 pub body-sections : (m : Model)

@@ -15,14 +15,14 @@ use Rattle.region_graph.proofs.FlatModels.{flat-made}
 use Rattle.region_archive.specs.Bytes.{big, counted}
 use Rattle.region_archive.specs.Image.{body}
 use Rattle.region_archive.specs.Parsing.{Parsed, Unparsed}
-use Rattle.region_archive.specs.RecordFields.{Elem, SectionRow, record-bytes, section-bytes, elements}
-use Rattle.region_archive.specs.Sections.{RegionRow, RegionsRead, SectionRead, BodyRead, whole, broken}
+use Rattle.region_archive.specs.RecordFields.{Elem, LegalElems, record-bytes, section-bytes, elements}
+use Rattle.region_archive.specs.Sections.{LegalRegions, RegionsRead, SectionRead, BodyRead, whole, broken}
 use Rattle.region_archive.specs.declared.record_fields.Section.{Section}
 use Rattle.region_archive.specs.declared.record_fields.Section.the-variants as Section
 use Rattle.region_archive.specs.declared.sections.RegionsAt.{RegionsAt}
 use Rattle.region_archive.specs.declared.sections.SectionAt.{SectionAt}
-use Rattle.region_archive.proofs.Rows.{region-bytes, row-same}
-use Rattle.region_archive.proofs.Records.{body-sections, legal-row, section-elements}
+use Rattle.region_archive.proofs.CountedLists.{region-bytes, counted-same}
+use Rattle.region_archive.proofs.Records.{body-sections, legal-elements, section-elements}
 use Rattle.region_archive.proofs.OneImage.{body-same}
 
 -- what follows the regions of a body, and a body as its three sections
@@ -38,22 +38,22 @@ split m r =
 
 -- the elements xs of a section stand from `at` to `next`, or none do
 abbrev Stands : (k : Section) → List ℕ → List ℕ → ℕ → List (Elem k) → ℕ → Type 0
-Stands k rs s at xs next = Parsed (SectionRow k rs) (counted (record-bytes k)) s at xs next
+Stands k rs s at xs next = Parsed (LegalElems k rs) (counted (record-bytes k)) s at xs next
 
 abbrev Missing : Section → List ℕ → List ℕ → ℕ → Type 0
-Missing k rs s at = Unparsed (SectionRow k rs) (counted (record-bytes k)) s at
+Missing k rs s at = Unparsed (LegalElems k rs) (counted (record-bytes k)) s at
 
-pub no-regions : (s : List ℕ) (at : ℕ) → Unparsed RegionRow (counted (big 1)) s at → Unparsed Legal body s at
+pub no-regions : (s : List ℕ) (at : ℕ) → Unparsed LegalRegions (counted (big 1)) s at → Unparsed Legal body s at
 no-regions s at u m r h e = u (m .regions) (later m r) (h .regions-legal) (e ∙ split m r)
 
 module _ {s : List ℕ} {at : ℕ} where
-  module _ {rs : List ℕ} {mid : ℕ} (p : Parsed RegionRow (counted (big 1)) s at rs mid) where
+  module _ {rs : List ℕ} {mid : ℕ} (p : Parsed LegalRegions (counted (big 1)) s at rs mid) where
     past-regions : (m : Model) (r : List ℕ) → Legal m → drop at s ≡ body m ++ r → (rs ≡ m .regions) × (drop mid s ≡ later m r)
     past-regions m r h e =
-        row-same region-bytes rs (m .regions) (drop mid s) (later m r) (p .is-good) (h .regions-legal) (sym (p .shape) ∙ e ∙ split m r)
+        counted-same region-bytes rs (m .regions) (drop mid s) (later m r) (p .is-good) (h .regions-legal) (sym (p .shape) ∙ e ∙ split m r)
 
-    row-here : (k : Section) (m : Model) → Legal m → rs ≡ m .regions → SectionRow k rs (elements k m)
-    row-here k m h e = subst (λ (l : List ℕ). SectionRow k l (elements k m)) (sym e) (legal-row k m h)
+    row-here : (k : Section) (m : Model) → Legal m → rs ≡ m .regions → LegalElems k rs (elements k m)
+    row-here k m h e = subst (λ (l : List ℕ). LegalElems k l (elements k m)) (sym e) (legal-elements k m h)
 
     no-bundles : Missing Section.Bundles rs s mid → Unparsed Legal body s at
     no-bundles u m r h e =
@@ -65,7 +65,7 @@ module _ {s : List ℕ} {at : ℕ} where
       no-connections u m r h e =
           let d = past-regions m r h e in
           let f =
-          row-same (section-elements rs (p .is-good .each) Section.Bundles) bs (m .bundles) (drop to s) (section-bytes Section.Connections m ++ r)
+          counted-same (section-elements rs (p .is-good .each) Section.Bundles) bs (m .bundles) (drop to s) (section-bytes Section.Connections m ++ r)
           (q .is-good) (row-here Section.Bundles m h (d .0)) (sym (q .shape) ∙ d .1) in
           u (m .connections) r (row-here Section.Connections m h (d .0)) (f .1)
 

@@ -6,7 +6,7 @@ pub mod Writes
 pub mod Fits
 pub mod Placed
 pub mod CountedReads
-pub mod Rows
+pub mod CountedLists
 pub mod FieldLaws
 pub mod RecordLaws
 pub mod Records

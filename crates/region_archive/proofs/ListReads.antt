@@ -17,7 +17,7 @@ use Rattle.region_archive.specs.RecordFields.{PartGood}
 use Rattle.region_archive.proofs.Delimits.{head-same}
 use Rattle.region_archive.proofs.Digits.{drop-byte}
 use Rattle.region_archive.proofs.CountedReads.{take-set}
-use Rattle.region_archive.proofs.Rows.{Going, NoNext, words, going-none, going-more, row-found, row-stuck}
+use Rattle.region_archive.proofs.CountedLists.{Going, NoNext, words, going-none, going-more, counted-found, counted-stuck}
 
 drop-set : {A : Type 0} (l : List A) (n : ℕ) (x : A) → drop 1 (set l (n + 1) x) ≡ set (drop 1 l) n x
 drop-set l n x =
@@ -54,12 +54,12 @@ module _ {most : ℕ} {s : List ℕ} {mid total size n : ℕ} {row : List ℕ} {
     pub list-end : n ≡ total → ParsedInto (Numbered most) (counted (big 4)) s at (λ xs. FlatPart row 0 (Part.listed xs)) to
     list-end f = record {
       value = take n (drop 1 row);
-      parsed = row-found (words most) small a e (g .going) (long ∙ f);
+      parsed = counted-found (words most) small a e (g .going) (long ∙ f);
       put = (g .first ∙ sym (long ∙ f), ap (λ (k : ℕ). take k (drop 1 row)) long);
     }
 
     pub list-stuck : n < total → NoNext (words most) s to least → Unparsed (Numbered most) (counted (big 4)) s at
-    list-stuck h u = row-stuck (words most) small a e (g .going) (omega (arith, long)) u
+    list-stuck h u = counted-stuck (words most) small a e (g .going) (omega (arith, long)) u
 
 -- the first byte is not that of the sign
 pub not-everything : (s : List ℕ) (at : ℕ) → (at < length s → getD s at 0 ≡ 255 → ⊥) → (r : List ℕ) → drop at s ≡ 255 ∷ r → ⊥

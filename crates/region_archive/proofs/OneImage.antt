@@ -22,7 +22,7 @@ use Rattle.region_archive.specs.declared.record_fields.Section.the-varia
 use Rattle.region_archive.proofs.Pieces.{big-length}
 use Rattle.region_archive.proofs.Delimits.{Delimits, reader-same, word-bytes}
 use Rattle.region_archive.proofs.RecordLaws.{open-part, part-length}
-use Rattle.region_archive.proofs.Records.{bundle-record, connection-record, legal-row}
+use Rattle.region_archive.proofs.Records.{bundle-record, connection-record, legal-elements}
 use Rattle.region_archive.proofs.Images.{body-size, image-size}
 use Rattle.region_archive.proofs.Readers.{read-body}
 
@@ -77,7 +77,7 @@ record-most Section.Connections rs c h =
 -- nor does a section than its records
 section-most : (k : Section) (m : Model) → Legal m → length (section-bytes k m) ≤ 1 + most-records k * record-limit k
 section-most k m h =
-    let r = legal-row k m h in
+    let r = legal-elements k m h in
     let sum = concat-most (LegalElem k (m .regions)) (record-bytes k) (record-limit k) (record-most k (m .regions)) (elements k m) (r .each) in
     omega (arith, sum, mul-le-mul-right (record-limit k) (r .few))
 

@@ -16,11 +16,11 @@ use Rattle.region_graph.proofs.Lists.{all-map, all-join, all-rest}
 use Rattle.region_graph.proofs.Ascending.{Strict, Rising, rising-ascends, ascends-rising, strict-numbers, strict-bundles, strict-connections}
 use Rattle.region_graph.proofs.Legal.{legal-nothing, legal-run, Words, PartWords}
 use Rattle.region_graph.proofs.Storing.{stores-valid}
-use Rattle.region_archive.specs.RecordFields.{Elem, most-records, element-before, LegalElem, SectionRow, elements}
-use Rattle.region_archive.specs.Sections.{RegionRow}
+use Rattle.region_archive.specs.RecordFields.{Elem, most-records, element-before, LegalElem, LegalElems, elements}
+use Rattle.region_archive.specs.Sections.{LegalRegions}
 use Rattle.region_archive.specs.declared.record_fields.Section.{Section}
 use Rattle.region_archive.specs.declared.record_fields.Section.the-variants as Section
-use Rattle.region_archive.proofs.Records.{legal-row}
+use Rattle.region_archive.proofs.Records.{legal-elements}
 use Rattle.region_archive.proofs.Taking.{filled, call, only, region-taken, region-joined, taken, joined}
 
 -- calls one after the other
@@ -52,8 +52,8 @@ module _ {A : Type 0} {before : A → A → Bool} (strict : Strict before) (good
       let P : A → Type 0 = λ z. before x z ≡ true in
       ((all-front P xs (y ∷ ys) (r .0), s .0), (all-rest P xs (y ∷ ys) (r .0) .0, s .1))
 
-  row-at : (xs : List A) (y : A) (ys : List A) → Sorted before good most (xs ++ (y ∷ ys)) → Last xs y
-  row-at xs y ys r =
+  last-at : (xs : List A) (y : A) (ys : List A) → Sorted before good most (xs ++ (y ∷ ys)) → Last xs y
+  last-at xs y ys r =
       let s = rising-split xs y ys (ascends-rising before strict (xs ++ (y ∷ ys)) (r .ascend)) in
       let n : length xs < most = omega (arith, r .few, length-append xs (y ∷ ys)) in
       record {
@@ -70,11 +70,11 @@ module _ {A : Type 0} {before : A → A → Bool} (strict : Strict before) (good
     fills xs [] r = ap with (sym (append-nil xs))
     fills xs (y ∷ ys) r =
         let e : (xs ++ (y ∷ [])) ++ ys ≡ xs ++ (y ∷ ys) = append-assoc xs (y ∷ []) ys in
-        ap (λ (m : Model). run m (map call ys)) (step xs y (row-at xs y ys r))
+        ap (λ (m : Model). run m (map call ys)) (step xs y (last-at xs y ys r))
         ∙ fills (xs ++ (y ∷ [])) ys (subst (Sorted before good most) (sym e) r) ∙ ap with e
 
 -- the regions, added in order
-regions-fill : (rs : List ℕ) → RegionRow rs → run nothing (map Call.add-region rs) ≡ only rs
+regions-fill : (rs : List ℕ) → LegalRegions rs → run nothing (map Call.add-region rs) ≡ only rs
 regions-fill rs r =
     fills strict-numbers (λ n. n < regions) regions only Call.add-region
     (λ xs x l. region-joined xs x (l .rises) (region-taken xs x (l .rises) (l .is-good))) [] rs r
@@ -84,7 +84,7 @@ strict-section Section.Bundles = strict-bundles
 strict-section Section.Connections = strict-connections
 
 -- the elements of a section, handed to its call in order
-section-fill : (k : Section) (m : Model) (xs : List (Elem k)) → All (λ r. r < regions) (m .regions) → SectionRow k (m .regions) xs
+section-fill : (k : Section) (m : Model) (xs : List (Elem k)) → All (λ r. r < regions) (m .regions) → LegalElems k (m .regions) xs
     → run (filled k m []) (map (call k) xs) ≡ filled k m xs
 section-fill k m xs small r =
     fills (strict-section k) (LegalElem k (m .regions)) (most-records k) (filled k m) (call k)
@@ -130,7 +130,7 @@ legal-reached m l =
     fills-of k = map (call k) (elements k m)
 
     fill : (k : Section) → run (filled k m []) (fills-of k) ≡ filled k m (elements k m)
-    fill k = section-fill k m (elements k m) (l .regions-legal .each) (legal-row k m l)
+    fill k = section-fill k m (elements k m) (l .regions-legal .each) (legal-elements k m l)
 
     add-words : (rs : List ℕ) → All Words (map Call.add-region rs)
     add-words [] = tt
@@ -139,7 +139,7 @@ legal-reached m l =
     section-words : (k : Section) → All Words (fills-of k)
     section-words k =
         all-mapped (call k) Words (elements k m)
-        (all-map (LegalElem k (m .regions)) (λ x. Words (call k x)) (words k (m .regions)) (elements k m) (legal-row k m l .each))
+        (all-map (LegalElem k (m .regions)) (λ x. Words (call k x)) (words k (m .regions)) (elements k m) (legal-elements k m l .each))
 
 -- a model is legal exactly when some calls from nothing give it
 pub legal-reachable : (m : Model) → Legal m ↔ Reached (λ n. n) m

@@ -22,7 +22,7 @@ use Rattle.region_archive.specs.declared.record_fields.Section.{Section}
 use Rattle.region_archive.specs.declared.record_fields.Section.the-variants as Section
 use Rattle.region_archive.proofs.Pieces.{big-length}
 use Rattle.region_archive.proofs.Delimits.{Delimits, big-same, head-same, tail-same}
-use Rattle.region_archive.proofs.Rows.{words, row-same}
+use Rattle.region_archive.proofs.CountedLists.{words, counted-same}
 use Rattle.region_archive.proofs.FieldLaws.{FieldKinds, to-same}
 use Rattle.region_archive.proofs.Fits.{few-fields, narrow-first}
 
@@ -30,7 +30,7 @@ use Rattle.region_archive.proofs.Fits.{few-fields, narrow-first}
 module _ (most : ℕ) (few : most ≤ most-listed) (all : Bool) where
   pub part-same : Delimits (PartGood most all) (part-bytes (big 4)) _≡_
   part-same (Part.listed xs) (Part.listed ys) r t h k e =
-      let d = row-same (words most) xs ys r t h k e in
+      let d = counted-same (words most) xs ys r t h k e in
       (ap Part.listed (d .0), d .1)
   part-same (Part.listed xs) Part.everything r t h k e = absurd (omega (arith, h .few, head-same e))
   part-same Part.everything (Part.listed ys) r t h k e = absurd (omega (arith, k .few, head-same e))

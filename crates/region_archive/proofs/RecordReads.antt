@@ -20,7 +20,7 @@ use Rattle.region_archive.specs.declared.sections.FieldAt.{FieldAt}
 use Rattle.region_archive.specs.declared.sections.LengthAt.{LengthAt}
 use Rattle.region_archive.proofs.Pieces.{big-length}
 use Rattle.region_archive.proofs.Delimits.{big-same}
-use Rattle.region_archive.proofs.Rows.{Elements, NoNext}
+use Rattle.region_archive.proofs.CountedLists.{Elements, NoNext}
 use Rattle.region_archive.proofs.FieldLaws.{FieldKinds, to-none, to-more, to-stuck, to-all}
 use Rattle.region_archive.proofs.RecordLaws.{record-fields, fields-same, fields-small, same-bytes, element-good}
 use Rattle.region_archive.proofs.Records.{section-elements}

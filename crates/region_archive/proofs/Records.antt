@@ -17,13 +17,13 @@ use Rattle.region_graph.proofs.Arrays.{getD-map-in}
 use Rattle.region_archive.specs.Bytes.{big, counted, sized}
 use Rattle.region_archive.specs.Image.{version, part-bytes, bundle-fields, connection-fields, body}
 use Rattle.region_archive.specs.RecordFields.{field-bytes, fields-bytes, first-width, Elem, fields-of, fields-in, ValuesAre}
-use Rattle.region_archive.specs.RecordFields.{record-bytes, section-bytes, elements, key, most-records, element-before, LegalElem, SectionRow}
+use Rattle.region_archive.specs.RecordFields.{record-bytes, section-bytes, elements, key, most-records, element-before, LegalElem, LegalElems}
 use Rattle.region_archive.specs.declared.record_fields.FieldValues.{FieldValues}
 use Rattle.region_archive.specs.declared.record_fields.Section.{Section}
 use Rattle.region_archive.specs.declared.record_fields.Section.the-variants as Section
 use Rattle.region_archive.proofs.Delimits.{Delimits, reader-same}
 use Rattle.region_archive.proofs.Readers.{read-where, read-sized, read-bundle, read-connection, fit-bundle, fit-connection}
-use Rattle.region_archive.proofs.Rows.{Elements}
+use Rattle.region_archive.proofs.CountedLists.{Elements}
 use Rattle.region_archive.proofs.RecordLaws.{same-bytes}
 
 -- a bundle's record is the length of its four fields and the fields
@@ -77,9 +77,9 @@ body-sections m = λ i.
     ++ (counted (λ b. sym (bundle-record b) i) (m .bundles) ++ counted (λ c. sym (connection-record c) i) (m .connections))
 
 -- a section of a legal model has its elements in order
-pub legal-row : (s : Section) (m : Model) → Legal m → SectionRow s (m .regions) (elements s m)
-legal-row Section.Bundles m h = h .bundles-legal
-legal-row Section.Connections m h = h .connections-legal
+pub legal-elements : (s : Section) (m : Model) → Legal m → LegalElems s (m .regions) (elements s m)
+legal-elements Section.Bundles m h = h .bundles-legal
+legal-elements Section.Connections m h = h .connections-legal
 
 -- a value with the fields of an element has the element's record
 pub values-record : (s : Section) (e : FieldValues) (x : Elem s) → ValuesAre s e x → sized 2 (fields-bytes s) (fields-in e) ≡ record-bytes s x

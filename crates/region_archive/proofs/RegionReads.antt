@@ -18,10 +18,10 @@ use Rattle.region_graph.proofs.Storing.{regions-back}
 use Rattle.region_graph.proofs.Views.{set-took}
 use Rattle.region_archive.specs.Bytes.{big, counted}
 use Rattle.region_archive.specs.Parsing.{Parsed, Unparsed, Answer}
-use Rattle.region_archive.specs.Sections.{RegionRow, RegionsRead}
+use Rattle.region_archive.specs.Sections.{LegalRegions, RegionsRead}
 use Rattle.region_archive.proofs.Delimits.{big-same}
 use Rattle.region_archive.proofs.CountedReads.{take-set}
-use Rattle.region_archive.proofs.Rows.{Going, NoNext, region-bytes, going-none, going-more, row-missing, row-found, row-stuck}
+use Rattle.region_archive.proofs.CountedLists.{Going, NoNext, region-bytes, going-none, going-more, counted-missing, counted-found, counted-stuck}
 
 -- n regions were read from `mid` to `at`, into a list and a set
 pub record Regions (s : List ℕ) (mid : ℕ) (list : List ℕ) (x at least n : ℕ) : Type 0 where
@@ -62,7 +62,7 @@ module _ {s : List ℕ} {from : ℕ} {ok : Bool} {total mid : ℕ} (a : Answer (
   pub regions-missing : ok ≡ false → {list : List ℕ} {next : ℕ} → RegionsRead s from list (record { ok = false; next = next; count = 0; set = 0 })
   regions-missing e = record {
     room = omega arith;
-    answer = record { found = λ y. false-true y; missing = λ _. row-missing region-bytes (omega arith) a e };
+    answer = record { found = λ y. false-true y; missing = λ _. counted-missing region-bytes (omega arith) a e };
     listed = λ y. false-true y;
   }
 
@@ -73,11 +73,11 @@ module _ {s : List ℕ} {from : ℕ} {ok : Bool} {total mid : ℕ} (a : Answer (
         room = room;
         answer =
             record {
-              found = λ y. let f = eqb-true n total y in subst (λ (rs : List ℕ). Parsed RegionRow (counted (big 1)) s from rs at) (those f) (whole f);
+              found = λ y. let f = eqb-true n total y in subst (λ (rs : List ℕ). Parsed LegalRegions (counted (big 1)) s from rs at) (those f) (whole f);
               missing = λ y.
                   let v = eqb-false n total y in
                   let h : n < total = omega arith in
-                  row-stuck region-bytes (omega arith) a e (w .going) (omega (arith, long)) (u h);
+                  counted-stuck region-bytes (omega arith) a e (w .going) (omega (arith, long)) (u h);
             };
         listed = λ y. those (eqb-true n total y);
       }
@@ -85,8 +85,8 @@ module _ {s : List ℕ} {from : ℕ} {ok : Bool} {total mid : ℕ} (a : Answer (
       long : length (take n list) ≡ n
       long = length-take-le n list room
 
-      whole : n ≡ total → Parsed RegionRow (counted (big 1)) s from (take n list) at
-      whole f = row-found region-bytes (omega arith) a e (w .going) (long ∙ f)
+      whole : n ≡ total → Parsed LegalRegions (counted (big 1)) s from (take n list) at
+      whole f = counted-found region-bytes (omega arith) a e (w .going) (long ∙ f)
 
       those : n ≡ total → take n list ≡ members x
       those f = sym (ap members (w .set-is) ∙ regions-back (take n list) (whole f .is-good))

@@ -22,7 +22,7 @@ use Rattle.region_archive.specs.declared.record_fields.Section.{Section}
 use Rattle.region_archive.specs.declared.record_fields.Section.the-variants as Section
 use Rattle.region_archive.specs.declared.sections.LengthAt.{LengthAt}
 use Rattle.region_archive.proofs.CountedReads.{none-into}
-use Rattle.region_archive.proofs.Rows.{Going, going-none, going-more, row-missing, row-answer}
+use Rattle.region_archive.proofs.CountedLists.{Going, going-none, going-more, counted-missing, counted-answer}
 use Rattle.region_archive.proofs.RecordLaws.{Element, element-of, flat-of, most-small, wide}
 use Rattle.region_archive.proofs.RecordReads.{Source, elements-of, FieldsRead, NoRecord, record-stands}
 
@@ -145,7 +145,7 @@ module _ (q : Source) {from : ℕ} {ok : Bool} {total mid : ℕ} (a : Answer (λ
       → SectionRead (q .section) (q .rs) (q .bytes) from rows (record { ok = false; next = next; count = 0 })
   section-missing e = record {
     room = omega arith;
-    answer = none-into (row-missing (elements-of q) (most-small (q .section)) a e);
+    answer = none-into (counted-missing (elements-of q) (most-small (q .section)) a e);
   }
 
   pub section-end : ok ≡ true → {rows last : List ℕ} {at least base n : ℕ} → Recording q mid rows at least base n → n ≤ total
@@ -154,7 +154,7 @@ module _ (q : Source) {from : ℕ} {ok : Bool} {total mid : ℕ} (a : Answer (λ
   section-end e {last = last} {base = base} w l room same u = record {
     room = room;
     answer =
-        row-answer (elements-of q) (most-small (q .section)) a e (w .going) (w .count) l
+        counted-answer (elements-of q) (most-small (q .section)) a e (w .going) (w .count) l
         (λ y. subst (λ (t : List ℕ). Flat (row-width (q .section)) (FlatElem (q .section)) (take base t) (w .elems)) (sym (same y)) (w .flat))
         (λ h. u h .none);
   }

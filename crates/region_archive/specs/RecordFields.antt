@@ -103,8 +103,8 @@ LegalElem Section.Bundles rs b = LegalBundle rs b
 LegalElem Section.Connections rs c = LegalConnection rs c
 
 -- the elements of a section of a graph with regions rs
-abbrev pub SectionRow : (s : Section) → List ℕ → List (Elem s) → Type 0
-SectionRow s rs xs = Sorted (element-before s) (LegalElem s rs) (most-records s) xs
+abbrev pub LegalElems : (s : Section) → List ℕ → List (Elem s) → Type 0
+LegalElems s rs xs = Sorted (element-before s) (LegalElem s rs) (most-records s) xs
 
 abbrev pub elements : (s : Section) → Model → List (Elem s)
 elements Section.Bundles m = m .bundles

@@ -16,7 +16,7 @@ use Rattle.region_graph.specs.Flat.{Fields, FlatPart, Flat}
 use Rattle.region_archive.specs.Bytes.{big, counted}
 use Rattle.region_archive.specs.Image.{part-bytes, body}
 use Rattle.region_archive.specs.Parsing.{Parsed, Answer, AnswerInto}
-use Rattle.region_archive.specs.RecordFields.{SameTo, GoodTo, PartGood, FieldGood, field-bytes, FieldSame, FlatField, FlatElem, record-bytes, most-in, row-width, SectionRow}
+use Rattle.region_archive.specs.RecordFields.{SameTo, GoodTo, PartGood, FieldGood, field-bytes, FieldSame, FlatField, FlatElem, record-bytes, most-in, row-width, LegalElems}
 use Rattle.region_archive.specs.declared.record_fields.Section.{Section}
 use Rattle.region_archive.specs.declared.sections.FieldAt.{FieldAt}
 use Rattle.region_archive.specs.declared.sections.LengthAt.{LengthAt}
@@ -53,18 +53,18 @@ pub record LengthRead (bytes : List ℕ) (at : ℕ) (r : LengthAt) : Type 0 wher
   pub missing : r .ok ≡ false → NoLength bytes at
 
 -- the regions were read at a place, into a list and a set
-abbrev pub RegionRow : List ℕ → Type 0
-RegionRow rs = Sorted ltb (λ r. r < regions) regions rs
+abbrev pub LegalRegions : List ℕ → Type 0
+LegalRegions rs = Sorted ltb (λ r. r < regions) regions rs
 
 pub record RegionsRead (bytes : List ℕ) (at : ℕ) (list : List ℕ) (r : RegionsAt) : Type 0 where
   pub room : r .count ≤ length list
-  pub answer : Answer RegionRow (counted (big 1)) bytes at (r .ok) (members (r .set)) (r .next)
+  pub answer : Answer LegalRegions (counted (big 1)) bytes at (r .ok) (members (r .set)) (r .next)
   pub listed : r .ok ≡ true → take (r .count) list ≡ members (r .set)
 
 -- a section was read at a place, in a graph with regions rs
 pub record SectionRead (k : Section) (rs : List ℕ) (bytes : List ℕ) (at : ℕ) (rows : List ℕ) (r : SectionAt) : Type 0 where
   pub room : r .count ≤ length rows
-  pub answer : AnswerInto (SectionRow k rs) (counted (record-bytes k)) bytes at (r .ok) (Flat (row-width k) (FlatElem k) (take (r .count) rows)) (r .next)
+  pub answer : AnswerInto (LegalElems k rs) (counted (record-bytes k)) bytes at (r .ok) (Flat (row-width k) (FlatElem k) (take (r .count) rows)) (r .next)
 
 -- a body was read at a place, to the end: the graph of the model whose body it is, or a refusal and the empty graph where it is none's
 pub data BodyRead (s : List ℕ) (at : ℕ) (r : Changed) : Type 0 where

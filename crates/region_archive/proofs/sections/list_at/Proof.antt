@@ -9,7 +9,7 @@ use Rattle.region_graph.specs.Model.{Numbered}
 use Rattle.region_archive.specs.Bytes.{big, counted}
 use Rattle.region_archive.specs.Parsing.{Unparsed}
 use Rattle.region_archive.proofs.CountedReads.{found-into, none-into}
-use Rattle.region_archive.proofs.Rows.{NoNext, words, low-next, row-missing}
+use Rattle.region_archive.proofs.CountedLists.{NoNext, words, low-next, counted-missing}
 use Rattle.region_archive.proofs.ListReads.{Numbering, numbering-start, numbering-more, list-end, list-stuck}
 use Rattle.region_archive.proofs.sections.list_at.Statement.{statement}
 use Rattle.region_archive.proofs.sections.list_at.Tie as tie
@@ -49,7 +49,8 @@ returns c =
     let small : s .args .most < 256 = omega (arith, s .pre .1 .0) in
     record {
       size = refl;
-      answer = none-into (row-missing (words (s .args .most)) small (c .before .before .count-at .ensures) (not-true _ (c .if1 .taken)));
+      answer =
+          none-into (counted-missing (words (s .args .most)) small (c .before .before .count-at .ensures) (not-true _ (c .if1 .taken)));
     }
 
 loop-holds : tie.Need-loop-holds Inv-loop μ-loop
@@ -85,7 +86,8 @@ returns-3 c =
       size = kept a;
       answer =
           none-into
-          (stuck a (c .before .before .before .before .before .loop-test .taken) (low-next (words (start a .args .most)) (r .result .number) p (c .if3 .taken)));
+          (stuck a (c .before .before .before .before .before .loop-test .taken)
+          (low-next (words (start a .args .most)) (r .result .number) p (c .if3 .taken)));
     }
 
 -- the next place of the row is there

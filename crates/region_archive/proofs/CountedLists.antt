@@ -49,8 +49,8 @@ none-left [] e = refl
 none-left (x ∷ l) e = absurd (omega arith)
 
 module _ {A : Type 0} (k : Elements A) where
-  abbrev pub Row : List A → Type 0
-  Row = Sorted (k .before) (k .good) (k .most)
+  abbrev pub InOrder : List A → Type 0
+  InOrder = Sorted (k .before) (k .good) (k .most)
 
   abbrev all-bytes : List A → List ℕ
   all-bytes = concat-map (k .bytes)
@@ -72,8 +72,8 @@ module _ {A : Type 0} (k : Elements A) where
       record { rest = b .rest; split = λ i. sym (d .0) i ∷ b .split i; left = b .left }
 
   -- a count and a list in order tell the list
-  pub row-same : Delimits Row (counted (k .bytes)) _≡_
-  row-same xs ys r t h g e =
+  pub counted-same : Delimits InOrder (counted (k .bytes)) _≡_
+  counted-same xs ys r t h g e =
       let n : length xs ≡ length ys = head-same e in
       let b = begins xs ys r t (h .each) (g .each) (omega arith) (tail-same e) in
       let z : b .rest ≡ [] = none-left (b .rest) (omega (arith, ap length (b .split) ∙ length-append xs (b .rest))) in
@@ -131,7 +131,7 @@ module _ {A : Type 0} (k : Elements A) where
             (ascends-append (k .before) xs x (y ∷ []) ∙ rw (joins, k .keyed x y (p .is-good) gy) (and-true _))
 
     -- a longer list in order has its next element at `at`
-    going-past : (ys : List A) (t : List ℕ) → length xs < length ys → Row ys → drop from s ≡ all-bytes ys ++ t → NoNext s at least → ⊥
+    going-past : (ys : List A) (t : List ℕ) → length xs < length ys → InOrder ys → drop from s ≡ all-bytes ys ++ t → NoNext s at least → ⊥
     going-past ys t h y e u =
         let b = begins xs ys (drop at s) t (g .every) (y .each) (omega arith) (sym (g .shape) ∙ e) in
         go (b .rest) (b .split) (b .left)
@@ -147,8 +147,8 @@ module _ {A : Type 0} (k : Elements A) where
   -- a count, and the list behind it
   module _ (small : k .most < 256) {s : List ℕ} {from : ℕ} {ok : Bool} {total mid : ℕ}
       (a : Answer (λ m. m ≤ k .most) (big 1) s from ok total mid) where
-    pub row-missing : ok ≡ false → Unparsed Row (counted (k .bytes)) s from
-    row-missing e xs t h f =
+    pub counted-missing : ok ≡ false → Unparsed InOrder (counted (k .bytes)) s from
+    counted-missing e xs t h f =
         let g : length xs ≡ length xs / 1 % 256 = omega (arith, h .few) in
         a .missing e (length xs) (all-bytes xs ++ t) (h .few) (f ∙ ap (λ (m : ℕ). m ∷ (all-bytes xs ++ t)) g)
 
@@ -156,26 +156,26 @@ module _ {A : Type 0} (k : Elements A) where
       byte : drop from s ≡ total ∷ drop mid s
       byte = byte-stands (omega (arith, a .found e .is-good)) (a .found e)
 
-      pub row-found : length xs ≡ total → Parsed Row (counted (k .bytes)) s from xs at
-      row-found l = record {
+      pub counted-found : length xs ≡ total → Parsed InOrder (counted (k .bytes)) s from xs at
+      counted-found l = record {
         is-good = record { few = omega (arith, a .found e .is-good); each = g .every; ascend = g .ascend };
         shape = byte ∙ (λ i. sym l i ∷ g .shape i);
         ends = omega (arith, a .found e .ends, g .ends);
         room = g .room;
       }
 
-      pub row-stuck : length xs < total → NoNext s at least → Unparsed Row (counted (k .bytes)) s from
-      row-stuck l u ys t h f =
+      pub counted-stuck : length xs < total → NoNext s at least → Unparsed InOrder (counted (k .bytes)) s from
+      counted-stuck l u ys t h f =
           let d : total ∷ drop mid s ≡ length ys ∷ (all-bytes ys ++ t) = sym byte ∙ f in
           going-past g ys t (omega (arith, head-same d)) h (tail-same d) u
 
       -- the list or none, by whether all its elements were read
-      pub row-answer : {n : ℕ} {is : List A → Type 0} → n ≡ length xs → n ≤ total → (n ≡ total → is xs) → (n < total → NoNext s at least)
-          → AnswerInto Row (counted (k .bytes)) s from (eqb n total) is at
-      row-answer {n} c l put u = record {
-        found = λ y. let f = eqb-true n total y in record { value = xs; parsed = row-found (sym c ∙ f); put = put f };
+      pub counted-answer : {n : ℕ} {is : List A → Type 0} → n ≡ length xs → n ≤ total → (n ≡ total → is xs)
+          → (n < total → NoNext s at least) → AnswerInto InOrder (counted (k .bytes)) s from (eqb n total) is at
+      counted-answer {n} c l put u = record {
+        found = λ y. let f = eqb-true n total y in record { value = xs; parsed = counted-found (sym c ∙ f); put = put f };
         missing = λ y.
             let v = eqb-false n total y in
             let f : n < total = omega arith in
-            row-stuck (omega arith) (u f);
+            counted-stuck (omega arith) (u f);
       }

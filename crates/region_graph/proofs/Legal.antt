@@ -11,11 +11,14 @@ use Rattle.region_graph.specs.Size.{regions, most-bundles, most-connecti
 use Rattle.region_graph.specs.Refusals.{not-refused}
 use Rattle.region_graph.specs.Lists.{pick, keep, exists, All, member, insert-by, ascends}
 use Rattle.region_graph.specs.Model.{Word, Sorted, Model, Bundle, Part, Connection, NumberedPart, LegalBundle, LegalConnection, Legal, nothing}
-use Rattle.region_graph.specs.Calls.{Call, Question, first-no, end-questions, questions, number, accepted, after, run, is-region, at-location, in-region, joins, touches, within, part-within, part-ascends}
+use Rattle.region_graph.specs.Calls.{Call, Question, first-no, end-questions, questions, number, accepted, after, run, is-region, at-location}
+use Rattle.region_graph.specs.Calls.{in-region, joins, touches, within, part-within, part-ascends}
 use Rattle.region_graph.specs.Places.{ShortPart}
 use Rattle.region_graph.specs.Promise.{new-part}
-use Rattle.region_graph.proofs.Lists.{eqb-sym, and-fst, and-snd, false-true, pick-yes, keep-length, exists-insert, insert-length, exists-none, all-map, all-kept, all-insert, keep-all, member-all, member-kept, other-member, and-yes}
-use Rattle.region_graph.proofs.Ascending.{Strict, Rising, or-right, ascends-rising, ascends-keep, ascends-insert, strict-numbers, strict-bundles, strict-connections, numbers-differ, connections-differ}
+use Rattle.region_graph.proofs.Lists.{eqb-sym, and-fst, and-snd, false-true, pick-yes, keep-length, exists-insert, insert-length, exists-none}
+use Rattle.region_graph.proofs.Lists.{all-map, all-kept, all-insert, keep-all, member-all, member-kept, other-member, and-yes}
+use Rattle.region_graph.proofs.Ascending.{Strict, Rising, or-right, ascends-rising, ascends-keep, ascends-insert, strict-numbers, strict-bundles}
+use Rattle.region_graph.proofs.Ascending.{strict-connections, numbers-differ, connections-differ}
 
 -- the locations and listed numbers that a call is handed have 32 bits
 abbrev pub PartWords : Part → Type 0
@@ -155,12 +158,14 @@ module _ {A : Type 0} {most : ℕ} {before : A → A → Bool} {xs : List A} whe
 few-below : (n a : ℕ) (xs : List ℕ) → All (λ x. x < n) xs → Rising ltb xs → All (λ x. a ≤ x) xs → a ≤ n → length xs + a ≤ n
 few-below n a [] h r f l = omega (arith, l)
 few-below n a (x ∷ xs) h r f l =
-    omega (arith, few-below n (x + 1) xs (h .1) (r .1) (all-map (λ y. ltb x y ≡ true) (λ y. x + 1 ≤ y) (λ y e. omega (arith, ltb-true x y e)) xs (r .0)) (omega (arith, h .0)), f .0)
+    let above = all-map (λ y. ltb x y ≡ true) (λ y. x + 1 ≤ y) (λ y e. omega (arith, ltb-true x y e)) xs (r .0) in
+    omega (arith, few-below n (x + 1) xs (h .1) (r .1) above (omega (arith, h .0)), f .0)
 
 pub below-sorted : {n : ℕ} {xs : List ℕ} → All (λ x. x < n) xs → ascends ltb xs ≡ true → Sorted ltb (λ x. x < n) n xs
 below-sorted {n} {xs} h a =
+    let above = all-map (λ x. x < n) (λ x. 0 ≤ x) (λ x l. omega arith) xs h in
     record {
-      few = omega (arith, few-below n 0 xs h (ascends-rising ltb strict-numbers xs a) (all-map (λ x. x < n) (λ x. 0 ≤ x) (λ x l. omega arith) xs h) (omega arith));
+      few = omega (arith, few-below n 0 xs h (ascends-rising ltb strict-numbers xs a) above (omega arith));
       each = h;
       ascend = a;
     }

@@ -15,7 +15,8 @@ use Rattle.region_graph.specs.declared.Item.{Item}
 use Rattle.region_graph.specs.declared.Place.{Place}
 use Rattle.region_graph.specs.declared.Place.the-variants.{Within, Nowhere}
 use Rattle.region_routes.specs.Chosen.{chosen}
-use Rattle.region_routes.specs.Hooks.{Returned, Outcome, kind-number, item, written, routed-as, kept-as, route-questions, find-questions, event-questions, judged}
+use Rattle.region_routes.specs.Hooks.{Returned, Outcome, kind-number, item, written, routed-as, kept-as, route-questions, find-questions, event-questions}
+use Rattle.region_routes.specs.Hooks.{judged}
 use Rattle.region_routes.specs.Hooks.{shown, shown-from, route-outcome, kept-outcome, sees-from, find-outcome, event-outcome}
 use Rattle.region_routes.specs.declared.Kind.{Kind}
 use Rattle.region_routes.specs.declared.Routed.the-variants as Routed

@@ -9,12 +9,12 @@ pub mod CountedReads
 pub mod CountedLists
 pub mod FieldLaws
 pub mod RecordLaws
+pub mod Readers
 pub mod Records
 pub mod Members
 pub mod Images
 pub mod Taking
 pub mod Reachable
-pub mod Readers
 pub mod OneImage
 pub mod Tested
 pub mod Longest

@@ -1,11 +1,12 @@
+-- Laws by subject, each over what stands above it.
+pub mod Parameters
+pub mod Lendable
+pub mod Records
 pub mod Calling
 pub mod Changing
-pub mod ReadBack
 pub mod Filling
-pub mod Given
-pub mod Lendable
-pub mod Names
-pub mod Outcomes
-pub mod Parameters
-pub mod Records
 pub mod Storing
+pub mod Outcomes
+pub mod Names
+pub mod ReadBack
+pub mod Given

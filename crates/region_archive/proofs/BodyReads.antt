@@ -12,11 +12,12 @@ use Rattle.region_graph.specs.Promise.{Empty}
 use Rattle.region_graph.specs.Flat.{FlatModel, Made}
 use Rattle.region_graph.specs.declared.Changed.{Changed}
 use Rattle.region_graph.proofs.FlatModels.{flat-made}
+use Rattle.region_graph.specs.Decoded.{GoodRegions}
 use Rattle.region_archive.specs.Bytes.{big, counted}
 use Rattle.region_archive.specs.Image.{body}
 use Rattle.region_archive.specs.Parsing.{Parsed, Unparsed}
 use Rattle.region_archive.specs.RecordFields.{Elem, LegalElems, record-bytes, section-bytes, elements}
-use Rattle.region_archive.specs.Sections.{LegalRegions, RegionsRead, SectionRead, BodyRead, whole, broken}
+use Rattle.region_archive.specs.Sections.{RegionsRead, SectionRead, BodyRead, whole, broken}
 use Rattle.region_archive.specs.declared.record_fields.Section.{Section}
 use Rattle.region_archive.specs.declared.record_fields.Section.the-variants as Section
 use Rattle.region_archive.specs.declared.sections.RegionsAt.{RegionsAt}
@@ -43,11 +44,11 @@ Stands k rs s at xs next = Parsed (LegalElems k rs) (counted (record-bytes k)) s
 abbrev Missing : Section → List ℕ → List ℕ → ℕ → Type 0
 Missing k rs s at = Unparsed (LegalElems k rs) (counted (record-bytes k)) s at
 
-pub no-regions : (s : List ℕ) (at : ℕ) → Unparsed LegalRegions (counted (big 1)) s at → Unparsed Legal body s at
+pub no-regions : (s : List ℕ) (at : ℕ) → Unparsed GoodRegions (counted (big 1)) s at → Unparsed Legal body s at
 no-regions s at u m r h e = u (m .regions) (later m r) (h .regions-legal) (e ∙ split m r)
 
 module _ {s : List ℕ} {at : ℕ} where
-  module _ {rs : List ℕ} {mid : ℕ} (p : Parsed LegalRegions (counted (big 1)) s at rs mid) where
+  module _ {rs : List ℕ} {mid : ℕ} (p : Parsed GoodRegions (counted (big 1)) s at rs mid) where
     past-regions : (m : Model) (r : List ℕ) → Legal m → drop at s ≡ body m ++ r → (rs ≡ m .regions) × (drop mid s ≡ later m r)
     past-regions m r h e =
         counted-same region-bytes rs (m .regions) (drop mid s) (later m r) (p .is-good) (h .regions-legal) (sym (p .shape) ∙ e ∙ split m r)

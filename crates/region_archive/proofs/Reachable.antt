@@ -16,8 +16,8 @@ use Rattle.region_graph.proofs.Lists.{all-map, all-join, all-rest}
 use Rattle.region_graph.proofs.Ascending.{Strict, Rising, rising-ascends, ascends-rising, strict-numbers, strict-bundles, strict-connections}
 use Rattle.region_graph.proofs.Legal.{legal-nothing, legal-run, Words, PartWords}
 use Rattle.region_graph.proofs.Storing.{stores-valid}
+use Rattle.region_graph.specs.Decoded.{GoodRegions}
 use Rattle.region_archive.specs.RecordFields.{Elem, most-records, element-before, LegalElem, LegalElems, elements}
-use Rattle.region_archive.specs.Sections.{LegalRegions}
 use Rattle.region_archive.specs.declared.record_fields.Section.{Section}
 use Rattle.region_archive.specs.declared.record_fields.Section.the-variants as Section
 use Rattle.region_archive.proofs.Records.{legal-elements}
@@ -74,7 +74,7 @@ module _ {A : Type 0} {before : A → A → Bool} (strict : Strict before) (good
         ∙ fills (xs ++ (y ∷ [])) ys (subst (Sorted before good most) (sym e) r) ∙ ap with e
 
 -- the regions, added in order
-regions-fill : (rs : List ℕ) → LegalRegions rs → run nothing (map Call.add-region rs) ≡ only rs
+regions-fill : (rs : List ℕ) → GoodRegions rs → run nothing (map Call.add-region rs) ≡ only rs
 regions-fill rs r =
     fills strict-numbers (λ n. n < regions) regions only Call.add-region
     (λ xs x l. region-joined xs x (l .rises) (region-taken xs x (l .rises) (l .is-good))) [] rs r

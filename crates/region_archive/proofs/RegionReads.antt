@@ -16,9 +16,10 @@ use Rattle.region_graph.proofs.Lists.{eqb-sym, false-true}
 use Rattle.region_graph.proofs.Bits.{set-none}
 use Rattle.region_graph.proofs.Storing.{regions-back}
 use Rattle.region_graph.proofs.Views.{set-took}
+use Rattle.region_graph.specs.Decoded.{GoodRegions}
 use Rattle.region_archive.specs.Bytes.{big, counted}
 use Rattle.region_archive.specs.Parsing.{Parsed, Unparsed, Answer}
-use Rattle.region_archive.specs.Sections.{LegalRegions, RegionsRead}
+use Rattle.region_archive.specs.Sections.{RegionsRead}
 use Rattle.region_archive.proofs.Delimits.{big-same}
 use Rattle.region_archive.proofs.CountedReads.{take-set}
 use Rattle.region_archive.proofs.CountedLists.{Going, NoNext, region-bytes, going-none, going-more, counted-missing, counted-found, counted-stuck}
@@ -73,7 +74,7 @@ module _ {s : List ℕ} {from : ℕ} {ok : Bool} {total mid : ℕ} (a : Answer (
         room = room;
         answer =
             record {
-              found = λ y. let f = eqb-true n total y in subst (λ (rs : List ℕ). Parsed LegalRegions (counted (big 1)) s from rs at) (those f) (whole f);
+              found = λ y. let f = eqb-true n total y in subst (λ (rs : List ℕ). Parsed GoodRegions (counted (big 1)) s from rs at) (those f) (whole f);
               missing = λ y.
                   let v = eqb-false n total y in
                   let h : n < total = omega arith in
@@ -85,7 +86,7 @@ module _ {s : List ℕ} {from : ℕ} {ok : Bool} {total mid : ℕ} (a : Answer (
       long : length (take n list) ≡ n
       long = length-take-le n list room
 
-      whole : n ≡ total → Parsed LegalRegions (counted (big 1)) s from (take n list) at
+      whole : n ≡ total → Parsed GoodRegions (counted (big 1)) s from (take n list) at
       whole f = counted-found region-bytes (omega arith) a e (w .going) (long ∙ f)
 
       those : n ≡ total → take n list ≡ members x

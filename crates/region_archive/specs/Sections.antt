@@ -3,15 +3,14 @@ use mathlib.Core.Path.{_≡_}
 use mathlib.Core.Bool.{Bool, true, false}
 use mathlib.Core.List.{List, _++_}
 use Prim.Native.Nat.{ℕ, suc, _-_, _≤_, _<_, _^_}
-use lib.Dec.{ltb}
 use lib.ListN.{length, take, drop}
-use Rattle.region_graph.specs.Size.{regions}
 use Rattle.region_graph.specs.Sets.{members}
 use Rattle.region_graph.specs.Refusals.{not-refused, broken-layout}
-use Rattle.region_graph.specs.Model.{Model, Part, Sorted, Numbered, Legal}
+use Rattle.region_graph.specs.Model.{Model, Part, Numbered, Legal}
 use Rattle.region_graph.specs.Record.{Valid, meaning}
 use Rattle.region_graph.specs.Promise.{Empty}
 use Rattle.region_graph.specs.declared.Changed.{Changed}
+use Rattle.region_graph.specs.Decoded.{GoodRegions}
 use Rattle.region_graph.specs.Flat.{Fields, FlatPart, Flat}
 use Rattle.region_archive.specs.Bytes.{big, counted}
 use Rattle.region_archive.specs.Image.{part-bytes, body}
@@ -53,12 +52,9 @@ pub record LengthRead (bytes : List ℕ) (at : ℕ) (r : LengthAt) : Type 0 wher
   pub missing : r .ok ≡ false → NoLength bytes at
 
 -- the regions were read at a place, into a list and a set
-abbrev pub LegalRegions : List ℕ → Type 0
-LegalRegions rs = Sorted ltb (λ r. r < regions) regions rs
-
 pub record RegionsRead (bytes : List ℕ) (at : ℕ) (list : List ℕ) (r : RegionsAt) : Type 0 where
   pub room : r .count ≤ length list
-  pub answer : Answer LegalRegions (counted (big 1)) bytes at (r .ok) (members (r .set)) (r .next)
+  pub answer : Answer GoodRegions (counted (big 1)) bytes at (r .ok) (members (r .set)) (r .next)
   pub listed : r .ok ≡ true → take (r .count) list ≡ members (r .set)
 
 -- a section was read at a place, in a graph with regions rs

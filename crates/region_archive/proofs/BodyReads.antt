@@ -7,16 +7,17 @@ use native.Mathlib.Omega.{arith}
 use lib.ListN.{length, take, drop, length-append, length-drop}
 use Rattle.region_graph.specs.Refusals.{broken-layout}
 use Rattle.region_graph.specs.Sets.{members}
+use Rattle.region_graph.specs.Size.{regions}
 use Rattle.region_graph.specs.Model.{Model, Bundle, Connection, Legal}
 use Rattle.region_graph.specs.Promise.{Empty}
 use Rattle.region_graph.specs.Flat.{FlatModel, Made}
 use Rattle.region_graph.specs.declared.Changed.{Changed}
 use Rattle.region_graph.proofs.FlatModels.{flat-made}
 use Rattle.region_graph.specs.Decoded.{GoodRegions}
-use Rattle.region_archive.specs.Bytes.{big, counted}
+use Rattle.big_endian.specs.Bytes.{big, counted}
 use Rattle.region_archive.specs.Image.{body}
-use Rattle.region_archive.specs.Parsing.{Parsed, Unparsed}
-use Rattle.region_archive.specs.RecordFields.{Elem, LegalElems, record-bytes, section-bytes, elements}
+use Rattle.big_endian.specs.Parsing.{Parsed, Unparsed}
+use Rattle.region_archive.specs.RecordFields.{Elem, most-records, LegalElems, record-bytes, section-bytes, elements}
 use Rattle.region_archive.specs.Sections.{RegionsRead, SectionRead, BodyRead, whole, broken}
 use Rattle.region_archive.specs.declared.record_fields.Section.{Section}
 use Rattle.region_archive.specs.declared.record_fields.Section.the-variants as Section
@@ -51,7 +52,7 @@ module _ {s : List ℕ} {at : ℕ} where
   module _ {rs : List ℕ} {mid : ℕ} (p : Parsed GoodRegions (counted (big 1)) s at rs mid) where
     past-regions : (m : Model) (r : List ℕ) → Legal m → drop at s ≡ body m ++ r → (rs ≡ m .regions) × (drop mid s ≡ later m r)
     past-regions m r h e =
-        counted-same region-bytes rs (m .regions) (drop mid s) (later m r) (p .is-good) (h .regions-legal) (sym (p .shape) ∙ e ∙ split m r)
+        counted-same region-bytes regions rs (m .regions) (drop mid s) (later m r) (p .is-good) (h .regions-legal) (sym (p .shape) ∙ e ∙ split m r)
 
     row-here : (k : Section) (m : Model) → Legal m → rs ≡ m .regions → LegalElems k rs (elements k m)
     row-here k m h e = subst (λ (l : List ℕ). LegalElems k l (elements k m)) (sym e) (legal-elements k m h)
@@ -66,7 +67,7 @@ module _ {s : List ℕ} {at : ℕ} where
       no-connections u m r h e =
           let d = past-regions m r h e in
           let f =
-          counted-same (section-elements rs (p .is-good .each) Section.Bundles) bs (m .bundles) (drop to s) (section-bytes Section.Connections m ++ r)
+          counted-same (section-elements rs (p .is-good .each) Section.Bundles) (most-records Section.Bundles) bs (m .bundles) (drop to s) (section-bytes Section.Connections m ++ r)
           (q .is-good) (row-here Section.Bundles m h (d .0)) (sym (q .shape) ∙ d .1) in
           u (m .connections) r (row-here Section.Connections m h (d .0)) (f .1)
 

@@ -1,36 +1,23 @@
--- Lists behind a count byte, of elements in order: their bytes tell them apart, and a loop reads one element after the other.
-use mathlib.Core.Path.{_≡_, refl, sym, ap, _∙_, subst}
-use mathlib.Core.Bool.{Bool, true, false, and-true}
-use mathlib.Core.List.{List, [], _∷_, _++_, append-nil, append-assoc}
-use Prim.Native.Nat.{ℕ, _+_, _/_, _%_, _≤_, _<_}
-use native.Mathlib.Numerals.{add-one}
+-- Lists behind a count byte, of at most so many elements in order.
+use mathlib.Core.Path.{_≡_, refl, sym, ap, _∙_}
+use mathlib.Core.Bool.{Bool, true, false}
+use mathlib.Core.List.{List, [], _∷_, _++_, append-nil}
+use Prim.Native.Nat.{ℕ, _/_, _%_, _≤_, _<_}
 use native.Mathlib.Omega.{arith}
-use borrow.Author.Tests.{leb-true, le-leb, eqb-true, eqb-false}
-use lib.Dec.{eqb, ltb, leb}
+use borrow.Author.Tests.{eqb-true, eqb-false}
+use lib.Dec.{eqb, ltb}
 use lib.ListN.{length, drop, length-append}
 use Rattle.region_graph.specs.Size.{regions}
-use Rattle.region_graph.specs.Lists.{All, ascends, concat-map}
 use Rattle.region_graph.specs.Model.{Word, Sorted}
-use Rattle.region_graph.proofs.Lists.{and-fst, all-join, all-rest, concat-snoc}
-use Rattle.region_graph.proofs.Ascending.{ascends-append}
-use Rattle.region_archive.specs.Bytes.{big, counted}
-use Rattle.region_archive.specs.Parsing.{Parsed, Unparsed, Answer, AnswerInto}
-use Rattle.region_archive.proofs.Delimits.{Delimits, big-same, head-same, tail-same}
+use Rattle.big_endian.specs.Bytes.{big, counted}
+use Rattle.big_endian.specs.Parsing.{Parsed, Unparsed, Answer, AnswerInto}
+use Rattle.big_endian.proofs.Delimits.{Delimits, big-same, head-same, tail-same}
+use Rattle.big_endian.proofs.Rows.{Elements, all-bytes, begins, Going, NoNext, going-past}
 use Rattle.region_archive.proofs.CountedReads.{byte-stands}
 
--- elements whose bytes tell them apart, and whose order is that of a key; a list has at most so many
-pub record Elements (A : Type 0) : Type 1 where
-  pub good : A → Type 0
-  pub bytes : A → List ℕ
-  pub before : A → A → Bool
-  pub key : A → ℕ
-  pub most : ℕ
-  pub same : Delimits good bytes _≡_
-  pub keyed : (x y : A) → good x → good y → before x y ≡ ltb (key x) (key y)
-
 -- the numbers of a list, and the regions
-abbrev pub words : ℕ → Elements ℕ
-words most = record { good = Word; bytes = big 4; before = ltb; key = λ n. n; most = most; same = big-same 4; keyed = λ x y g h. refl }
+abbrev pub words : Elements ℕ
+words = record { good = Word; bytes = big 4; before = ltb; key = λ n. n; same = big-same 4; keyed = λ x y g h. refl }
 
 abbrev pub region-bytes : Elements ℕ
 region-bytes = record {
@@ -38,7 +25,6 @@ region-bytes = record {
   bytes = big 1;
   before = ltb;
   key = λ r. r;
-  most = regions;
   same = λ x y r t h g e. big-same 1 x y r t (omega arith) (omega arith) e;
   keyed = λ x y g h. refl;
 }
@@ -48,111 +34,27 @@ none-left : {A : Type 0} (l : List A) → length l ≡ 0 → l ≡ []
 none-left [] e = refl
 none-left (x ∷ l) e = absurd (omega arith)
 
-module _ {A : Type 0} (k : Elements A) where
+module _ {A : Type 0} (k : Elements A) (most : ℕ) where
   abbrev pub InOrder : List A → Type 0
-  InOrder = Sorted (k .before) (k .good) (k .most)
-
-  abbrev all-bytes : List A → List ℕ
-  all-bytes = concat-map (k .bytes)
-
-  -- ys begins with xs, and its other elements stand at r
-  record Begins (xs ys : List A) (r t : List ℕ) : Type 0 where
-    rest : List A
-    split : ys ≡ xs ++ rest
-    left : r ≡ all-bytes rest ++ t
-
-  begins : (xs ys : List A) (r t : List ℕ) → All (k .good) xs → All (k .good) ys → length xs ≤ length ys
-      → all-bytes xs ++ r ≡ all-bytes ys ++ t → Begins xs ys r t
-  begins [] ys r t h g l e = record { rest = ys; split = refl; left = e }
-  begins (x ∷ xs) [] r t h g l e = absurd (omega arith)
-  begins (x ∷ xs) (y ∷ ys) r t h g l e =
-      let f = sym (append-assoc (k .bytes x) (all-bytes xs) r) ∙ e ∙ append-assoc (k .bytes y) (all-bytes ys) t in
-      let d = k .same x y (all-bytes xs ++ r) (all-bytes ys ++ t) (h .0) (g .0) f in
-      let b = begins xs ys r t (h .1) (g .1) (omega arith) (d .1) in
-      record { rest = b .rest; split = λ i. sym (d .0) i ∷ b .split i; left = b .left }
+  InOrder = Sorted (k .before) (k .good) most
 
   -- a count and a list in order tell the list
   pub counted-same : Delimits InOrder (counted (k .bytes)) _≡_
   counted-same xs ys r t h g e =
       let n : length xs ≡ length ys = head-same e in
-      let b = begins xs ys r t (h .each) (g .each) (omega arith) (tail-same e) in
+      let b = begins k xs ys r t (h .each) (g .each) (omega arith) (tail-same e) in
       let z : b .rest ≡ [] = none-left (b .rest) (omega (arith, ap length (b .split) ∙ length-append xs (b .rest))) in
-      (sym (b .split ∙ ap (λ (l : List A). xs ++ l) z ∙ append-nil xs), b .left ∙ ap (λ (l : List A). all-bytes l ++ t) z)
-
-  -- the elements xs were read, in order, from `from` to `at`; the next one must have at least the key `least`
-  pub record Going (s : List ℕ) (from : ℕ) (xs : List A) (at least : ℕ) : Type 0 where
-    pub every : All (k .good) xs
-    pub shape : drop from s ≡ all-bytes xs ++ drop at s
-    pub ends : at ≡ from + length (all-bytes xs)
-    pub room : at ≤ length s
-    pub ascend : ascends (k .before) xs ≡ true
-    pub next : (y : A) → k .good y → ascends (k .before) (xs ++ (y ∷ [])) ≡ leb least (k .key y)
-
-  -- no good element with such a key stands at a place
-  abbrev pub NoNext : List ℕ → ℕ → ℕ → Type 0
-  NoNext s at least = (z : A) (r : List ℕ) → k .good z → least ≤ k .key z → drop at s ≡ k .bytes z ++ r → ⊥
-
-  -- one stands there whose key is too low
-  pub low-next : {s : List ℕ} {at next least : ℕ} → (x : A) → Parsed (k .good) (k .bytes) s at x next → k .key x < least → NoNext s at least
-  low-next {s} {next = next} x p l z r h g e =
-      omega (arith, ap (k .key) (k .same x z (drop next s) r (p .is-good) h (sym (p .shape) ∙ e) .0))
-
-  pub going-none : {s : List ℕ} {from : ℕ} → from ≤ length s → Going s from [] from 0
-  going-none h = record {
-    every = tt;
-    shape = refl;
-    ends = omega arith;
-    room = h;
-    ascend = refl;
-    next = λ y g. sym (le-leb 0 (k .key y) (omega arith));
-  }
-
-  module _ {s : List ℕ} {from : ℕ} {xs : List A} {at least : ℕ} (g : Going s from xs at least) where
-    -- one element more
-    pub going-more : {x : A} {next : ℕ} → Parsed (k .good) (k .bytes) s at x next → least ≤ k .key x
-        → Going s from (xs ++ (x ∷ [])) next (k .key x + 1)
-    going-more {x} {next} p h = record {
-      every = all-join (k .good) xs (x ∷ []) (g .every) (p .is-good, tt);
-      shape =
-          g .shape ∙ ap (λ (l : List ℕ). all-bytes xs ++ l) (p .shape) ∙ sym (append-assoc (all-bytes xs) (k .bytes x) (drop next s))
-          ∙ ap (λ (l : List ℕ). l ++ drop next s) (sym (concat-snoc (k .bytes) xs x));
-      ends = rw (concat-snoc, length-append) (omega (arith, g .ends, p .ends));
-      room = p .room;
-      ascend = joins;
-      next = later;
-    }
-      where
-        joins : ascends (k .before) (xs ++ (x ∷ [])) ≡ true
-        joins = g .next x (p .is-good) ∙ le-leb least (k .key x) h
-
-        later : (y : A) → k .good y → ascends (k .before) ((xs ++ (x ∷ [])) ++ (y ∷ [])) ≡ leb (k .key x + 1) (k .key y)
-        later y gy =
-            rw (append-assoc, add-one)
-            (ascends-append (k .before) xs x (y ∷ []) ∙ rw (joins, k .keyed x y (p .is-good) gy) (and-true _))
-
-    -- a longer list in order has its next element at `at`
-    going-past : (ys : List A) (t : List ℕ) → length xs < length ys → InOrder ys → drop from s ≡ all-bytes ys ++ t → NoNext s at least → ⊥
-    going-past ys t h y e u =
-        let b = begins xs ys (drop at s) t (g .every) (y .each) (omega arith) (sym (g .shape) ∙ e) in
-        go (b .rest) (b .split) (b .left)
-      where
-        go : (l : List A) → ys ≡ xs ++ l → drop at s ≡ all-bytes l ++ t → ⊥
-        go [] f i = omega (arith, ap length f ∙ length-append xs [])
-        go (z ∷ l) f i =
-            let gz = all-rest (k .good) xs (z ∷ l) (subst (All (k .good)) f (y .each)) .0 in
-            let rises = sym (ascends-append (k .before) xs z l) ∙ ap (ascends (k .before)) (sym f) ∙ y .ascend in
-            u z (all-bytes l ++ t) gz (leb-true least (k .key z) (sym (g .next z gz) ∙ and-fst _ (ascends (k .before) (z ∷ l)) rises))
-            (i ∙ append-assoc (k .bytes z) (all-bytes l) t)
+      (sym (b .split ∙ ap (λ (l : List A). xs ++ l) z ∙ append-nil xs), b .left ∙ ap (λ (l : List A). all-bytes k l ++ t) z)
 
   -- a count, and the list behind it
-  module _ (small : k .most < 256) {s : List ℕ} {from : ℕ} {ok : Bool} {total mid : ℕ}
-      (a : Answer (λ m. m ≤ k .most) (big 1) s from ok total mid) where
+  module _ (small : most < 256) {s : List ℕ} {from : ℕ} {ok : Bool} {total mid : ℕ}
+      (a : Answer (λ m. m ≤ most) (big 1) s from ok total mid) where
     pub counted-missing : ok ≡ false → Unparsed InOrder (counted (k .bytes)) s from
     counted-missing e xs t h f =
         let g : length xs ≡ length xs / 1 % 256 = omega (arith, h .few) in
-        a .missing e (length xs) (all-bytes xs ++ t) (h .few) (f ∙ ap (λ (m : ℕ). m ∷ (all-bytes xs ++ t)) g)
+        a .missing e (length xs) (all-bytes k xs ++ t) (h .few) (f ∙ ap (λ (m : ℕ). m ∷ (all-bytes k xs ++ t)) g)
 
-    module _ (e : ok ≡ true) {xs : List A} {at least : ℕ} (g : Going s mid xs at least) where
+    module _ (e : ok ≡ true) {xs : List A} {at least : ℕ} (g : Going k s mid xs at least) where
       byte : drop from s ≡ total ∷ drop mid s
       byte = byte-stands (omega (arith, a .found e .is-good)) (a .found e)
 
@@ -164,14 +66,14 @@ module _ {A : Type 0} (k : Elements A) where
         room = g .room;
       }
 
-      pub counted-stuck : length xs < total → NoNext s at least → Unparsed InOrder (counted (k .bytes)) s from
+      pub counted-stuck : length xs < total → NoNext k s at least → Unparsed InOrder (counted (k .bytes)) s from
       counted-stuck l u ys t h f =
-          let d : total ∷ drop mid s ≡ length ys ∷ (all-bytes ys ++ t) = sym byte ∙ f in
-          going-past g ys t (omega (arith, head-same d)) h (tail-same d) u
+          let d : total ∷ drop mid s ≡ length ys ∷ (all-bytes k ys ++ t) = sym byte ∙ f in
+          going-past k g ys t (omega (arith, head-same d)) (h .each) (h .ascend) (tail-same d) u
 
       -- the list or none, by whether all its elements were read
       pub counted-answer : {n : ℕ} {is : List A → Type 0} → n ≡ length xs → n ≤ total → (n ≡ total → is xs)
-          → (n < total → NoNext s at least) → AnswerInto InOrder (counted (k .bytes)) s from (eqb n total) is at
+          → (n < total → NoNext k s at least) → AnswerInto InOrder (counted (k .bytes)) s from (eqb n total) is at
       counted-answer {n} c l put u = record {
         found = λ y. let f = eqb-true n total y in record { value = xs; parsed = counted-found (sym c ∙ f); put = put f };
         missing = λ y.

@@ -2,15 +2,18 @@
 use mathlib.Core.Path.{_≡_, refl, sym, ap, _∙_}
 use mathlib.Core.Bool.{Bool, true, false}
 use mathlib.Core.List.{List, [], _∷_, _++_}
-use Prim.Native.Nat.{ℕ, _+_, _/_, _%_, _^_, _≤_, _<_}
+use Prim.Native.Nat.{ℕ, _+_, _/_, _%_, _≤_, _<_}
 use native.Mathlib.Numerals.{add-one}
 use native.Mathlib.Omega.{arith}
 use lib.ListN.{length, take, drop, set}
 use lib.Seq.{take-suc-set}
 use Rattle.region_graph.proofs.Lists.{false-true}
-use Rattle.region_archive.specs.Bytes.{big}
-use Rattle.region_archive.specs.Parsing.{Parsed, Unparsed, Answer, ParsedInto, AnswerInto}
-use Rattle.region_archive.proofs.Delimits.{big-same}
+use Rattle.big_endian.specs.Bytes.{big}
+use Rattle.big_endian.specs.Parsing.{Parsed, Unparsed, Answer, ParsedInto, AnswerInto}
+use Rattle.big_endian.specs.Numbers.{NumberRead}
+use Rattle.big_endian.specs.declared.NumberAt.{NumberAt}
+use Rattle.big_endian.proofs.Delimits.{big-same}
+use Rattle.big_endian.proofs.NumberReads.{no-number}
 
 -- an answer that is settled
 module _ {A : Type 0} {good : A → Type 0} {bytes : A → List ℕ} {s : List ℕ} {at : ℕ} {is : A → Type 0} {next : ℕ} where
@@ -27,21 +30,23 @@ byte-stands {s = s} {n = n} {next} h p =
     p .shape ∙ ap (λ (m : ℕ). m ∷ drop next s) e
 
 -- a byte, asked to count at most so many
-module _ {most : ℕ} (small : most < 256) {s : List ℕ} {at : ℕ} {ok : Bool} {n next : ℕ}
-    (a : Answer (λ m. m < 256 ^ 1) (big 1) s at ok n next) where
-  pub count-over : most < n → {x to : ℕ} → Answer (λ m. m ≤ most) (big 1) s at false x to
-  count-over h = record { found = λ e. false-true e; missing = λ e. none ok refl }
+module _ {most : ℕ} (small : most < 256) {s : List ℕ} {at : ℕ} (inside : at ≤ length s) {q : NumberAt} (a : NumberRead s at 1 q) where
+  no-count : q .ok ≡ false → Unparsed (λ m. m ≤ most) (big 1) s at
+  no-count e z r k f = no-number (omega arith) a inside e z r (omega arith) f
+
+  pub count-over : most < q .number → {x to : ℕ} → Answer (λ m. m ≤ most) (big 1) s at false x to
+  count-over h = record { found = λ e. false-true e; missing = λ e. none (q .ok) refl }
     where
-      none : (b : Bool) → ok ≡ b → Unparsed (λ m. m ≤ most) (big 1) s at
+      none : (b : Bool) → q .ok ≡ b → Unparsed (λ m. m ≤ most) (big 1) s at
       none true e z r k f =
           let p = a .found e in
-          omega (arith, big-same 1 n z (drop next s) r (p .is-good) (omega arith) (sym (p .shape) ∙ f) .0)
-      none false e z r k f = a .missing e z r (omega arith) f
+          omega (arith, big-same 1 (q .number) z (drop (q .next) s) r (p .is-good) (omega arith) (sym (p .shape) ∙ f) .0)
+      none false e z r k f = no-count e z r k f
 
-  pub count-within : n ≤ most → Answer (λ m. m ≤ most) (big 1) s at ok n next
+  pub count-within : q .number ≤ most → Answer (λ m. m ≤ most) (big 1) s at (q .ok) (q .number) (q .next)
   count-within h = record {
     found = λ e. let p = a .found e in record { is-good = h; shape = p .shape; ends = p .ends; room = p .room };
-    missing = λ e z r k f. a .missing e z r (omega arith) f;
+    missing = no-count;
   }
 
 -- the next place of an array is set

@@ -5,9 +5,9 @@ use Prim.Native.Nat.{ℕ, zero, suc, _+_, _-_, _≤_}
 use native.Mathlib.Omega.{arith}
 use native.Mathlib.Nat.{zero-add, suc-add}
 use lib.ListN.{length, drop, length-append}
-use Rattle.region_archive.specs.Parsing.{Parsed, Unparsed}
+use Rattle.big_endian.specs.Parsing.{Parsed, Unparsed}
+use Rattle.big_endian.proofs.Delimits.{Delimits}
 use Rattle.region_archive.specs.RecordFields.{bytes-to, SameTo, GoodTo}
-use Rattle.region_archive.proofs.Delimits.{Delimits}
 
 -- fields that tell themselves apart; a field's goodness may lean on the fields before it
 pub record FieldKinds (A : Type 0) : Type 1 where

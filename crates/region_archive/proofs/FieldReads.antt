@@ -11,16 +11,16 @@ use borrow.Rule.Slice.PartMut.{putMid, post-is}
 use Rattle.region_graph.specs.Model.{Part}
 use Rattle.region_graph.specs.Flat.{Fields, FlatPart}
 use Rattle.region_graph.proofs.Lists.{false-true}
-use Rattle.region_archive.specs.Bytes.{big}
+use Rattle.big_endian.specs.Bytes.{big}
 use Rattle.region_archive.specs.Image.{part-bytes}
-use Rattle.region_archive.specs.Parsing.{Parsed, Unparsed, ParsedInto}
+use Rattle.big_endian.specs.Parsing.{Parsed, Unparsed, ParsedInto}
+use Rattle.big_endian.proofs.Delimits.{big-same}
 use Rattle.region_archive.specs.RecordFields.{SameTo, GoodTo, part-at, first-width, field-count, most-in, row-width, part-open}
 use Rattle.region_archive.specs.RecordFields.{PartGood, first-good, second-good, FieldGood, field-bytes, FieldSame, FlatField}
 use Rattle.region_archive.specs.Sections.{PartRead, FieldRead}
 use Rattle.region_archive.specs.declared.record_fields.Section.{Section}
 use Rattle.region_archive.specs.declared.record_fields.Section.the-variants as Section
 use Rattle.region_archive.specs.declared.sections.FieldAt.{FieldAt}
-use Rattle.region_archive.proofs.Delimits.{big-same}
 use Rattle.region_archive.proofs.CountedReads.{none-into}
 
 -- the two numbers

@@ -18,14 +18,14 @@ use Rattle.region_graph.specs.declared.Graph.{Graph}
 use Rattle.region_graph.specs.declared.Changed.{Changed}
 use Rattle.region_graph.proofs.Lists.{and-fst, and-snd}
 use Rattle.region_graph.proofs.Legal.{all-yes, first-no-stops, first-no-goes-on}
-use Rattle.region_archive.specs.Bytes.{big}
+use Rattle.big_endian.specs.Bytes.{big}
 use Rattle.region_archive.specs.Image.{version, body, image}
 use Rattle.region_archive.specs.File.{FileMeaning, means, means-none, is-image, read-model, opens, length-field, front-questions, read-number}
-use Rattle.region_archive.specs.Parsing.{Parsed}
+use Rattle.big_endian.specs.Parsing.{Parsed}
+use Rattle.big_endian.proofs.Digits.{drop-byte, digits-none, digits-more, digits-all}
+use Rattle.big_endian.proofs.Delimits.{head-same, word-bytes}
 use Rattle.region_archive.specs.Promise.{Reads, ReadsOver}
 use Rattle.region_archive.specs.Sections.{BodyRead, whole, broken}
-use Rattle.region_archive.proofs.Delimits.{head-same, word-bytes}
-use Rattle.region_archive.proofs.Digits.{drop-byte, digits-none, digits-more, digits-all}
 use Rattle.region_archive.proofs.CountedReads.{byte-stands}
 use Rattle.region_archive.proofs.OneImage.{image-body, one-image, image-front}
 

@@ -18,12 +18,13 @@ use Rattle.region_graph.specs.declared.numbers.Provided.{Provided}
 use Rattle.region_graph.proofs.Lists.{concat-length}
 use Rattle.region_graph.proofs.Arrays.{Filled, filled-length}
 use Rattle.region_graph.proofs.Storing.{part-back, bundles-stored, connections-stored}
-use Rattle.region_archive.specs.Bytes.{big, counted}
+use Rattle.big_endian.specs.Bytes.{big, counted}
+use Rattle.big_endian.proofs.Digits.{big-length}
 use Rattle.region_archive.specs.RecordFields.{ListFits, NumbersFit, ProvidedFits, PartFits, BundleFits, ConnectionFits}
 use Rattle.region_archive.specs.RecordFields.{first-width, field-count, elements}
 use Rattle.region_archive.specs.declared.record_fields.Section.{Section}
 use Rattle.region_archive.specs.declared.record_fields.Section.the-variants as Section
-use Rattle.region_archive.proofs.Pieces.{all-or, big-length}
+use Rattle.region_archive.proofs.Pieces.{all-or}
 
 -- a short list that is stored fits
 places-fit : (most : ℕ) (xs : List ℕ) → Short most xs → ListFits most (length xs) (number-places most xs)

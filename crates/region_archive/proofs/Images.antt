@@ -10,14 +10,14 @@ use Rattle.region_graph.specs.Refusals.{no-place}
 use Rattle.region_graph.specs.Model.{Model}
 use Rattle.region_graph.proofs.Lists.{concat-length}
 use Rattle.text_lines.specs.Written.{WrittenAt}
-use Rattle.region_archive.specs.Bytes.{big, counted}
+use Rattle.big_endian.specs.Bytes.{big, counted}
+use Rattle.big_endian.proofs.Digits.{big-length}
 use Rattle.region_archive.specs.Image.{version, body, image}
 use Rattle.region_archive.specs.RecordFields.{section-bytes}
 use Rattle.region_archive.specs.Promise.{archived, write-outcome}
 use Rattle.region_archive.specs.declared.record_fields.Section.the-variants as Section
 use Rattle.region_archive.specs.declared.Written.{Written}
 use Rattle.region_archive.specs.declared.Written.the-variants as Written
-use Rattle.region_archive.proofs.Pieces.{big-length}
 use Rattle.region_archive.proofs.Records.{body-sections}
 
 -- regions take one byte each, and one for their count

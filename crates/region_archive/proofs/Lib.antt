@@ -1,7 +1,5 @@
 -- Laws by subject, each over what stands above it.
 pub mod Pieces
-pub mod Delimits
-pub mod Digits
 pub mod Writes
 pub mod Fits
 pub mod Placed
@@ -9,14 +7,14 @@ pub mod CountedReads
 pub mod CountedLists
 pub mod FieldLaws
 pub mod RecordLaws
-pub mod Readers
+pub mod ModelReaders
 pub mod Records
 pub mod Members
 pub mod Images
 pub mod Taking
 pub mod Reachable
 pub mod OneImage
-pub mod Tested
+pub mod LegalTests
 pub mod Longest
 pub mod Meaning
 pub mod ListReads

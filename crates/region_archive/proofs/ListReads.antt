@@ -10,14 +10,15 @@ use Rattle.region_graph.specs.Size.{most-listed, everything-sign}
 use Rattle.region_graph.specs.Model.{Part, Word, Numbered}
 use Rattle.region_graph.specs.Flat.{FlatPart}
 use Rattle.region_graph.proofs.Lists.{false-true}
-use Rattle.region_archive.specs.Bytes.{big, counted}
+use Rattle.big_endian.specs.Bytes.{big, counted}
 use Rattle.region_archive.specs.Image.{part-bytes}
-use Rattle.region_archive.specs.Parsing.{Parsed, Unparsed, Answer, ParsedInto, AnswerInto}
+use Rattle.big_endian.specs.Parsing.{Parsed, Unparsed, Answer, ParsedInto, AnswerInto}
+use Rattle.big_endian.proofs.Digits.{drop-byte}
+use Rattle.big_endian.proofs.Delimits.{head-same}
+use Rattle.big_endian.proofs.Rows.{Going, NoNext, going-none, going-more}
 use Rattle.region_archive.specs.RecordFields.{PartGood}
-use Rattle.region_archive.proofs.Delimits.{head-same}
-use Rattle.region_archive.proofs.Digits.{drop-byte}
 use Rattle.region_archive.proofs.CountedReads.{take-set}
-use Rattle.region_archive.proofs.CountedLists.{Going, NoNext, words, going-none, going-more, counted-found, counted-stuck}
+use Rattle.region_archive.proofs.CountedLists.{words, counted-found, counted-stuck}
 
 drop-set : {A : Type 0} (l : List A) (n : ℕ) (x : A) → drop 1 (set l (n + 1) x) ≡ set (drop 1 l) n x
 drop-set l n x =
@@ -28,12 +29,12 @@ drop-set l n x =
 pub record Numbering (most : ℕ) (s : List ℕ) (mid total size n : ℕ) (row : List ℕ) (to least : ℕ) : Type 0 where
   pub size-is : length row ≡ size
   pub first : getD row 0 0 ≡ total
-  pub going : Going (words most) s mid (take n (drop 1 row)) to least
+  pub going : Going words s mid (take n (drop 1 row)) to least
 
 pub numbering-start : {most : ℕ} {s : List ℕ} {mid : ℕ} → mid ≤ length s → (total : ℕ) (row : List ℕ) → 1 ≤ length row
     → Numbering most s mid total (length (set row 0 total)) 0 (set row 0 total) mid 0
 numbering-start {most} h total row k =
-    record { size-is = refl; first = getD-set-same row 0 total 0 (omega arith); going = going-none (words most) h }
+    record { size-is = refl; first = getD-set-same row 0 total 0 (omega arith); going = going-none words h }
 
 module _ {most : ℕ} {s : List ℕ} {mid total size n : ℕ} {row : List ℕ} {to least : ℕ} (g : Numbering most s mid total size n row to least) where
   pub numbering-more : n + 1 < size → {x next : ℕ} → Parsed Word (big 4) s to x next → least ≤ x
@@ -42,9 +43,9 @@ module _ {most : ℕ} {s : List ℕ} {mid total size n : ℕ} {row : List ℕ} {
     size-is = length-set row (n + 1) x ∙ g .size-is;
     first = getD-set-other row (n + 1) 0 x 0 (λ e. omega arith) ∙ g .first;
     going =
-        subst (λ (xs : List ℕ). Going (words most) s mid xs next (x + 1))
+        subst (λ (xs : List ℕ). Going words s mid xs next (x + 1))
         (sym (ap (take (n + 1)) (drop-set row n x) ∙ take-set (drop 1 row) n x (omega (arith, length-drop 1 row, g .size-is))))
-        (going-more (words most) (g .going) p l);
+        (going-more words (g .going) p l);
   }
 
   module _ (small : most < 256) {at : ℕ} {ok : Bool} (a : Answer (λ m. m ≤ most) (big 1) s at ok total mid) (e : ok ≡ true) (room : n < size) where
@@ -54,12 +55,12 @@ module _ {most : ℕ} {s : List ℕ} {mid total size n : ℕ} {row : List ℕ} {
     pub list-end : n ≡ total → ParsedInto (Numbered most) (counted (big 4)) s at (λ xs. FlatPart row 0 (Part.listed xs)) to
     list-end f = record {
       value = take n (drop 1 row);
-      parsed = counted-found (words most) small a e (g .going) (long ∙ f);
+      parsed = counted-found words most small a e (g .going) (long ∙ f);
       put = (g .first ∙ sym (long ∙ f), ap (λ (k : ℕ). take k (drop 1 row)) long);
     }
 
-    pub list-stuck : n < total → NoNext (words most) s to least → Unparsed (Numbered most) (counted (big 4)) s at
-    list-stuck h u = counted-stuck (words most) small a e (g .going) (omega (arith, long)) u
+    pub list-stuck : n < total → NoNext words s to least → Unparsed (Numbered most) (counted (big 4)) s at
+    list-stuck h u = counted-stuck words most small a e (g .going) (omega (arith, long)) u
 
 -- the first byte is not that of the sign
 pub not-everything : (s : List ℕ) (at : ℕ) → (at < length s → getD s at 0 ≡ 255 → ⊥) → (r : List ℕ) → drop at s ≡ 255 ∷ r → ⊥

@@ -6,9 +6,9 @@ use lib.ListN.{length}
 use Rattle.region_graph.specs.Size.{regions, most-bundles, most-connections, most-provided, most-listed}
 use Rattle.region_graph.specs.Lists.{count-from}
 use Rattle.region_graph.specs.Model.{Model, Filter, Part, Legal}
+use Rattle.big_endian.proofs.Tested.{tested-none, tested-true, tested-false, tested-le, tested-lt, tested-both, tested-as, tested-all, tested-sorted}
 use Rattle.region_archive.specs.Image.{image}
-use Rattle.region_archive.proofs.Tested.{tested-none, tested-true, tested-false, tested-le, tested-lt, tested-both, tested-as, tested-all}
-use Rattle.region_archive.proofs.Tested.{tested-sorted, tested-numbered, tested-part, tested-bundle, tested-filter, tested-connection, tested-legal}
+use Rattle.region_archive.proofs.LegalTests.{tested-numbered, tested-part, tested-bundle, tested-filter, tested-connection, tested-legal}
 
 -- every region, as many bundles and connections as there may be, and each of their lists as long as it may be
 pub longest : Model

@@ -13,8 +13,8 @@ use Rattle.region_graph.specs.Record.{Valid, meaning}
 use Rattle.region_graph.specs.declared.Graph.{Graph}
 use Rattle.region_graph.proofs.Lists.{keep-append, keep-took, keep-left, concat-length}
 use Rattle.region_graph.proofs.Storing.{regions-stored}
-use Rattle.region_archive.specs.Bytes.{big}
-use Rattle.region_archive.proofs.Pieces.{big-length}
+use Rattle.big_endian.specs.Bytes.{big}
+use Rattle.big_endian.proofs.Digits.{big-length}
 
 -- the numbers from n on, by place
 count-length : (n k : ℕ) → length (count-from n k) ≡ k

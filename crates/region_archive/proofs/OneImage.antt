@@ -13,18 +13,18 @@ use Rattle.region_graph.specs.Model.{Model, Part, NumberedPart, Legal}
 use Rattle.region_graph.specs.Calls.{first-no}
 use Rattle.region_graph.proofs.Lists.{concat-length, concat-most}
 use Rattle.region_archive.specs.Bounds.{part-bound, bundle-bound, connection-bound}
-use Rattle.region_archive.specs.Bytes.{big, counted}
+use Rattle.big_endian.specs.Bytes.{big, counted}
+use Rattle.big_endian.proofs.Digits.{big-length}
+use Rattle.big_endian.proofs.Delimits.{Delimits, reader-same, word-bytes}
 use Rattle.region_archive.specs.Image.{part-bytes, body, image}
 use Rattle.region_archive.specs.File.{length-field, front-questions}
 use Rattle.region_archive.specs.RecordFields.{Elem, most-records, LegalElem, elements, record-bytes, section-bytes}
 use Rattle.region_archive.specs.declared.record_fields.Section.{Section}
 use Rattle.region_archive.specs.declared.record_fields.Section.the-variants as Section
-use Rattle.region_archive.proofs.Pieces.{big-length}
-use Rattle.region_archive.proofs.Delimits.{Delimits, reader-same, word-bytes}
 use Rattle.region_archive.proofs.RecordLaws.{open-part, part-length}
 use Rattle.region_archive.proofs.Records.{bundle-record, connection-record, legal-elements}
 use Rattle.region_archive.proofs.Images.{body-size, image-size}
-use Rattle.region_archive.proofs.Readers.{read-body}
+use Rattle.region_archive.proofs.ModelReaders.{read-body}
 
 -- bytes tell a legal model
 pub body-same : Delimits Legal body _≡_

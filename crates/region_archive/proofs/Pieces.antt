@@ -1,14 +1,12 @@
--- Laws of `All`, `bytes-to` and `big`, for any element.
-use mathlib.Core.Path.{_≡_, refl, sym, ap, _∙_}
+-- Laws of `All` and `bytes-to`, for any element.
+use mathlib.Core.Path.{_≡_}
 use mathlib.Core.List.{List, [], _∷_, _++_}
-use Prim.Native.Nat.{ℕ, zero, suc, _+_, _/_, _%_, _^_, _≤_, _<_}
+use Prim.Native.Nat.{ℕ, zero, suc, _+_, _≤_, _<_}
 use native.Mathlib.Numerals.{add-one}
-use native.Mathlib.Nat.{pow-suc, div-one, mod-eq-of-lt, div-div-eq-div-mul}
 use native.Mathlib.Decide.{decLt}
 use native.Mathlib.Omega.{arith}
 use lib.ListN.{length, getD, length-append}
 use Rattle.region_graph.specs.Lists.{All}
-use Rattle.region_archive.specs.Bytes.{big}
 use Rattle.region_archive.specs.RecordFields.{bytes-to}
 
 -- the element at a place, or the one that stands for those past the end
@@ -16,18 +14,6 @@ pub all-or : {A : Type 0} (P : A → Type 0) (l : List A) (i : ℕ) (d : A) → 
 all-or P [] i d h a = h
 all-or P (x ∷ l) zero d h a = a .0
 all-or P (x ∷ l) (suc i) d h a = all-or P l i d h (a .1)
-
-pub big-length : (w n : ℕ) → length (big w n) ≡ w
-big-length zero n = refl
-big-length (suc w) n = ap suc (big-length w n)
-
--- a number of one byte
-pub big-one : (n : ℕ) → n < 256 → big 1 n ≡ n ∷ []
-big-one n h = ap (λ (m : ℕ). m ∷ []) (ap (λ (m : ℕ). m % 256) (div-one n) ∙ mod-eq-of-lt h)
-
--- what is left of a number above one byte more
-pub div-next : (n k : ℕ) → n / 256 ^ k / 256 ≡ n / 256 ^ suc k
-div-next n k = div-div-eq-div-mul n (256 ^ k) 256 ∙ ap (λ (p : ℕ). n / p) (sym (pow-suc 256 k))
 
 -- the first fields of a value, in bytes
 module _ {A : Type 0} (bytes : ℕ → A → List ℕ) where

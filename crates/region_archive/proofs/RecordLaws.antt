@@ -13,15 +13,15 @@ use Rattle.region_graph.specs.Model.{Filter, Part, Numbered, NumberedPart}
 use Rattle.region_graph.specs.Flat.{Fields, FlatPart}
 use Rattle.region_graph.proofs.Lists.{and-yes, and-fst, and-snd, member-all, false-true, concat-length}
 use Rattle.region_archive.specs.Bounds.{part-bound}
-use Rattle.region_archive.specs.Bytes.{big}
+use Rattle.big_endian.specs.Bytes.{big}
+use Rattle.big_endian.proofs.Digits.{big-length}
+use Rattle.big_endian.proofs.Delimits.{Delimits, big-same, head-same, tail-same}
 use Rattle.region_archive.specs.Image.{part-bytes}
 use Rattle.region_archive.specs.RecordFields.{bytes-to, SameTo, GoodTo, part-at, first-width, field-count, most-in, row-width, part-open}
 use Rattle.region_archive.specs.RecordFields.{PartGood, first-good, second-good, FieldGood, field-bytes, fields-bytes, FieldSame, FlatField}
 use Rattle.region_archive.specs.RecordFields.{FlatElem, SameFields, Elem, fields-of, key, most-records, LegalElem}
 use Rattle.region_archive.specs.declared.record_fields.Section.{Section}
 use Rattle.region_archive.specs.declared.record_fields.Section.the-variants as Section
-use Rattle.region_archive.proofs.Pieces.{big-length}
-use Rattle.region_archive.proofs.Delimits.{Delimits, big-same, head-same, tail-same}
 use Rattle.region_archive.proofs.CountedLists.{words, counted-same}
 use Rattle.region_archive.proofs.FieldLaws.{FieldKinds, to-same}
 use Rattle.region_archive.proofs.Fits.{few-fields, narrow-first}
@@ -30,7 +30,7 @@ use Rattle.region_archive.proofs.Fits.{few-fields, narrow-first}
 module _ (most : ℕ) (few : most ≤ most-listed) (all : Bool) where
   pub part-same : Delimits (PartGood most all) (part-bytes (big 4)) _≡_
   part-same (Part.listed xs) (Part.listed ys) r t h k e =
-      let d = counted-same (words most) xs ys r t h k e in
+      let d = counted-same words most xs ys r t h k e in
       (ap Part.listed (d .0), d .1)
   part-same (Part.listed xs) Part.everything r t h k e = absurd (omega (arith, h .few, head-same e))
   part-same Part.everything (Part.listed ys) r t h k e = absurd (omega (arith, k .few, head-same e))

@@ -10,17 +10,17 @@ use lib.Seq.{length-take-le, take-at, drop-append-le}
 use Rattle.region_graph.specs.Size.{regions}
 use Rattle.region_graph.specs.Lists.{All}
 use Rattle.region_graph.specs.Flat.{Fields}
-use Rattle.region_archive.specs.Bytes.{big}
-use Rattle.region_archive.specs.Parsing.{Parsed}
+use Rattle.big_endian.specs.Bytes.{big}
+use Rattle.big_endian.specs.Parsing.{Parsed}
+use Rattle.big_endian.proofs.Digits.{big-length}
+use Rattle.big_endian.proofs.Delimits.{big-same}
+use Rattle.big_endian.proofs.Rows.{Elements, NoNext}
 use Rattle.region_archive.specs.RecordFields.{bytes-to, GoodTo, field-count, most-in, FieldGood, field-bytes, fields-bytes, FlatField}
 use Rattle.region_archive.specs.RecordFields.{Elem, SameFields, fields-of, record-bytes, LegalElem}
 use Rattle.region_archive.specs.Sections.{FieldRead, LengthStands, NoLength}
 use Rattle.region_archive.specs.declared.record_fields.Section.{Section}
 use Rattle.region_archive.specs.declared.sections.FieldAt.{FieldAt}
 use Rattle.region_archive.specs.declared.sections.LengthAt.{LengthAt}
-use Rattle.region_archive.proofs.Pieces.{big-length}
-use Rattle.region_archive.proofs.Delimits.{big-same}
-use Rattle.region_archive.proofs.CountedLists.{Elements, NoNext}
 use Rattle.region_archive.proofs.FieldLaws.{FieldKinds, to-none, to-more, to-stuck, to-all}
 use Rattle.region_archive.proofs.RecordLaws.{record-fields, fields-same, fields-small, same-bytes, element-good}
 use Rattle.region_archive.proofs.Records.{section-elements}

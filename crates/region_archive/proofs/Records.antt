@@ -14,16 +14,17 @@ use Rattle.region_graph.specs.declared.numbers.Numbers.{Numbers}
 use Rattle.region_graph.proofs.Lists.{member-all}
 use Rattle.region_graph.proofs.Ascending.{connection-order}
 use Rattle.region_graph.proofs.Arrays.{getD-map-in}
-use Rattle.region_archive.specs.Bytes.{big, counted, sized}
+use Rattle.big_endian.specs.Bytes.{big, counted, sized}
+use Rattle.big_endian.proofs.Delimits.{Delimits, reader-same}
+use Rattle.big_endian.proofs.Readers.{read-where, read-sized}
+use Rattle.big_endian.proofs.Rows.{Elements}
 use Rattle.region_archive.specs.Image.{version, part-bytes, bundle-fields, connection-fields, body}
 use Rattle.region_archive.specs.RecordFields.{field-bytes, fields-bytes, first-width, Elem, fields-of, fields-in, ValuesAre}
-use Rattle.region_archive.specs.RecordFields.{record-bytes, section-bytes, elements, key, most-records, element-before, LegalElem, LegalElems}
+use Rattle.region_archive.specs.RecordFields.{record-bytes, section-bytes, elements, key, element-before, LegalElem, LegalElems}
 use Rattle.region_archive.specs.declared.record_fields.FieldValues.{FieldValues}
 use Rattle.region_archive.specs.declared.record_fields.Section.{Section}
 use Rattle.region_archive.specs.declared.record_fields.Section.the-variants as Section
-use Rattle.region_archive.proofs.Delimits.{Delimits, reader-same}
-use Rattle.region_archive.proofs.Readers.{read-where, read-sized, read-bundle, read-connection, fit-bundle, fit-connection}
-use Rattle.region_archive.proofs.CountedLists.{Elements}
+use Rattle.region_archive.proofs.ModelReaders.{read-bundle, read-connection, fit-bundle, fit-connection}
 use Rattle.region_archive.proofs.RecordLaws.{same-bytes}
 
 -- a bundle's record is the length of its four fields and the fields
@@ -64,7 +65,6 @@ module _ (rs : List ℕ) (small : All (λ r. r < regions) rs) where
     bytes = record-bytes s;
     before = element-before s;
     key = key s;
-    most = most-records s;
     same = element-same s;
     keyed = element-keyed s;
   }

@@ -17,12 +17,13 @@ use Rattle.region_graph.proofs.Bits.{set-none}
 use Rattle.region_graph.proofs.Storing.{regions-back}
 use Rattle.region_graph.proofs.Views.{set-took}
 use Rattle.region_graph.specs.Decoded.{GoodRegions}
-use Rattle.region_archive.specs.Bytes.{big, counted}
-use Rattle.region_archive.specs.Parsing.{Parsed, Unparsed, Answer}
+use Rattle.big_endian.specs.Bytes.{big, counted}
+use Rattle.big_endian.specs.Parsing.{Parsed, Unparsed, Answer}
+use Rattle.big_endian.proofs.Delimits.{big-same}
+use Rattle.big_endian.proofs.Rows.{Going, NoNext, going-none, going-more}
 use Rattle.region_archive.specs.Sections.{RegionsRead}
-use Rattle.region_archive.proofs.Delimits.{big-same}
 use Rattle.region_archive.proofs.CountedReads.{take-set}
-use Rattle.region_archive.proofs.CountedLists.{Going, NoNext, region-bytes, going-none, going-more, counted-missing, counted-found, counted-stuck}
+use Rattle.region_archive.proofs.CountedLists.{region-bytes, counted-missing, counted-found, counted-stuck}
 
 -- n regions were read from `mid` to `at`, into a list and a set
 pub record Regions (s : List ℕ) (mid : ℕ) (list : List ℕ) (x at least n : ℕ) : Type 0 where
@@ -63,7 +64,7 @@ module _ {s : List ℕ} {from : ℕ} {ok : Bool} {total mid : ℕ} (a : Answer (
   pub regions-missing : ok ≡ false → {list : List ℕ} {next : ℕ} → RegionsRead s from list (record { ok = false; next = next; count = 0; set = 0 })
   regions-missing e = record {
     room = omega arith;
-    answer = record { found = λ y. false-true y; missing = λ _. counted-missing region-bytes (omega arith) a e };
+    answer = record { found = λ y. false-true y; missing = λ _. counted-missing region-bytes regions (omega arith) a e };
     listed = λ y. false-true y;
   }
 
@@ -78,7 +79,7 @@ module _ {s : List ℕ} {from : ℕ} {ok : Bool} {total mid : ℕ} (a : Answer (
               missing = λ y.
                   let v = eqb-false n total y in
                   let h : n < total = omega arith in
-                  counted-stuck region-bytes (omega arith) a e (w .going) (omega (arith, long)) (u h);
+                  counted-stuck region-bytes regions (omega arith) a e (w .going) (omega (arith, long)) (u h);
             };
         listed = λ y. those (eqb-true n total y);
       }
@@ -87,7 +88,7 @@ module _ {s : List ℕ} {from : ℕ} {ok : Bool} {total mid : ℕ} (a : Answer (
       long = length-take-le n list room
 
       whole : n ≡ total → Parsed GoodRegions (counted (big 1)) s from (take n list) at
-      whole f = counted-found region-bytes (omega arith) a e (w .going) (long ∙ f)
+      whole f = counted-found region-bytes regions (omega arith) a e (w .going) (long ∙ f)
 
       those : n ≡ total → take n list ≡ members x
       those f = sym (ap members (w .set-is) ∙ regions-back (take n list) (whole f .is-good))

@@ -8,8 +8,8 @@ use lib.ListN.{length, set}
 use Rattle.region_graph.specs.Lists.{concat-map}
 use Rattle.text_lines.specs.Written.{WrittenAt}
 use Rattle.text_lines.proofs.Writes.{wrote-none, wrote-then, wrote-is, wrote-before, wrote-length}
-use Rattle.region_archive.specs.Bytes.{big, counted}
-use Rattle.region_archive.proofs.Pieces.{big-one, div-next}
+use Rattle.big_endian.specs.Bytes.{big, counted}
+use Rattle.big_endian.proofs.Digits.{big-one, div-next}
 
 -- a count and the elements are a counted list
 pub wrote-counted : {A : Type 0} (f : A → List ℕ) (xs : List A) {old mid new : List ℕ} {at to end n : ℕ} {ys : List ℕ} → n ≡ length xs

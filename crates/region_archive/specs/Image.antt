@@ -2,7 +2,7 @@
 use mathlib.Core.List.{List, [], _∷_, _++_}
 use Prim.Native.Nat.{ℕ}
 use Rattle.region_graph.specs.Model.{Model, Bundle, Part, Connection}
-use Rattle.region_archive.specs.Bytes.{big, counted, sized}
+use Rattle.big_endian.specs.Bytes.{big, counted, sized}
 
 -- a part: the count 255 with no numbers means everything
 abbrev pub part-bytes : (ℕ → List ℕ) → Part → List ℕ

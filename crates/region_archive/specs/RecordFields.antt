@@ -14,7 +14,7 @@ use Rattle.region_graph.specs.declared.numbers.Numbers.{Numbers}
 use Rattle.region_graph.specs.declared.numbers.Provided.{Provided}
 use Rattle.region_graph.specs.declared.bundles.StoredBundle.{StoredBundle}
 use Rattle.region_graph.specs.declared.connections.StoredConnection.{StoredConnection}
-use Rattle.region_archive.specs.Bytes.{big, counted, sized}
+use Rattle.big_endian.specs.Bytes.{big, counted, sized}
 use Rattle.region_archive.specs.Image.{part-bytes}
 use Rattle.region_archive.specs.declared.record_fields.FieldValues.{FieldValues}
 use Rattle.region_archive.specs.declared.record_fields.Section.{Section}

@@ -12,9 +12,9 @@ use Rattle.region_graph.specs.Promise.{Empty}
 use Rattle.region_graph.specs.declared.Changed.{Changed}
 use Rattle.region_graph.specs.Decoded.{GoodRegions}
 use Rattle.region_graph.specs.Flat.{Fields, FlatPart, Flat}
-use Rattle.region_archive.specs.Bytes.{big, counted}
+use Rattle.big_endian.specs.Bytes.{big, counted}
 use Rattle.region_archive.specs.Image.{part-bytes, body}
-use Rattle.region_archive.specs.Parsing.{Parsed, Answer, AnswerInto}
+use Rattle.big_endian.specs.Parsing.{Parsed, Answer, AnswerInto}
 use Rattle.region_archive.specs.RecordFields.{SameTo, GoodTo, PartGood, FieldGood, field-bytes, FieldSame, FlatField, FlatElem, record-bytes, most-in, row-width, LegalElems}
 use Rattle.region_archive.specs.declared.record_fields.Section.{Section}
 use Rattle.region_archive.specs.declared.sections.FieldAt.{FieldAt}

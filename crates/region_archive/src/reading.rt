@@ -10,10 +10,10 @@ ghost use Rattle.region_archive.specs.Promise.{Reads, ReadsOver};
 ghost use Rattle.region_archive.specs.Sections.{BodyRead};
 use crate::FRONT;
 use crate::VERSION;
-use crate::numbers::value;
 use crate::record_fields::Section;
 use crate::sections::regions_at;
 use crate::sections::section_at;
+use big_endian::number_at;
 use region_graph::Changed;
 use region_graph::Graph;
 use region_graph::flat::BUNDLE_WIDTH;
@@ -33,12 +33,12 @@ fn front(bytes: &[u8]) -> u32
     if bytes.len() < FRONT {
         return NOT_AN_ARCHIVE;
     }
-    let first = value(bytes, 0, 1) as usize;
-    if first != VERSION {
+    let first = number_at(bytes, 0, 1);
+    if first.number as usize != VERSION {
         return NOT_AN_ARCHIVE;
     }
-    let size = value(bytes, 1, 4) as usize;
-    if size != bytes.len() - FRONT {
+    let size = number_at(bytes, 1, 4);
+    if size.number as usize != bytes.len() - FRONT {
         return WRONG_LENGTH;
     }
     NOT_REFUSED

@@ -6,7 +6,7 @@ ghost use Rattle.region_graph.specs.Size.{regions};
 ghost use Rattle.region_graph.specs.Record.{Valid, meaning, «numbers-of», «part-in»};
 ghost use Rattle.text_lines.specs.Written.{WrittenAt};
 ghost use Rattle.region_archive.specs.Bounds.{«part-bound», «fields-bound», «section-bound»};
-ghost use Rattle.region_archive.specs.Bytes.{big, counted, sized};
+ghost use Rattle.big_endian.specs.Bytes.{big, counted, sized};
 ghost use Rattle.region_archive.specs.Image.{«part-bytes»};
 ghost use Rattle.region_archive.specs.RecordFields.{NumbersFit, PartFits, ValuesFit, «fields-in», «field-bytes», «fields-bytes», «field-count», «section-bytes»};
 ghost use Rattle.region_archive.specs.Promise.{archived, «write-outcome»};

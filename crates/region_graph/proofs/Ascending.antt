@@ -143,24 +143,25 @@ connections-differ a b n e =
     go (no h) (no k) (no i) (no j) =
         false-true (sym n ∙ and-yes (eq-eqb (b .source) (a .source) (omega arith)) (eq-eqb (b .target) (a .target) (omega arith)))
 
--- the order as that of one number, where targets are below a limit
+-- an order by one number, then by another below a limit, is that of one number
+pub pair-order : (n a b c d : ℕ) → b < n → d < n → (ltb a c || (eqb a c && ltb b d)) ≡ ltb (a * n + b) (c * n + d)
+pair-order n a b c d h k = go (decLt a c) (decLt c a) (decLt b d)
+  where
+    go : Dec (a < c) → Dec (c < a) → Dec (b < d) → (ltb a c || (eqb a c && ltb b d)) ≡ ltb (a * n + b) (c * n + d)
+    go (yes l) _ _ = rw (lt-ltb a c l) (sym (lt-ltb (a * n + b) (c * n + d) (omega (arith, mul-le-mul-right n l))))
+    go (no l) (yes m) _ =
+        rw (le-ltb a c (omega arith), ne-eqb a c (λ e. omega arith)) (sym (le-ltb (a * n + b) (c * n + d) (omega (arith, mul-le-mul-right n m))))
+    go (no l) (no m) (yes t) =
+        let e : a ≡ c = omega arith in
+        rw (le-ltb a c (omega arith), eq-eqb a c e, lt-ltb b d t) (sym (lt-ltb (a * n + b) (c * n + d) (omega (arith, ap (λ (s : ℕ). s * n) e))))
+    go (no l) (no m) (no t) =
+        let e : a ≡ c = omega arith in
+        rw (le-ltb a c (omega arith), eq-eqb a c e, le-ltb b d (omega arith)) (sym (le-ltb (a * n + b) (c * n + d) (omega (arith, ap (λ (s : ℕ). s * n) e))))
+
+-- that of connections, where targets are below the limit
 pub connection-order : (n : ℕ) (a b : Connection) → a .target < n → b .target < n
     → connection-before a b ≡ ltb (a .source * n + a .target) (b .source * n + b .target)
-connection-order n a b h k = go (decLt (a .source) (b .source)) (decLt (b .source) (a .source)) (decLt (a .target) (b .target))
-  where
-    go : Dec (a .source < b .source) → Dec (b .source < a .source) → Dec (a .target < b .target)
-        → connection-before a b ≡ ltb (a .source * n + a .target) (b .source * n + b .target)
-    go (yes l) _ _ = source-before a b l ∙ sym (lt-ltb (a .source * n + a .target) (b .source * n + b .target) (omega (arith, mul-le-mul-right n l)))
-    go (no l) (yes m) _ =
-        rw (le-ltb (a .source) (b .source) (omega arith), ne-eqb (a .source) (b .source) (λ e. omega arith))
-        (sym (le-ltb (a .source * n + a .target) (b .source * n + b .target) (omega (arith, mul-le-mul-right n m))))
-    go (no l) (no m) (yes t) =
-        let e : a .source ≡ b .source = omega arith in
-        target-before a b e t ∙ sym (lt-ltb (a .source * n + a .target) (b .source * n + b .target) (omega (arith, ap (λ (s : ℕ). s * n) e)))
-    go (no l) (no m) (no t) =
-        let e : a .source ≡ b .source = omega arith in
-        rw (le-ltb (a .source) (b .source) (omega arith), eq-eqb (a .source) (b .source) e, le-ltb (a .target) (b .target) (omega arith))
-        (sym (le-ltb (a .source * n + a .target) (b .source * n + b .target) (omega (arith, ap (λ (s : ℕ). s * n) e))))
+connection-order n a b h k = pair-order n (a .source) (a .target) (b .source) (b .target) h k
 
 -- a test of each number from the second on against the one before it
 

@@ -3,6 +3,7 @@
 mod bytes;
 mod decimal;
 
+pub use bytes::has_room;
 pub use bytes::put_bytes;
 pub use decimal::put_decimal;
 pub use decimal::put_field;

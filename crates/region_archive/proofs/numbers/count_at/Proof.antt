@@ -8,5 +8,5 @@ count-at-spec =
     tie.close
     (tie.spec
     (λ c κs. search needs) (λ c. search needs)
-    (λ c. count-over (c .before .before .before .before .pre .1) (c .before .before .number-at .ensures) (c .if1 .taken))
-    (λ c. count-within (c .before .before .before .before .pre .1) (c .before .before .number-at .ensures) (c .if1 .left)))
+    (λ c. let p = c .before .before .before .before .pre in count-over (p .1) (p .0) (c .before .before .number-at .ensures) (c .if1 .taken))
+    (λ c. let p = c .before .before .before .before .pre in count-within (p .1) (p .0) (c .before .before .number-at .ensures) (c .if1 .left)))

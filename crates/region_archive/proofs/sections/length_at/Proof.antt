@@ -3,6 +3,7 @@ use native.Mathlib.Omega.{arith}
 use borrow.Author.Needs.{needs}
 use borrow.Author.Tests.{not-true, not-false}
 use Rattle.region_graph.proofs.Lists.{false-true}
+use Rattle.big_endian.proofs.NumberReads.{no-number}
 use Rattle.region_archive.proofs.RecordReads.{short-length, length-read}
 use Rattle.region_archive.proofs.sections.length_at.Statement.{statement}
 use Rattle.region_archive.proofs.sections.length_at.Tie as tie
@@ -10,7 +11,7 @@ use Rattle.region_archive.proofs.sections.length_at.Tie as tie
 returns : tie.Need-returns
 returns c =
     let r = c .before .before .number-at in
-    record { found = λ e. false-true e; missing = λ e n l h k f. r .ensures .missing (not-true _ (c .if1 .taken)) n l h f }
+    record { found = λ e. false-true e; missing = λ e n l h k f. no-number (omega arith) (r .ensures) (c .before .before .before .before .pre) (not-true _ (c .if1 .taken)) n l h f }
 
 returns-2 : tie.Need-returns-2
 returns-2 c =

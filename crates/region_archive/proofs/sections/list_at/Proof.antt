@@ -6,10 +6,12 @@ use borrow.Author.Needs.{needs}
 use borrow.Author.Tests.{not-true, not-false}
 use lib.ListN.{length, set, length-set}
 use Rattle.region_graph.specs.Model.{Numbered}
-use Rattle.region_archive.specs.Bytes.{big, counted}
-use Rattle.region_archive.specs.Parsing.{Unparsed}
+use Rattle.big_endian.specs.Bytes.{big, counted}
+use Rattle.big_endian.specs.Parsing.{Unparsed}
+use Rattle.big_endian.proofs.NumberReads.{no-number}
+use Rattle.big_endian.proofs.Rows.{NoNext, low-next}
 use Rattle.region_archive.proofs.CountedReads.{found-into, none-into}
-use Rattle.region_archive.proofs.CountedLists.{NoNext, words, low-next, counted-missing}
+use Rattle.region_archive.proofs.CountedLists.{words, counted-missing}
 use Rattle.region_archive.proofs.ListReads.{Numbering, numbering-start, numbering-more, list-end, list-stuck}
 use Rattle.region_archive.proofs.sections.list_at.Statement.{statement}
 use Rattle.region_archive.proofs.sections.list_at.Tie as tie
@@ -50,7 +52,7 @@ returns c =
     record {
       size = refl;
       answer =
-          none-into (counted-missing (words (s .args .most)) small (c .before .before .count-at .ensures) (not-true _ (c .if1 .taken)));
+          none-into (counted-missing words (s .args .most) small (c .before .before .count-at .ensures) (not-true _ (c .if1 .taken)));
     }
 
 loop-holds : tie.Need-loop-holds Inv-loop μ-loop
@@ -62,7 +64,7 @@ loop-holds c =
 
 -- the loop was left at a place where no next number stands
 stuck : (c : tie.At-loop Inv-loop μ-loop) → c .loop .n < count-of c .count-at .result .number
-    → NoNext (words (start c .args .most)) (start c .args .bytes .now) (c .loop .to) (c .loop .least)
+    → NoNext words (start c .args .bytes .now) (c .loop .to) (c .loop .least)
     → Unparsed (Numbered (start c .args .most)) (counted (big 4)) (start c .args .bytes .now) (start c .args .at)
 stuck c = list-stuck (c .loop .inv .1 .1) (few c) (count-of c .count-at .ensures) (counts c) (inside c)
 
@@ -70,7 +72,7 @@ stuck c = list-stuck (c .loop .inv .1 .1) (few c) (count-of c .count-at .ensures
 returns-2 : tie.Need-returns-2 Inv-loop μ-loop
 returns-2 c =
     let a = c .before .before .before .before in
-    let u = c .before .before .number-at .ensures .missing (not-true _ (c .if2 .taken)) in
+    let u = no-number (omega arith) (c .before .before .number-at .ensures) (a .loop .inv .1 .1 .going .room) (not-true _ (c .if2 .taken)) in
     record {
       size = kept a;
       answer = none-into (stuck a (c .before .before .before .loop-test .taken) (λ z r h l f. u z r h f));
@@ -87,7 +89,7 @@ returns-3 c =
       answer =
           none-into
           (stuck a (c .before .before .before .before .before .loop-test .taken)
-          (low-next (words (start a .args .most)) (r .result .number) p (c .if3 .taken)));
+          (low-next words (r .result .number) p (c .if3 .taken)));
     }
 
 -- the next place of the row is there
@@ -125,7 +127,7 @@ list-at-spec =
     Inv-loop μ-loop
     (λ c κs. (c .before .before .pre .0, omega (arith, c .before .before .pre .1 .0)))
     returns (λ c. search needs) (λ c. search needs) loop-holds
-    (λ c κs. (c .before .loop .inv .1 .1 .going .room, omega arith))
+    (λ c κs. search needs)
     (λ c. kept (c .before .before .before .before))
     returns-2 (λ c. search needs)
     (λ c. kept (c .before .before .before .before .before .before))

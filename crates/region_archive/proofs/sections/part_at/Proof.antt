@@ -6,7 +6,7 @@ use native.Mathlib.Omega.{arith}
 use borrow.Author.Needs.{needs}
 use lib.ListN.{drop, length-set}
 use lib.Seq.{getD-set-same}
-use Rattle.region_archive.proofs.Digits.{drop-byte}
+use Rattle.big_endian.proofs.Digits.{drop-byte}
 use Rattle.region_archive.proofs.ListReads.{part-sign, part-from-list, not-everything}
 use Rattle.region_archive.proofs.sections.part_at.Statement.{statement}
 use Rattle.region_archive.proofs.sections.part_at.Tie as tie

@@ -6,8 +6,9 @@ use borrow.Author.Needs.{needs}
 use borrow.Author.Tests.{not-true, not-false, ltb-true, ltb-false}
 use lib.ListN.{length, length-set}
 use Rattle.region_graph.specs.Size.{regions}
-use Rattle.region_archive.specs.Bytes.{big}
-use Rattle.region_archive.specs.Parsing.{Parsed}
+use Rattle.big_endian.specs.Bytes.{big}
+use Rattle.big_endian.specs.Parsing.{Parsed}
+use Rattle.big_endian.proofs.NumberReads.{no-number}
 use Rattle.region_archive.proofs.RegionReads.{Regions, regions-start, regions-missing, regions-end, regions-more, no-byte, no-region}
 use Rattle.region_archive.proofs.sections.regions_at.Statement.{statement}
 use Rattle.region_archive.proofs.sections.regions_at.Tie as tie
@@ -69,7 +70,7 @@ returns-2 c =
     (omega (arith, l .inv .0, l .inv .1 .0, l .inv .1 .1 .0, s .pre .1))
     (λ h.
     ⊎-elim (λ w. absurd (omega (arith, h, w .left)))
-    (⊎-elim (λ w. no-byte b (l .at) (l .least) (w .1 .ensures .missing (not-true _ (w .3 .taken))))
+    (⊎-elim (λ w. no-byte b (l .at) (l .least) (no-number (omega arith) (w .1 .ensures) (l .inv .1 .1 .1 .going .room) (not-true _ (w .3 .taken))))
     (⊎-elim (λ w. no-region (w .1 .ensures .found (not-false _ (w .3 .left))) (λ i. w .4 .taken))
     (λ w.
     no-region (w .1 .ensures .found (not-false _ (w .3 .left)))
@@ -84,7 +85,7 @@ regions-at-spec =
     (λ c κs. (c .before .before .pre .0, omega arith))
     (λ c. regions-missing (c .before .before .count-at .ensures) (not-true _ (c .if1 .taken)))
     (λ c. search needs) loop-holds
-    (λ c κs. (c .before .loop .inv .1 .1 .1 .going .room, omega arith))
+    (λ c κs. search needs)
     (λ c κs. search needs) (λ c κs. search needs)
     (λ c. omega (arith, head c .loop .inv .1 .0, inner c .before .loop-test .taken))
     room

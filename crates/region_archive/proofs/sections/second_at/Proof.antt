@@ -1,5 +1,7 @@
+use native.Mathlib.Omega.{arith}
 use borrow.Author.Needs.{needs}
 use borrow.Author.Tests.{not-true, not-false}
+use Rattle.big_endian.proofs.NumberReads.{no-number}
 use Rattle.region_archive.proofs.FieldReads.{second-missing, second-read}
 use Rattle.region_archive.proofs.sections.second_at.Statement.{statement}
 use Rattle.region_archive.proofs.sections.second_at.Tie as tie
@@ -14,5 +16,5 @@ second-at-spec =
     tie.close
     (tie.spec
     (λ c κs. search needs)
-    (λ c. second-missing (c .before .before .number-at .ensures .missing (not-true _ (c .if1 .taken))))
+    (λ c. second-missing (no-number (omega arith) (c .before .before .number-at .ensures) (c .before .before .before .before .before .pre .0) (not-true _ (c .if1 .taken))))
     (λ c. search needs) (λ c. search needs) (λ c κs. search needs) (λ c. search needs) returns-2)

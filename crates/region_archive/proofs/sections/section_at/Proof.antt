@@ -11,8 +11,8 @@ use lib.ListN.{length, take}
 use lib.Seq.{length-take-le}
 use Rattle.region_graph.specs.Sets.{members}
 use Rattle.region_graph.proofs.FlatLaws.{members-small}
-use Rattle.region_archive.specs.Bytes.{big}
-use Rattle.region_archive.specs.Parsing.{Answer}
+use Rattle.big_endian.specs.Bytes.{big}
+use Rattle.big_endian.specs.Parsing.{Answer}
 use Rattle.region_archive.specs.RecordFields.{field-count, row-width, most-records, key}
 use Rattle.region_archive.specs.Sections.{LengthStands}
 use Rattle.region_archive.specs.declared.record_fields.Section.{Section}

@@ -4,8 +4,8 @@ use native.Mathlib.Omega.{arith}
 use borrow.Author.Needs.{needs}
 use lib.ListN.{length}
 use Rattle.region_graph.proofs.Lists.{all-at}
+use Rattle.big_endian.proofs.Digits.{big-length}
 use Rattle.region_archive.specs.RecordFields.{PartFits, fields-in, first-width}
-use Rattle.region_archive.proofs.Pieces.{big-length}
 use Rattle.region_archive.proofs.Records.{first-field, part-field}
 use Rattle.region_archive.proofs.Fits.{few-fields, narrow-first}
 use Rattle.region_archive.proofs.writing.field_size.Statement.{statement}

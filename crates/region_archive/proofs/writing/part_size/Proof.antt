@@ -2,7 +2,7 @@ use mathlib.Core.Path.{sym, ap}
 use native.Mathlib.Omega.{arith}
 use lib.ListN.{length}
 use Rattle.region_graph.specs.Model.{Part}
-use Rattle.region_archive.specs.Bytes.{big}
+use Rattle.big_endian.specs.Bytes.{big}
 use Rattle.region_archive.specs.Image.{part-bytes}
 use Rattle.region_archive.proofs.Fits.{part-list, list-size, part-all, part-listed}
 use Rattle.region_archive.proofs.writing.part_size.Statement.{statement}

@@ -8,10 +8,10 @@ use Rattle.region_graph.specs.declared.numbers.Numbers.{Numbers}
 use Rattle.region_graph.specs.Record.{part-in}
 use Rattle.region_graph.proofs.Lists.{all-at}
 use Rattle.text_lines.proofs.Writes.{wrote-is, wrote-length}
-use Rattle.region_archive.specs.Bytes.{big}
+use Rattle.big_endian.specs.Bytes.{big}
+use Rattle.big_endian.proofs.Digits.{big-length}
 use Rattle.region_archive.specs.Image.{part-bytes}
 use Rattle.region_archive.specs.RecordFields.{PartFits, fields-in, first-width, field-bytes}
-use Rattle.region_archive.proofs.Pieces.{big-length}
 use Rattle.region_archive.proofs.Records.{first-field, second-field, part-field}
 use Rattle.region_archive.proofs.Fits.{few-fields}
 use Rattle.region_archive.proofs.writing.put_field.Statement.{statement}

@@ -8,7 +8,7 @@ use Rattle.region_graph.specs.Record.{numbers-of}
 use Rattle.region_graph.proofs.Lists.{concat-next, concat-within}
 use Rattle.text_lines.specs.Written.{WrittenAt}
 use Rattle.text_lines.proofs.Writes.{wrote-start, wrote-then, wrote-length, wrote-room}
-use Rattle.region_archive.specs.Bytes.{big, counted}
+use Rattle.big_endian.specs.Bytes.{big, counted}
 use Rattle.region_archive.proofs.Fits.{numbers-length}
 use Rattle.region_archive.proofs.Writes.{wrote-counted}
 use Rattle.region_archive.proofs.writing.put_list.Statement.{statement}

@@ -3,7 +3,7 @@ use native.Mathlib.Omega.{arith}
 use lib.ListN.{length}
 use Rattle.region_graph.specs.Model.{Part}
 use Rattle.text_lines.proofs.Writes.{wrote-is, wrote-length}
-use Rattle.region_archive.specs.Bytes.{big}
+use Rattle.big_endian.specs.Bytes.{big}
 use Rattle.region_archive.specs.Image.{part-bytes}
 use Rattle.region_archive.proofs.Fits.{part-list, part-all, part-listed}
 use Rattle.region_archive.proofs.writing.put_part.Statement.{statement}

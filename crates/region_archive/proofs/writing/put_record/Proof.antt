@@ -6,7 +6,7 @@ use borrow.Author.Needs.{needs}
 use lib.ListN.{length}
 use Rattle.text_lines.specs.Written.{WrittenAt}
 use Rattle.text_lines.proofs.Writes.{wrote-start, wrote-then, wrote-is, wrote-length, wrote-room}
-use Rattle.region_archive.specs.Bytes.{big, sized}
+use Rattle.big_endian.specs.Bytes.{big, sized}
 use Rattle.region_archive.specs.RecordFields.{bytes-to, field-bytes, fields-bytes, field-count, fields-in}
 use Rattle.region_archive.proofs.Pieces.{bytes-next, bytes-within}
 use Rattle.region_archive.proofs.writing.put_record.Statement.{statement}

@@ -9,7 +9,7 @@ use Rattle.region_graph.specs.Record.{meaning}
 use Rattle.region_graph.proofs.Lists.{concat-snoc}
 use Rattle.text_lines.specs.Written.{WrittenAt}
 use Rattle.text_lines.proofs.Writes.{wrote-start, wrote-then, wrote-is, wrote-length, wrote-room}
-use Rattle.region_archive.specs.Bytes.{big, counted}
+use Rattle.big_endian.specs.Bytes.{big, counted}
 use Rattle.region_archive.proofs.Members.{met, met-took, met-left, met-all, met-byte}
 use Rattle.region_archive.proofs.Writes.{wrote-counted}
 use Rattle.region_archive.proofs.writing.put_regions.Statement.{statement}

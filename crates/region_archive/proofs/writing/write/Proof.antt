@@ -6,7 +6,7 @@ use lib.ListN.{length}
 use Rattle.region_graph.specs.Model.{Model}
 use Rattle.region_graph.specs.Record.{meaning}
 use Rattle.text_lines.proofs.Writes.{wrote-is, wrote-then, wrote-length}
-use Rattle.region_archive.specs.Bytes.{big, counted}
+use Rattle.big_endian.specs.Bytes.{big, counted}
 use Rattle.region_archive.specs.Image.{body}
 use Rattle.region_archive.specs.RecordFields.{section-bytes}
 use Rattle.region_archive.specs.declared.record_fields.Section.the-variants as Section

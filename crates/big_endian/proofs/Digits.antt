@@ -1,15 +1,26 @@
--- Bytes of a number, one more at the end.
+-- The bytes of a number, and a number of whose bytes there is one more at the end.
 use mathlib.Core.Path.{_≡_, refl, sym, ap, _∙_, subst}
 use mathlib.Core.List.{List, [], _∷_, _++_, append-assoc}
 use Prim.Native.Nat.{ℕ, zero, suc, _+_, _*_, _/_, _%_, _^_, _≤_, _<_}
 use native.Mathlib.Numerals.{add-one}
-use native.Mathlib.Nat.{add-zero, pow-suc, mul-comm, div-div-eq-div-mul}
+use native.Mathlib.Nat.{add-zero, pow-suc, mul-comm, div-one, mod-eq-of-lt, div-div-eq-div-mul}
 use native.Mathlib.Omega.{arith}
 use lib.ListN.{length, drop, getD}
 use lib.Seq.{drop-cons}
-use Rattle.region_archive.specs.Bytes.{big}
-use Rattle.region_archive.specs.Parsing.{Parsed}
-use Rattle.region_archive.proofs.Pieces.{big-length}
+use Rattle.big_endian.specs.Bytes.{big}
+use Rattle.big_endian.specs.Parsing.{Parsed}
+
+pub big-length : (w n : ℕ) → length (big w n) ≡ w
+big-length zero n = refl
+big-length (suc w) n = ap suc (big-length w n)
+
+-- a number of one byte
+pub big-one : (n : ℕ) → n < 256 → big 1 n ≡ n ∷ []
+big-one n h = ap (λ (m : ℕ). m ∷ []) (ap (λ (m : ℕ). m % 256) (div-one n) ∙ mod-eq-of-lt h)
+
+-- what is left of a number above one byte more
+pub div-next : (n k : ℕ) → n / 256 ^ k / 256 ≡ n / 256 ^ suc k
+div-next n k = div-div-eq-div-mul n (256 ^ k) 256 ∙ ap (λ (p : ℕ). n / p) (sym (pow-suc 256 k))
 
 -- one byte more
 pub drop-byte : (s : List ℕ) (at : ℕ) → at < length s → drop at s ≡ getD s at 0 ∷ drop (at + 1) s

@@ -2,9 +2,9 @@ use mathlib.Core.Path.{_≡_}
 use Prim.Native.Nat.{_+_, _-_, _≤_, _<_}
 use native.Mathlib.Omega.{arith}
 use borrow.Author.Needs.{needs}
-use Rattle.region_archive.proofs.Digits.{Digits, digits-none, digits-more, digits-all, small-four}
-use Rattle.region_archive.proofs.numbers.value.Statement.{statement}
-use Rattle.region_archive.proofs.numbers.value.Tie as tie
+use Rattle.big_endian.proofs.Digits.{Digits, digits-none, digits-more, digits-all, small-four}
+use Rattle.big_endian.proofs.value.Statement.{statement}
+use Rattle.big_endian.proofs.value.Tie as tie
 
 abbrev Inv-loop : tie.InvT-loop
 Inv-loop bytes at width number₀ i₀ number i = (i ≤ width) × Digits bytes at i number

@@ -5,8 +5,8 @@ use Prim.Native.Nat.{ℕ, zero, suc, _+_, _-_, _*_, _/_, _%_, _^_, _≤_, _<_}
 use native.Mathlib.Nat.{add-mul, mul-assoc, mul-comm, pow-suc, mod-lt, mod-one, mod-eq-of-lt, div-add-mod', add-mul-mod-self-right, mul-le-mul-right}
 use native.Mathlib.Omega.{arith}
 use lib.ListN.{length, length-append, length-drop}
-use Rattle.region_archive.specs.Bytes.{big}
-use Rattle.region_archive.specs.Parsing.{Unparsed}
+use Rattle.big_endian.specs.Bytes.{big}
+use Rattle.big_endian.specs.Parsing.{Unparsed}
 
 -- the bytes of good values, whatever follows them, tell the values apart and where they end
 abbrev pub Delimits : {A : Type 0} → (A → Type 0) → (A → List ℕ) → (A → A → Type 0) → Type 0

@@ -4,6 +4,7 @@
 #define _POSIX_C_SOURCE 200809L
 #include <stdio.h>
 #include <stdlib.h>
+#include <string.h>
 #include <time.h>
 #include "wimboru.h"
 
@@ -32,6 +33,9 @@ typedef struct {
     size_t length;
 } file;
 
+/* The sheet that the program makes: its entries, the bytes of a name, of an entry and of the sheet. */
+enum { ENTRIES = 1000, NAME = 20, ENTRY = 7 + NAME, SHEET = 5 + ENTRIES * ENTRY };
+
 /* What the measured calls work on. */
 static region_graph graph;
 static region_graph copies[COPIES];
@@ -43,6 +47,8 @@ static uint32_t hidden;
 static uint8_t bytes[REGION_LONGEST_IMAGE];
 static file g;
 static file longest;
+static file g_names;
+static uint8_t sheet[SHEET];
 
 /* Whether copies are counted in place of time; and the bytes that memcpy has copied, which copies.c counts. */
 static bool counting;
@@ -145,6 +151,14 @@ static void best_pair(const char *removes, uint32_t (*down)(region_graph *), con
     printf("%s %.1f 0\n%s %.1f 0\n", removes, shortest_down, puts_back, shortest_up);
 }
 
+/* Where a name starts and how long it is, in one number, or the refusal below zero. */
+static int64_t name_in(const uint8_t *in, size_t length, uint32_t kind, uint32_t number)
+{
+    size_t start = 0;
+    int64_t name = region_name(in, length, &start, kind, number);
+    return name < 0 ? name : (int64_t)start * 100 + name;
+}
+
 /* clang-format off */
 static int64_t route_seen(void) { return region_route(&graph, bytes, sizeof bytes, ASKER, REGION_KIND_PACKAGE, SEEN_ITEM); }
 static int64_t route_hidden(void) { return region_route(&graph, bytes, sizeof bytes, ASKER, REGION_KIND_PACKAGE, hidden); }
@@ -166,6 +180,10 @@ static int64_t read_longest(void) { return region_read(&graph, longest.bytes, lo
 static int64_t write_longest(void) { return region_write(&graph, bytes, sizeof bytes); }
 static int64_t query_g(void) { return archive_query(g.bytes, g.length, 10, REGION_KIND_PACKAGE, 1); }
 static int64_t query_longest(void) { return archive_query(longest.bytes, longest.length, 1000, REGION_KIND_PACKAGE, 600); }
+static int64_t name_g(void) { return name_in(g_names.bytes, g_names.length, REGION_KIND_REGION, 1); }
+static int64_t name_first(void) { return name_in(sheet, SHEET, REGION_KIND_BUNDLE, 0); }
+static int64_t name_last(void) { return name_in(sheet, SHEET, REGION_KIND_BUNDLE, ENTRIES - 1); }
+static int64_t name_missing(void) { return name_in(sheet, SHEET, REGION_KIND_BUNDLE, ENTRIES); }
 /* clang-format on */
 
 /* The packages, and the services, of bundle i. */
@@ -201,6 +219,30 @@ static void full_graph(bool all)
     }
 }
 
+/* Puts a number, the highest byte first. */
+static void put(uint8_t *to, size_t width, uint32_t number)
+{
+    for (size_t i = 0; i < width; i++) {
+        to[i] = (uint8_t)(number >> 8 * (width - 1 - i));
+    }
+}
+
+/* Bundles 0 to 999, each with a name of 20 bytes. */
+static void make_sheet(void)
+{
+    sheet[0] = 1;
+    put(sheet + 1, 4, SHEET - 5);
+    for (uint32_t i = 0; i < ENTRIES; i++) {
+        uint8_t *entry = sheet + 5 + i * ENTRY;
+        char name[NAME + 1];
+        must(snprintf(name, sizeof name, "bundle number %06u", (unsigned)i) == NAME, "a name of another length");
+        put(entry, 2, ENTRY - 2);
+        entry[2] = REGION_KIND_BUNDLE;
+        put(entry + 3, 4, i);
+        memcpy(entry + 7, name, NAME);
+    }
+}
+
 static void queries(const char *filters, uint32_t hidden_item)
 {
     hidden = hidden_item;
@@ -228,6 +270,8 @@ int main(int count, char **arguments)
     counting = count == 3;
     take(&g, arguments[1], "g.archive");
     take(&longest, arguments[1], "longest.archive");
+    take(&g_names, arguments[1], "g.names");
+    make_sheet();
     for (uint32_t i = 0; i < LIST; i++) {
         candidates[i] = i % HELD;
         listeners[i] = ASKER + i % REGION_MOST_BUNDLES;
@@ -246,5 +290,9 @@ int main(int count, char **arguments)
     best("write_longest", "", write_longest);
     best("query_g", "", query_g);
     best("query_longest", "", query_longest);
+    best("name_g", "", name_g);
+    best("name_1000_first", "", name_first);
+    best("name_1000_last", "", name_last);
+    best("name_1000_missing", "", name_missing);
     return 0;
 }

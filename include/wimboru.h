@@ -1,6 +1,7 @@
 /*
- * The region graph for a host in C: regions, bundles, filtered connections, routes, hooks and archives.
- * "Document 01" is the paper of that name in README.md; the questions by which calls refuse are its questions.
+ * The region graph for a host in C: regions, bundles, filtered connections, routes, hooks, archives and name sheets.
+ * "Document 01" and "document 02" are the papers of those names in README.md; the questions by which calls refuse are those of
+ * document 01 and those that the requests of document 02 add.
  *
  * The record
  *   A host lends a record (region_graph) to each call. A record starts with region_empty, whatever its memory held before; no
@@ -9,8 +10,9 @@
  *
  * Lists and buffers
  *   A list or a buffer is a pointer and the count of its elements. Where the count is 0 the pointer may be NULL. The pointer of
- *   a record may not. Input lists are only read, and may overlap one another. A buffer that is written may overlap neither an
- *   input list nor the record, and a record that is changed may overlap no input list. A flag is 0 or 1, as C's bool has it.
+ *   a record, and that of a single number that is written, may not. Input lists are only read, and may overlap one another. A
+ *   buffer or a number that is written may overlap neither an input list nor the record, and a record that is changed may overlap
+ *   no input list. A flag is 0 or 1, as C's bool has it.
  *
  * Threads
  *   Calls keep nothing outside the record and the buffers. While a call changes a record, no other thread may use that record.
@@ -22,7 +24,7 @@
  *
  * Answers
  *   Questions are put in the order in which a call's comment lists their numbers. The first that is answered no refuses the call.
- *   A refused call changes no byte of a buffer, and the record holds the graph that it held.
+ *   A refused call changes no byte of a buffer and no number, and the record holds the graph that it held.
  */
 #ifndef WIMBORU_H
 #define WIMBORU_H
@@ -63,6 +65,8 @@ enum {
     REGION_NOT_AN_ARCHIVE = 15,   /* there are fewer than 5 bytes, or the first is not 1 */
     REGION_WRONG_LENGTH = 16,     /* the length field is not the count of bytes after it */
     REGION_BROKEN_LAYOUT = 17,    /* the bytes after the length are not an archive's layout, to the end */
+    REGION_BROKEN_SHEET = 18,     /* the bytes are not a name sheet's layout, from the first to the last */
+    REGION_NO_ENTRY = 19,         /* the sheet has no entry of the kind and number */
 };
 
 /* What an item may be: archive_query gives these as they are, region_route gives -REGION_HIDDEN. */
@@ -76,6 +80,7 @@ enum {
     REGION_KIND_BUNDLE = 0,
     REGION_KIND_PACKAGE = 1,
     REGION_KIND_SERVICE = 2,
+    REGION_KIND_REGION = 3, /* in a name sheet alone: a route and an archive query refuse it with 13 */
 };
 
 /* The limits. */
@@ -88,6 +93,7 @@ enum {
     REGION_EVERYTHING = 255,      /* the count of a part that is everything, in the record and in an archive */
     REGION_ROUTE_BYTES = 16,      /* the buffer that a route needs, however short the route is */
     REGION_LONGEST_IMAGE = 14248, /* bytes; a buffer of this length takes the image of any graph */
+    REGION_LONGEST_NAME = 40,     /* bytes of a name, which has at least 1 */
     REGION_STACK_BYTES = 524288,  /* the stack that is enough for any call */
 };
 
@@ -221,6 +227,13 @@ int64_t region_service_event(const region_graph *graph, uint32_t *out, size_t ou
 /* Whether the bundle at a location sees an item in the graph of an archive; no record is needed. Returns 100 (REGION_SEEN), 101
    (REGION_HIDDEN), or the number of the question that was answered no: 15, 16, 17, 12, 13, in this order. */
 uint32_t archive_query(const uint8_t *bytes, size_t length, uint32_t location, uint32_t kind, uint32_t item);
+
+/* Finds the name of a kind and number in a name sheet; no record is needed. Returns the name's length, 1 to 40, and writes to start
+   the place of its first byte: the name is the bytes from sheet + *start on, in the host's own memory. They are hex 20 to 7E. They
+   are no string of C: what follows them need not be a zero byte. Refused with 18, 19 (it returns -18, -19); *start then keeps its
+   value. The whole sheet is judged, also behind the entry. A sheet of no bytes, which may be NULL, is refused with 18. A kind above
+   3 has no entry. */
+int64_t region_name(const uint8_t *sheet, size_t sheet_length, size_t *start, uint32_t kind, uint32_t number);
 
 /* clang-format on */
 

@@ -2,8 +2,9 @@
 # What the scripts of the tests share. A script sets `root` to the top of the repository and reads this file, which goes to the top
 # and makes `work`, a folder for the script's files that is removed at its end.
 #
-# WIMBORU_LIB and WIMBORU_LISTING name a static library and a listing program that are there; without them `rt` proves and builds
-# both. WIMBORU_DRIVER names the program that tests/second/run builds to run scripts on the engine.
+# WIMBORU_LIB, WIMBORU_LISTING and WIMBORU_DRAWING name a static library, a listing program and a drawing program that are there;
+# without them `rt` proves and builds what is needed. WIMBORU_DRIVER names the program that tests/second/run builds to run scripts
+# on the engine.
 
 # PATH: the same from any folder
 absolute() {
@@ -12,6 +13,7 @@ absolute() {
 
 WIMBORU_LIB=$(absolute "${WIMBORU_LIB:-}")
 WIMBORU_LISTING=$(absolute "${WIMBORU_LISTING:-}")
+WIMBORU_DRAWING=$(absolute "${WIMBORU_DRAWING:-}")
 WIMBORU_DRIVER=$(absolute "${WIMBORU_DRIVER:-}")
 cd "${root:?}" || exit 2
 work=$(mktemp -d)
@@ -50,6 +52,14 @@ provide_listing() {
     [ -z "$listing" ] || return 0
     by_rt check listing
     listing=$root/target/bin/listing
+}
+
+# Sets drawing to the drawing program.
+provide_drawing() {
+    drawing=$WIMBORU_DRAWING
+    [ -z "$drawing" ] || return 0
+    by_rt check drawing
+    drawing=$root/target/bin/drawing
 }
 
 # USAGE NUMBER: ends with 2 unless a number is one from 1 on

@@ -1,6 +1,7 @@
 #!/bin/sh
-# Runs ./wimboru on the examples, with wrong usage, and at its builds. Without WIMBORU_LISTING and WIMBORU_LIB it builds them
-# itself. Exit status 0 where every output and status is the expected one, 1 where one is not, 2 where something is missing.
+# Runs ./wimboru on the examples, with wrong usage, and at its builds. Without WIMBORU_LISTING, WIMBORU_DRAWING and WIMBORU_LIB it
+# builds them itself. Exit status 0 where every output and status is the expected one, 1 where one is not, 2 where something is
+# missing.
 set -eu
 root=$(cd "$(dirname "$0")/.." && pwd)
 # shellcheck source=tests/functions.sh
@@ -9,6 +10,7 @@ root=$(cd "$(dirname "$0")/.." && pwd)
 # The cases run in a copy of what ./wimboru uses, with an rt that notes how it is called and hands out what is built already.
 copy() {
     listing=${WIMBORU_LISTING:-$root/target/bin/listing}
+    drawing=${WIMBORU_DRAWING:-$root/target/bin/drawing}
     library=${WIMBORU_LIB:-$root/target/staticlib/libregion_host.a}
     mkdir "$work/tree" "$work/tree/crates" "$work/bin"
     cp -R "$root/wimboru" "$root/crates.txt" "$root/include" "$root/tools" "$work/tree"
@@ -20,13 +22,32 @@ echo "what rt says"
 mkdir -p target/bin target/staticlib
 case "\$*" in
     'check listing') cp "$listing" target/bin/listing ;;
+    'check drawing') cp "$work/drawing" target/bin/drawing ;;
     'staticlib region_host') cp "$library" target/staticlib/libregion_host.a ;;
     *) exit 2 ;;
 esac
 END
+    stand_in_drawing
     chmod +x "$work/bin/rt"
     : > "$work/calls"
     PATH=$work/bin:$PATH
+}
+
+# A program in the place of the drawing program, which tells what it is given: the bytes of the sheet, or `none` where it has no
+# argument, or the refusal that stands in the archive.
+stand_in_drawing() {
+    cat > "$work/drawing" <<'END'
+#!/bin/sh
+refusal=$(sed -n 's/^draw refused //p')
+if [ -n "$refusal" ]; then
+    echo "refused $refusal"
+    exit
+fi
+sheet=none
+if [ $# -ne 0 ]; then sheet=$(od -An -v -tx1 "$1" | tr -d ' \n'); fi
+printf 'digraph {\n"sheet: %s"\n}\n' "$sheet"
+END
+    chmod +x "$work/drawing"
 }
 
 # STATUS OUTPUT ARGUMENT...: what a call prints, and its status; a status above 1 has a message, a lower one has none
@@ -52,7 +73,11 @@ usage() {
     expect 2 ''
     expect 2 '' lists "$g"
     expect 2 '' list
-    expect 2 '' list "$g" "$g"
+    expect 2 '' list "$g" "$sheet" "$sheet"
+    expect 2 '' list "$g" "$work/none"
+    expect 2 '' list "$work/none" "$sheet"
+    expect 2 '' list "$g" "$work"
+    expect 2 '' list "$g" ''
     expect 2 '' list "$work/none"
     expect 2 '' list "$work"
     expect 2 '' list ''
@@ -65,11 +90,37 @@ usage() {
         expect 2 '' query "$g" 10 1 "$wrong"
     done
     expect 2 '' query "$g" 10 bundles 1
+    expect 2 '' query "$g" 10 region 1
     expect 2 '' query "$g" bundle 1 1
+    expect 2 '' name "$sheet" 0
+    expect 2 '' name "$sheet" 0 10 10
+    expect 2 '' name "$work/none" 0 10
+    expect 2 '' name "$work" 0 10
+    for wrong in '' x -1 ' 1' 0x10 4294967296; do
+        expect 2 '' name "$sheet" "$wrong" 1
+        expect 2 '' name "$sheet" 1 "$wrong"
+    done
+    expect 2 '' name "$sheet" regions 1
+    expect 2 '' name "$sheet" 3 region
+    expect 2 '' draw
+    expect 2 '' draw --svg
+    expect 2 '' draw "$g" "$sheet" "$sheet"
+    expect 2 '' draw --png "$g" "$sheet"
+    expect 2 '' draw "$work/none"
+    expect 2 '' draw "$g" "$work/none"
     same 'builds by wrong usage' "$(calls)" ''
     "$work/tree/wimboru" --help > "$work/out" 2> "$work/err"
-    same 'first line of the help' "$(head -n 1 "$work/out")" 'usage: wimboru list FILE'
+    same 'first line of the help' "$(head -n 1 "$work/out")" 'usage: wimboru list FILE [SHEET]'
     same 'messages of the help' "$(cat "$work/err")" ''
+}
+
+# Uses every program, whatever it prints and has built.
+use_all() {
+    {
+        "$work/tree/wimboru" list "$g" "$sheet"
+        "$work/tree/wimboru" query "$g" 10 package 1
+        "$work/tree/wimboru" draw "$g"
+    } > "$work/out" 2> "$work/err"
 }
 
 # The first use builds and says so, beside the output; the next does not; a source that is newer has it built again.
@@ -81,13 +132,18 @@ what rt says'
     same 'builds of the first list' "$(calls)" 'check listing'
     same 'output of the first query' "$("$work/tree/wimboru" query "$g" 10 package 1 2> "$work/err")" seen
     same 'builds of the first query' "$(calls)" 'staticlib region_host'
+    same 'output of the first name' "$("$work/tree/wimboru" name "$sheet" region 0 2> "$work/err")" deck
+    same 'builds of the first name' "$(calls)" 'staticlib region_host'
+    same 'output of the first picture' "$("$work/tree/wimboru" draw "$g" 2> "$work/err")" "$picture"
+    same 'builds of the first picture' "$(calls)" 'check drawing'
     expect 0 "$listing_g" list "$g"
     expect 0 seen query "$g" 10 package 1
+    expect 0 deck name "$sheet" region 0
+    expect 0 "$picture" draw "$g"
     same 'builds of later uses' "$(calls)" ''
     touch "$work/tree/crates/source"
-    "$work/tree/wimboru" list "$g" > "$work/out" 2> "$work/err"
-    "$work/tree/wimboru" query "$g" 10 package 1 > "$work/out" 2> "$work/err"
-    same 'builds after a change' "$(calls)" 'check listing,staticlib region_host'
+    use_all
+    same 'builds after a change' "$(calls)" 'check listing,staticlib region_host,staticlib region_host,check drawing'
 }
 
 # A build that fails is told, and tried again at the next use.
@@ -104,9 +160,8 @@ failed_builds() {
         same 'message of a failed build' "$(tail -n 1 "$work/err")" 'wimboru: listing could not be built'
     done
     mv "$work/bin/kept" "$work/bin/rt"
-    "$work/tree/wimboru" list "$g" > "$work/out" 2> "$work/err"
-    "$work/tree/wimboru" query "$g" 10 package 1 > "$work/out" 2> "$work/err"
-    same 'builds after a failed build' "$(calls)" 'check listing,staticlib region_host'
+    use_all
+    same 'builds after a failed build' "$(calls)" 'check listing,staticlib region_host,staticlib region_host,check drawing'
 }
 
 lists() {
@@ -141,6 +196,133 @@ queries() {
     expect 1 "refused 17: $question_17" query "$examples/refused-17.archive" 10 1 1
 }
 
+# Sheets: names that look like a refusal, need quotes in a picture, or have spaces at their ends; no entries; a byte too many; and
+# 2,000 names of 40 bytes, for the bundles from 0 on.
+make_sheets() {
+    {
+        printf '\001\000\000\000\100'
+        printf '\000\010\000\000\000\000\012arm'
+        printf '\000\017\000\000\000\000\024refused 19'
+        printf '\000\016\001\000\000\000\001say "a\\b"'
+        printf '\000\011\003\000\000\000\000deck'
+        printf '\000\010\003\000\000\000\002 2 '
+    } > "$sheet"
+    printf '\001\000\000\000\000' > "$no_entries"
+    { cat "$sheet"; printf x; } > "$broken"
+    {
+        printf '\001\000\001\157\060'
+        number=0
+        while [ "$number" -lt 2000 ]; do
+            high=$((number / 256))
+            low=$((number % 256))
+            printf "\\000\\055\\000\\000\\000\\00$high\\$((low / 64))$((low / 8 % 8))$((low % 8))%-40d" "$number"
+            number=$((number + 1))
+        done
+    } > "$work/large"
+}
+
+names() {
+    expect 0 arm name "$sheet" bundle 10
+    expect 0 arm name "$sheet" 0 10
+    expect 0 'refused 19' name "$sheet" bundle 20
+    expect 0 'say "a\b"' name "$sheet" package 1
+    expect 0 deck name "$sheet" region 0
+    expect 0 deck name "$sheet" 03 000000000000
+    expect 0 ' 2 ' name "$sheet" 3 2
+    expect 0 '1999                                    ' name "$work/large" bundle 1999
+    expect 1 "refused 19: $question_19" name "$work/large" bundle 2000
+    expect 1 "refused 19: $question_19" name "$sheet" service 1
+    expect 1 "refused 19: $question_19" name "$sheet" region 4294967295
+    expect 1 "refused 19: $question_19" name "$sheet" 4 0
+    expect 1 "refused 19: $question_19" name "$sheet" 4294967295 0
+    expect 1 "refused 19: $question_19" name "$no_entries" region 0
+    expect 1 "refused 18: $question_18" name "$broken" region 0
+    expect 1 "refused 18: $question_18" name "$broken" 4 0
+    expect 1 "refused 18: $question_18" name "$g" region 0
+    expect 1 "refused 18: $question_18" name /dev/null region 0
+}
+
+named_lists() {
+    tab=$(printf '\t')
+    titles="$header${tab}asker-name${tab}region-name"
+    expect 0 "$titles
+10 0 1 1 0${tab}arm${tab}deck
+20 1 1 2 0${tab}refused 19${tab}-
+30 2 1 3 0${tab}-${tab} 2 " list "$g" "$sheet"
+    expect 0 "$titles
+10 0 1 1 0${tab}-${tab}-
+20 1 1 2 0${tab}-${tab}-
+30 2 1 3 0${tab}-${tab}-" list "$g" "$no_entries"
+    expect 0 "$titles" list "$examples/empty.archive" "$sheet"
+    "$work/tree/wimboru" list "$examples/longest.archive" "$work/large" > "$work/longest"
+    same 'lines of longest with names' "$(grep -c "${tab}10..  .*$tab-" "$work/longest")" 64
+    expect 1 "refused 18: $question_18" list "$g" "$broken"
+    expect 1 "refused 18: $question_18" list "$g" /dev/null
+    expect 1 "refused 16: $question_16" list "$examples/refused-16.archive" "$sheet"
+    expect 1 "refused 16: $question_16" list "$examples/refused-16.archive" "$broken"
+}
+
+# What goes to the drawing program and to dot, by programs in their places.
+draws() {
+    echo 'draw refused 18' > "$work/refused"
+    expect 0 "$picture" draw "$g"
+    expect 0 "$(echo "$picture" | sed 's/none/0100000000/')" draw "$g" "$no_entries"
+    expect 0 "$(echo "$picture" | sed 's/none//')" draw "$g" /dev/null
+    expect 0 "digraph {
+\"sheet: $(od -An -v -tx1 "$sheet" | tr -d ' \n')\"
+}" draw "$g" "$sheet"
+    expect 1 "refused 18: $question_18" draw "$work/refused" "$sheet"
+    printf '#!/bin/sh\necho "svg $*"\ncat\n' > "$work/bin/dot"
+    chmod +x "$work/bin/dot"
+    expect 0 "svg -Tsvg
+$picture" draw --svg "$g"
+    expect 1 "refused 18: $question_18" draw --svg "$work/refused"
+    printf '#!/bin/sh\nexit 1\n' > "$work/bin/dot"
+    expect 3 '' draw --svg "$g" "$sheet"
+    rm "$work/bin/dot"
+    without_dot
+}
+
+# The commands that ./wimboru and these tests use, without dot.
+without_dot() {
+    mkdir "$work/few"
+    for program in cat dirname find grep head od sed tr; do
+        ln -s "$(command -v "$program")" "$work/few"
+    done
+    path=$PATH
+    # shellcheck disable=SC2123
+    PATH=$work/few
+    expect 3 '' draw --svg "$g"
+    expect 0 "$picture" draw "$g"
+    PATH=$path
+}
+
+# The drawing program itself.
+drawn() {
+    cp "$drawing" "$work/drawing"
+    touch "$work/tree/crates/source"
+    use_all
+    : > "$work/calls"
+    same 'first word of a picture' "$("$work/tree/wimboru" draw "$g" "$sheet" | head -n 1 | cut -d ' ' -f 1)" digraph
+    "$work/tree/wimboru" draw "$g" "$sheet" > "$work/with"
+    for text in deck arm; do
+        same "$text in the picture" "$(grep -q "$text" "$work/with" && echo yes)" yes
+    done
+    expect 0 "$("$work/tree/wimboru" draw "$g" "$no_entries")" draw "$g"
+    expect 1 "refused 15: $question_15" draw "$examples/refused-15.archive"
+    expect 1 "refused 16: $question_16" draw "$examples/refused-16.archive" "$broken"
+    expect 1 "refused 17: $question_17" draw "$examples/refused-17.archive" "$sheet"
+    expect 1 "refused 18: $question_18" draw "$g" "$broken"
+    expect 1 "refused 18: $question_18" draw "$g" /dev/null
+    same 'a picture with a sheet of 94 KB' "$("$work/tree/wimboru" draw "$g" "$work/large" | grep -c 'bundle 20 20')" 1
+    { printf '\001\000\003\377\372'; head -c 262138 /dev/zero; } > "$work/longer"
+    expect 1 "refused 18: $question_18" draw "$g" "$work/longer"
+    printf x >> "$work/longer"
+    expect 2 '' draw "$g" "$work/longer"
+    [ -z "$(command -v dot)" ] ||
+        same 'a picture by dot' "$("$work/tree/wimboru" draw --svg "$g" "$sheet" | grep -c '<svg')" 1
+}
+
 # Files of any name and length, and from another folder. One byte over 65,536 counts for the query alone.
 files() {
     cp "$g" "$work/a name"
@@ -165,14 +347,25 @@ listing_g="$header
 10 0 1 1 0
 20 1 1 2 0
 30 2 1 3 0"
+sheet=$work/sheet
+no_entries="$work/no entries"
+broken="$work/broken sheet"
+picture='digraph {
+"sheet: none"
+}'
 question_15='are there at least 5 bytes, the first being 1?'
 question_16='does the length field equal the count of bytes after it?'
 question_17='are those bytes the layout of an archive, to the end?'
+question_18='does the sheet keep its layout?'
+question_19='does an entry have the kind and number?'
 need "${CC:-cc}" 'Debian: gcc'
-if [ -z "$WIMBORU_LISTING" ] || [ -z "$WIMBORU_LIB" ]; then
+make_sheets
+if [ -z "$WIMBORU_LISTING" ] || [ -z "$WIMBORU_DRAWING" ] || [ -z "$WIMBORU_LIB" ]; then
     need rt 'the Rattle kit'
     same 'list, built here' "$("$root/wimboru" list "$g")" "$listing_g"
     same 'query, built here' "$("$root/wimboru" query "$g" 10 package 1)" seen
+    same 'name, built here' "$("$root/wimboru" name "$sheet" region 0)" deck
+    same 'picture, built here' "$("$root/wimboru" draw "$g" | head -n 1)" 'digraph regions {'
 fi
 copy
 usage
@@ -180,5 +373,9 @@ builds
 failed_builds
 lists
 queries
+names
+named_lists
+draws
+drawn
 files
 end_checks

@@ -12,7 +12,8 @@ static unsigned long passed;
 static unsigned long failed;
 
 /* No bytes between the parts: every byte that is lent is in a part, and is compared. */
-static_assert(sizeof(struct lent) == 4 * GUARD + sizeof(region_graph) + PLACES * sizeof(uint32_t) + BYTES, "parts with gaps");
+static_assert(sizeof(struct lent) == 5 * GUARD + sizeof(region_graph) + PLACES * sizeof(uint32_t) + BYTES + sizeof(size_t),
+              "parts with gaps");
 
 void set_pattern(uint8_t byte)
 {
@@ -29,6 +30,7 @@ void expect_same(void)
 {
     memset(lent.places, pattern, sizeof lent.places);
     memset(lent.bytes, pattern, sizeof lent.bytes);
+    memset(&lent.start, pattern, sizeof lent.start);
     memcpy(&expected, &lent, sizeof lent);
 }
 
@@ -40,6 +42,11 @@ void expect_numbers(const uint32_t *numbers, size_t count)
 void expect_bytes(const uint8_t *bytes, size_t count)
 {
     memcpy(expected.bytes, bytes, count);
+}
+
+void expect_start(size_t start)
+{
+    expected.start = start;
 }
 
 void expect_record(void)

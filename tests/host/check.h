@@ -22,6 +22,8 @@ struct lent {
     uint32_t places[PLACES];
     uint8_t behind[GUARD];
     uint8_t bytes[BYTES];
+    uint8_t beyond[GUARD];
+    size_t start;
     uint8_t after[GUARD];
 };
 
@@ -36,11 +38,12 @@ void lend(void);
 /* What lend fills with. */
 void set_pattern(uint8_t byte);
 
-/* Fills the buffers with the pattern, then says what is to be lent after a call: what is lent now, but for numbers or bytes at
-   the start of a buffer. */
+/* Fills the buffers and the start with the pattern, then says what is to be lent after a call: what is lent now, but for numbers or
+   bytes at the start of a buffer, or the start of a name. */
 void expect_same(void);
 void expect_numbers(const uint32_t *numbers, size_t count);
 void expect_bytes(const uint8_t *bytes, size_t count);
+void expect_start(size_t start);
 
 /* Counts a check; prints its place and text where it does not hold. */
 void check(bool holds, const char *file, int line, const char *text);
@@ -85,6 +88,14 @@ bool all_passed(void);
         expect_same(); \
         expect_bytes((const uint8_t[]){__VA_ARGS__}, COUNT(__VA_ARGS__)); \
         check_call((call) == (int64_t)COUNT(__VA_ARGS__) - 1, __FILE__, __LINE__, #call " gives " #__VA_ARGS__); \
+    } while (0)
+
+/* A lookup that finds a name of a length, and writes its place to the start, and nothing else. */
+#define NAMES(place, length, call) \
+    do { \
+        expect_same(); \
+        expect_start(place); \
+        check_call((call) == (int64_t)(length), __FILE__, __LINE__, #call " finds " #place ", " #length); \
     } while (0)
 
 /* A changing call that is accepted and changes nothing but the record. */

@@ -3,6 +3,7 @@
 #include "graphs.h"
 #include "host.h"
 #include "images.h"
+#include "sheets.h"
 
 #include <string.h>
 #include <sys/mman.h>
@@ -90,6 +91,24 @@ static void archives_at(uint8_t *a, uint8_t *b, struct image file)
     }
 }
 
+/* A sheet, and every beginning of it, also with the length that goes with it; the start of a name is at an edge too. */
+static void names_at(uint8_t *a, uint8_t *b, struct sheet sheet)
+{
+    size_t *start = (size_t *)(void *)(a - sizeof *start);
+    *start = 99;
+    for (size_t length = 0; length < sheet.length; length++) {
+        const uint8_t *bytes = bytes_at(b, sheet.bytes, length);
+        CHECK(region_name(bytes, length, start, REGION_KIND_REGION, 0) == -REGION_BROKEN_SHEET && *start == 99);
+    }
+    for (size_t length = FRONT; length <= sheet.length; length++) {
+        set_length(&sheet, (uint32_t)(length - FRONT));
+        const uint8_t *bytes = bytes_at(b, sheet.bytes, length);
+        struct found plain = plain_lookup(bytes, length, REGION_KIND_REGION, 0);
+        CHECK(region_name(bytes, length, start, REGION_KIND_REGION, 0) == plain.answer);
+        CHECK(*start == (plain.answer > 0 ? plain.start : 99));
+    }
+}
+
 void test_edges(void)
 {
     uint8_t *a = edge();
@@ -98,6 +117,8 @@ void test_edges(void)
     changes_at(a, b);
     queries_at(a, b, c);
     archives_at(a, b, load("g.archive"));
+    names_at(a, b, deck_sheet());
+    names_at(a, b, small_sheet());
     release(a);
     release(b);
     release(c);

@@ -1,4 +1,4 @@
-/* Runs the C interface: document 01's cases, every refusal of every call, and what C may hand in. Takes the folder of the
+/* Runs the C interface: the papers' cases, every refusal of every call, and what C may hand in. Takes the folder of the
    example archives. Prints the checks that fail, then how many passed. */
 #include "host.h"
 #include "images.h"
@@ -13,6 +13,7 @@ static void test_all(void)
     test_refused_changes();
     test_queries();
     test_archives();
+    test_names();
     test_edges();
     test_threads();
 }

@@ -21,7 +21,7 @@ enum { FILLED_BYTE = 0xA5, MOST_ARGUMENTS = 5 };
 static const uint32_t FILLED_PLACE = 0xDEAD0000u;
 
 /* One block of memory for each use in a call. */
-enum { RECORD, FIRST, SECOND, THIRD, OUTPUT, ARCHIVE, ROOMS };
+enum { RECORD, FIRST, SECOND, THIRD, OUTPUT, ARCHIVE, SHEET, ROOMS };
 
 struct list {
     const uint32_t *items;
@@ -37,6 +37,7 @@ struct file {
 static struct guarded rooms[ROOMS];
 static region_graph *graph;
 static struct file archive; /* the archive bytes that stand, in their room */
+static struct file sheet;   /* and so those of the name sheet */
 static const char *listing;
 static unsigned long line_number;
 
@@ -323,12 +324,38 @@ static void keep_archive(char **a)
     print_number(0);
 }
 
+/* A copy of the bytes that stand, at the edge that the line has. */
+static struct file copy(struct file f)
+{
+    return (struct file){memcpy(block(FIRST, f.length), f.bytes, f.length), f.length};
+}
+
 static void query(char **a)
 {
-    uint8_t *bytes = block(FIRST, archive.length);
+    struct file f = copy(archive);
 
-    memcpy(bytes, archive.bytes, archive.length);
-    print_number(archive_query(bytes, archive.length, whole_number(a[0]), whole_number(a[1]), whole_number(a[2])));
+    print_number(archive_query(f.bytes, f.length, whole_number(a[0]), whole_number(a[1]), whole_number(a[2])));
+}
+
+static void keep_sheet(char **a)
+{
+    sheet = file(a[0], SHEET);
+    print_number(0);
+}
+
+/* A refused lookup has the start and the length 0 in the oracle's language: the start, where it keeps its value. */
+static void lookup(char **a)
+{
+    struct file f = copy(sheet);
+    size_t *start = (size_t *)(void *)byte_buffer(sizeof *start);
+    const size_t before = *start;
+    int64_t length = region_name(f.bytes, f.length, start, whole_number(a[0]), whole_number(a[1]));
+
+    if (length >= 0) {
+        printf("0 %zu %" PRId64 "\n", *start, length);
+    } else {
+        printf("%" PRId64 " %s 0\n", -length, *start == before ? "0" : "written");
+    }
 }
 
 /* A file that has the archive's bytes, to be read from their start. */
@@ -405,6 +432,7 @@ static const struct command {
     {"connect", 5, connect},      {"disconnect", 2, disconnect},
     {"bfind", 3, bundle_find},    {"resolve", 3, resolve},      {"sfind", 3, service_find},
     {"bevent", 3, bundle_event},  {"sevent", 3, service_event}, {"route", 4, route},
+    {"sheet", 1, keep_sheet},     {"lookup", 2, lookup},
 };
 /* clang-format on */
 
@@ -438,6 +466,7 @@ int main(int count, char **words)
         rooms[i] = guarded_make();
     }
     archive.bytes = rooms[ARCHIVE].first;
+    sheet.bytes = rooms[SHEET].first;
     graph = guarded_high(rooms[RECORD], sizeof *graph);
     memset(graph, FILLED_BYTE, sizeof *graph);
     region_empty(graph);

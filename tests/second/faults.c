@@ -1,5 +1,6 @@
 /* Wrong engines, to see that the comparison finds them: the driver's calls go through here (the linker's --wrap), and the fault that
-   the variable FAULT of the environment names is put in front of the engine or behind it. `selfcheck` runs them all. */
+   the variable FAULT of the environment names is put in front of the engine or behind it. In a lookup of a name another reader of
+   sheets stands in the engine's place, which answers right where there is no fault. `selfcheck` runs them all. */
 #define _POSIX_C_SOURCE 200809L
 #include <stdlib.h>
 #include <string.h>
@@ -7,7 +8,7 @@
 #include "wimboru.h"
 
 /* The faults have the numbers from 1 up to this one; 0 is none. */
-enum { FAULTS = 45 };
+enum { FAULTS = 65 };
 
 #define CALL(type, name, ...) \
     type __real_##name(__VA_ARGS__); \
@@ -270,4 +271,98 @@ CALL(int64_t, region_write, const region_graph *g, uint8_t *out, size_t out_leng
         out[length - 1] ^= 1;
     }
     return length;
+}
+
+/* ---- names ---- */
+
+static uint32_t field(const uint8_t *bytes, size_t count)
+{
+    uint32_t value = 0;
+
+    for (size_t i = 0; i < count; i++) {
+        value = value << 8 | bytes[i];
+    }
+    return value;
+}
+
+static bool is_front(const uint8_t *sheet, size_t length)
+{
+    if (length < 5 || (sheet[0] != 1 && !fault(46))) {
+        return false;
+    }
+    return fault(47) ? field(sheet + 1, 4) <= length - 5 : field(sheet + 1, 4) == length - 5;
+}
+
+static bool is_text(const uint8_t *bytes, size_t count)
+{
+    for (size_t i = 0; i < count; i++) {
+        if (bytes[i] < (fault(48) ? 0x1F : 0x20) || bytes[i] > (fault(49) ? 0x7F : 0x7E)) {
+            return false;
+        }
+    }
+    return true;
+}
+
+static bool is_entry(const uint8_t *entry, size_t left)
+{
+    size_t size = left < 7 ? 0 : field(entry, 2);
+
+    if (size < (fault(50) ? 5 : 6) || size > (fault(51) ? 46 : 45) || size > left - 2) {
+        return false;
+    }
+    return entry[2] <= (fault(52) ? 4 : 3) && is_text(entry + 7, size - 5);
+}
+
+static bool ascends(const uint8_t *entry, const uint8_t *next)
+{
+    if (fault(53)) {
+        return memcmp(entry + 2, next + 2, 5) <= 0;
+    }
+    if (fault(54)) {
+        return memcmp(entry + 3, next + 3, 4) < 0;
+    }
+    return fault(55) ? entry[2] <= next[2] : memcmp(entry + 2, next + 2, 5) < 0;
+}
+
+/* The entry of a kind and number, NULL where there is none; refusal tells whether the sheet is broken. */
+static const uint8_t *find_entry(const uint8_t *sheet, size_t length, uint32_t kind, uint32_t number, int64_t *refusal)
+{
+    const uint8_t *last = NULL, *found = NULL;
+
+    *refusal = fault(56) && length == 5 ? -REGION_BROKEN_SHEET : -REGION_NO_ENTRY;
+    for (size_t at = 5; at < length && !(fault(57) && found != NULL); at += 2 + field(sheet + at, 2)) {
+        if (fault(58) && length - at == 1) {
+            break;
+        }
+        if (!is_entry(sheet + at, length - at) || (last != NULL && !ascends(last, sheet + at))) {
+            *refusal = fault(59) && found == NULL ? -REGION_NO_ENTRY : -REGION_BROKEN_SHEET;
+            return NULL;
+        }
+        last = sheet + at;
+        found = last[2] == kind && field(last + 3, 4) == number ? last : found;
+    }
+    return found;
+}
+
+CALL(int64_t, region_name, const uint8_t *sheet, size_t sheet_length, size_t *start, uint32_t kind, uint32_t number)
+{
+    int64_t refusal = -REGION_BROKEN_SHEET;
+    const uint8_t *entry = NULL;
+    volatile uint8_t touched;
+
+    if (fault(60)) {
+        touched = sheet[sheet_length];
+        (void)touched;
+    }
+    if (is_front(sheet, sheet_length)) {
+        entry = find_entry(sheet, sheet_length, fault(61) ? kind % 256 : kind, number, &refusal);
+    }
+    if (entry == NULL) {
+        if (fault(62)) {
+            *start = 0;
+        }
+        return fault(63) && refusal == -REGION_NO_ENTRY && kind > 3 ? -REGION_NOT_A_KIND : refusal;
+    }
+    *start = (size_t)(entry - sheet) + (fault(64) ? 6 : 7);
+    return (int64_t)field(entry, 2) - (fault(65) ? 0 : 5);
 }

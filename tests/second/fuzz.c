@@ -1,15 +1,17 @@
-/* Fuzzes the archive reader and the archive query (libFuzzer). Each input is a file. It ends the program where
+/* Fuzzes the archive reader, the archive query and the lookup of names (libFuzzer). Each input is a file, which is read as an
+   archive and as a name sheet. It ends the program where
 
    - a refused read changes a byte of the record, or an accepted one does not write back the very bytes of the file;
    - the query's number is not the one that the read and the route call give together;
+   - a refused lookup changes the start, or a found name is not one of the sheet's, or two lookups judge one sheet otherwise;
    - anything outside a lent block is touched, or a sanitizer finds a fault on this side.
 
    The library has no counters of its own, so the fuzzer is guided by what is seen from outside: the number of the read, the
-   last byte that the reader touched before it refused (its place and its size), and the bytes of an accepted file (the same).
-   The last byte touched is found by reading the file again with its end in memory that cannot be touched: the reader leaves
-   at the first byte that breaks the layout, so an input that gets further, or breaks otherwise, than all before it is kept
-   and changed further. Most changed inputs get the version and the length that go with them, since the reader refuses the
-   others at once. */
+   last byte that the reader touched before it refused (its place and its size), and the bytes of an accepted file (the same);
+   and so for the lookup. The last byte touched is found by reading the file again with its end in memory that cannot be
+   touched: the readers leave at the first byte that breaks the layout, so an input that gets further, or breaks otherwise,
+   than all before it is kept and changed further. Most changed inputs get the version and the length that go with them, since
+   the readers refuse the others at once. */
 #define _DEFAULT_SOURCE
 #include <setjmp.h>
 #include <signal.h>
@@ -23,10 +25,10 @@
 
 enum { PLACES = 4096, SIZES = 6 };
 
-/* What libFuzzer takes as new, by the number of the read. */
-__attribute__((section("__libfuzzer_extra_counters"))) static uint8_t counters[REGION_BROKEN_LAYOUT + 1][PLACES][SIZES];
+/* What libFuzzer takes as new, by the number of the read, or of a lookup that finds nothing. */
+__attribute__((section("__libfuzzer_extra_counters"))) static uint8_t counters[REGION_NO_ENTRY + 1][PLACES][SIZES];
 
-static struct guarded archive, written, record_room;
+static struct guarded archive, written, record_room, start_room;
 static region_graph *record;
 static region_graph before;
 
@@ -72,6 +74,7 @@ static void make_all(void)
     archive = guarded_make();
     written = guarded_make();
     record_room = guarded_make();
+    start_room = guarded_make();
     make_record();
     memset(&action, 0, sizeof action);
     action.sa_sigaction = fault;
@@ -79,33 +82,49 @@ static void make_all(void)
     require(sigaction(SIGSEGV, &action, &other_faults) == 0, "sigaction");
 }
 
-/* Does the reader touch the byte at a place, or one after it? */
-static bool touches(const uint8_t *data, size_t size, size_t place)
+typedef void reader(const uint8_t *file, size_t size);
+
+static void read_archive(const uint8_t *file, size_t size)
 {
     static region_graph scratch;
+
+    scratch = before;
+    region_read(&scratch, file, size);
+}
+
+/* No entry has the kind, so the whole sheet is read. */
+static void read_sheet(const uint8_t *file, size_t size)
+{
+    size_t start;
+
+    region_name(file, size, &start, UINT32_MAX, 0);
+}
+
+/* Does a reader touch the byte at a place, or one after it? */
+static bool touches(reader *read, const uint8_t *data, size_t size, size_t place)
+{
     uint8_t *start = archive.past - place;
 
     memcpy(start, data, place);
-    scratch = before;
     probing = 1;
     if (sigsetjmp(probe, 1) != 0) {
         probing = 0;
         return true;
     }
-    region_read(&scratch, start, size);
+    read(start, size);
     probing = 0;
     return false;
 }
 
-/* How many bytes the reader touches. */
-static size_t depth(const uint8_t *data, size_t size)
+/* How many bytes a reader touches. */
+static size_t depth(reader *read, const uint8_t *data, size_t size)
 {
     size_t low = 0, high = size;
 
     while (low < high) {
         size_t middle = low + (high - low) / 2;
 
-        if (touches(data, size, middle)) {
+        if (touches(read, data, size, middle)) {
             low = middle + 1;
         } else {
             high = middle;
@@ -120,10 +139,11 @@ static int size_of(uint8_t byte)
     return byte == 0 ? 0 : byte <= 8 ? 1 : byte <= 16 ? 2 : byte <= 64 ? 3 : byte < 255 ? 4 : 5;
 }
 
-static void count(const uint8_t *data, size_t size, uint32_t number)
+/* Counts the bytes of a whole file, or the last byte that was touched. */
+static void count(reader *read, const uint8_t *data, size_t size, uint32_t number, bool whole)
 {
-    size_t past = number == 0 ? size : depth(data, size);
-    size_t from = number == 0 || past == 0 ? 0 : past - 1;
+    size_t past = whole ? size : depth(read, data, size);
+    size_t from = whole || past == 0 ? 0 : past - 1;
 
     for (size_t i = from; i < past && i < PLACES; i++) {
         counters[number][i][size_of(data[i])] = 1;
@@ -169,6 +189,49 @@ static void check_query(const uint8_t *file, size_t size, uint32_t number, size_
     require(routed >= 0 ? answer == REGION_SEEN : answer == (uint32_t)-routed, "the query's answer is not the route's");
 }
 
+static bool is_name(const uint8_t *bytes, size_t count)
+{
+    for (size_t i = 0; i < count; i++) {
+        if (bytes[i] < 0x20 || bytes[i] > 0x7E) {
+            return false;
+        }
+    }
+    return count >= 1 && count <= REGION_LONGEST_NAME;
+}
+
+/* The lookup of a kind and number, by the number for a lookup of no entry in the same sheet. */
+static void check_lookup(const uint8_t *file, size_t size, uint32_t judged, uint32_t kind, uint32_t number)
+{
+    size_t *start = guarded_high(start_room, sizeof *start);
+    int64_t length;
+
+    *start = SIZE_MAX;
+    length = region_name(file, size, start, kind, number);
+    if (length < 0) {
+        require(*start == SIZE_MAX, "a refused lookup changed the start");
+        require(length == -(int64_t)judged, "two lookups judge one sheet otherwise");
+        return;
+    }
+    require(judged == REGION_NO_ENTRY, "a name in a sheet that is broken");
+    require(*start >= 12 && *start < size && (size_t)length <= size - *start, "a name that is not in the sheet");
+    require(is_name(file + *start, (size_t)length), "a name that is none");
+    require(file[*start - 5] == kind && word(file, size, *start - 4) == number, "the name of another entry");
+}
+
+/* What the lookup says of the sheet, and lookups of what stands at places of the file. */
+static uint32_t check_sheet(const uint8_t *file, size_t size)
+{
+    size_t start = SIZE_MAX;
+    uint32_t judged = (uint32_t)-region_name(file, size, &start, UINT32_MAX, 0);
+
+    require(start == SIZE_MAX, "a lookup of no entry changed the start");
+    require(judged == REGION_BROKEN_SHEET || judged == REGION_NO_ENTRY, "a number that is not the lookup's");
+    for (size_t at = 7; at < size; at += judged == REGION_NO_ENTRY ? 1 : size / 4 + 1) {
+        check_lookup(file, size, judged, file[at], word(file, size, at + 1));
+    }
+    return judged;
+}
+
 size_t LLVMFuzzerMutate(uint8_t *data, size_t size, size_t most);
 size_t LLVMFuzzerCustomMutator(uint8_t *data, size_t size, size_t most, unsigned seed);
 int LLVMFuzzerTestOneInput(const uint8_t *data, size_t size);
@@ -190,7 +253,7 @@ int LLVMFuzzerTestOneInput(const uint8_t *data, size_t size)
 {
     static bool made;
     uint8_t *file;
-    uint32_t number;
+    uint32_t number, judged;
 
     if (!made) {
         make_all();
@@ -204,6 +267,8 @@ int LLVMFuzzerTestOneInput(const uint8_t *data, size_t size)
     for (size_t at = size % 7; at < size; at += size / 12 + 1) {
         check_query(file, size, number, at);
     }
-    count(data, size, number);
+    judged = check_sheet(file, size);
+    count(read_archive, data, size, number, number == 0);
+    count(read_sheet, data, size, judged, judged == REGION_NO_ENTRY);
     return 0;
 }

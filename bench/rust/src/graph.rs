@@ -6,7 +6,7 @@ pub const MOST_CONNECTIONS: usize = 48;
 pub const MOST_PROVIDED: usize = 8;
 pub const MOST_LISTED: usize = 16;
 
-/// The questions of document 01, each named after the answer "no".
+/// The questions of document 01 and of request C-11, each named after the answer "no".
 #[derive(Clone, Copy, Debug, PartialEq, Eq)]
 pub enum Refusal {
     NotARegion = 1,
@@ -26,6 +26,8 @@ pub enum Refusal {
     NotAnArchive,
     WrongLength,
     BrokenLayout,
+    BrokenSheet,
+    NoEntry,
 }
 
 #[derive(Clone, Copy, Debug, PartialEq, Eq)]

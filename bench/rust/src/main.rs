@@ -1,8 +1,10 @@
-//! A second implementation of document 01 in plain Rust, to compare the engine's speed with.
+//! A second implementation of document 01, and of the lookup of request C-11, in plain Rust, to compare the engine's
+//! speed with.
 
 mod archive;
 mod graph;
 mod measure;
+mod names;
 mod routes;
 mod script;
 

@@ -8,6 +8,7 @@ use std::time::{Duration, Instant};
 
 use crate::archive::archive_query;
 use crate::graph::{Filter, Graph, Part, Refusal};
+use crate::names;
 
 /// Short rounds, so that some of them pass without a break by the system.
 const ROUNDS: usize = 100;
@@ -28,6 +29,8 @@ const LISTED: [u32; 8] = [HIDDEN_ITEM, 505, 506, 507, 508, 509, 510, SEEN_ITEM];
 const LISTED_TO_15: [u32; 8] = [505, 506, 507, 508, 509, 510, SEEN_ITEM, UNHELD_ITEM];
 const HELD: u32 = 512;
 const LIST: u32 = 1000;
+/// Entries of the sheet that the program makes.
+const ENTRIES: u32 = 1000;
 
 pub fn run(examples: &Path) -> io::Result<()> {
     queries("all", &full_graph(|_| ALL), UNHELD_ITEM);
@@ -35,6 +38,7 @@ pub fn run(examples: &Path) -> io::Result<()> {
     queries("listed", &listed, HIDDEN_ITEM);
     changes(&listed);
     archives(&std::fs::read(examples.join("g.archive"))?, &std::fs::read(examples.join("longest.archive"))?);
+    lookups(&std::fs::read(examples.join("g.names"))?, &sheet());
     Ok(())
 }
 
@@ -120,6 +124,37 @@ fn archives(g: &[u8], longest: &[u8]) {
     best("write_longest", || answer(graph.write(black_box(&mut out)).map(|length| length as i64)));
     best("query_g", || archive_query(black_box(g), 10, 1, 1).into());
     best("query_longest", || archive_query(black_box(longest), 1000, 1, 600).into());
+}
+
+/// Bundles 0 to 999, each with a name of 20 bytes.
+fn sheet() -> Vec<u8> {
+    let mut entries = Vec::new();
+    for i in 0..ENTRIES {
+        let name = format!("bundle number {i:06}");
+        entries.extend((name.len() as u16 + 5).to_be_bytes());
+        entries.push(0);
+        entries.extend(i.to_be_bytes());
+        entries.extend(name.as_bytes());
+    }
+    let mut sheet = vec![1];
+    sheet.extend((entries.len() as u32).to_be_bytes());
+    sheet.extend(entries);
+    sheet
+}
+
+fn lookups(g: &[u8], sheet: &[u8]) {
+    best("name_g", || name_in(black_box(g), 3, 1));
+    for (name, number) in [("first", 0), ("last", ENTRIES - 1), ("missing", ENTRIES)] {
+        best(&format!("name_1000_{name}"), || name_in(black_box(sheet), 0, number));
+    }
+}
+
+/// Where a name starts and how long it is, in one number, or the refusal below zero.
+fn name_in(sheet: &[u8], kind: u32, number: u32) -> i64 {
+    answer(names::look_up(sheet, black_box(kind), black_box(number)).map(|name| {
+        let start = name.as_ptr() as usize - sheet.as_ptr() as usize;
+        (start * 100 + name.len()) as i64
+    }))
 }
 
 fn answer(given: Result<i64, Refusal>) -> i64 {

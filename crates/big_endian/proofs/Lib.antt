@@ -5,4 +5,4 @@ pub mod NumberReads
 pub mod Readers
 pub mod Rows
 pub mod Tested
-pub mod Told
+pub mod SomeOrNone

@@ -1,5 +1,5 @@
 -- A number that was read at a place, as what stands there.
-use mathlib.Core.Path.{_≡_, refl, sym, ap, _∙_, subst}
+use mathlib.Core.Path.{_≡_, refl, sym, _∙_, subst}
 use mathlib.Core.Bool.{true, false}
 use mathlib.Core.List.{List}
 use Prim.Native.Nat.{ℕ, _+_, _-_, _^_, _≤_, _<_}
@@ -35,8 +35,6 @@ module _ {s : List ℕ} {at w : ℕ} where
         short : length s - at < w
         short = omega (arith, leb-false (at + w) (length s) (sym (rw (le-leb w widest small) refl) ∙ sym (n .ok) ∙ e))
 
-    -- where its bytes are there, a number is
-    pub number-there : at + w ≤ length s → Parsed (λ m. m < 256 ^ w) (big w) s at (r .number) (at + w)
-    number-there h =
-        let p = n .found (n .ok ∙ and-yes (le-leb w widest small) (le-leb (at + w) (length s) h)) in
-        subst (Parsed (λ m. m < 256 ^ w) (big w) s at (r .number)) (p .ends ∙ ap (λ (k : ℕ). at + k) (big-length w (r .number))) p
+    -- where its bytes are there, a number stands there
+    pub number-there : at + w ≤ length s → Parsed (λ m. m < 256 ^ w) (big w) s at (r .number) (r .next)
+    number-there h = n .found (n .ok ∙ and-yes (le-leb w widest small) (le-leb (at + w) (length s) h))

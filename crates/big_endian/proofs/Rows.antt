@@ -1,13 +1,14 @@
 -- Elements one after the other, in an order that a key gives: their bytes tell them apart, and a loop reads one after the other.
 use mathlib.Core.Path.{_≡_, refl, sym, ap, _∙_, subst}
 use mathlib.Core.Bool.{Bool, true, and-true}
-use mathlib.Core.List.{List, [], _∷_, _++_, append-assoc}
+use mathlib.Core.List.{List, [], _∷_, _++_, append-nil, append-assoc}
 use Prim.Native.Nat.{ℕ, _+_, _≤_, _<_}
 use native.Mathlib.Numerals.{add-one}
+use native.Mathlib.Decide.{decLt}
 use native.Mathlib.Omega.{arith}
 use borrow.Author.Tests.{leb-true, le-leb}
 use lib.Dec.{ltb, leb}
-use lib.ListN.{length, drop, length-append}
+use lib.ListN.{length, drop, length-append, length-drop}
 use Rattle.region_graph.specs.Lists.{All, ascends, concat-map}
 use Rattle.region_graph.proofs.Lists.{and-fst, all-join, all-rest, concat-snoc}
 use Rattle.region_graph.proofs.Ascending.{ascends-append}
@@ -108,3 +109,17 @@ module _ {A : Type 0} (k : Elements A) where
             let rises = sym (ascends-append (k .before) xs z l) ∙ ap (ascends (k .before)) (sym f) ∙ rising in
             u z (all-bytes l ++ t) gz (leb-true least (k .key z) (sym (g .next z gz) ∙ and-fst _ (ascends (k .before) (z ∷ l)) rises))
             (i ∙ append-assoc (k .bytes z) (all-bytes l) t)
+
+    -- the loop stands before the end, where no next element stands: these bytes are those of no elements in order
+    pub row-broken : at < length s → NoNext s at least → (ys : List A) → All (k .good) ys → ascends (k .before) ys ≡ true
+        → drop from s ≡ all-bytes ys → ⊥
+    row-broken h u ys every rising e = go (decLt (length xs) (length ys))
+      where
+        whole : drop from s ≡ all-bytes ys ++ []
+        whole = e ∙ sym (append-nil (all-bytes ys))
+
+        go : Dec (length xs < length ys) → ⊥
+        go (yes l) = going-past ys [] l every rising whole u
+        go (no l) =
+            let b = begins ys xs [] (drop at s) every (g .every) (omega arith) (sym whole ∙ g .shape) in
+            omega (arith, ap length (b .left) ∙ length-append (all-bytes (b .rest)) (drop at s), length-drop at s)

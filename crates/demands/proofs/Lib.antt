@@ -4,5 +4,6 @@ pub mod NetLaws
 pub mod Inverse
 pub mod Meets
 pub mod Theorems
+pub mod NamesFound
 pub mod Rows
 pub mod GraphG

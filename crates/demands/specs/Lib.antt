@@ -6,5 +6,7 @@ pub mod Demands
 -- the interfaces of which they are shown: the calls by value, and those on a lent record
 pub mod ByValue
 pub mod Lent
+-- request C-11: what lookups of names say
+pub mod Names
 -- document 01's worked cases
 pub mod JointTable

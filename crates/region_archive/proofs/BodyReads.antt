@@ -66,9 +66,10 @@ module _ {s : List ℕ} {at : ℕ} where
       no-connections : Missing Section.Connections rs s to → Unparsed Legal body s at
       no-connections u m r h e =
           let d = past-regions m r h e in
+          let k = section-elements rs (p .is-good .each) Section.Bundles in
           let f =
-          counted-same (section-elements rs (p .is-good .each) Section.Bundles) (most-records Section.Bundles) bs (m .bundles) (drop to s) (section-bytes Section.Connections m ++ r)
-          (q .is-good) (row-here Section.Bundles m h (d .0)) (sym (q .shape) ∙ d .1) in
+          counted-same k (most-records Section.Bundles) bs (m .bundles) (drop to s) (section-bytes Section.Connections m ++ r) (q .is-good)
+          (row-here Section.Bundles m h (d .0)) (sym (q .shape) ∙ d .1) in
           u (m .connections) r (row-here Section.Connections m h (d .0)) (f .1)
 
       whole-body : {cs : List Connection} {end : ℕ} → Stands Section.Connections rs s to cs end

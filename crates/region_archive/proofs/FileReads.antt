@@ -41,14 +41,14 @@ module _ (s : List ℕ) where
   pub front-short : length s < 5 → not-an-archive ≡ first-no (front-questions s)
   front-short h = rw (lt-leb 5 (length s) h) refl
 
-  module _ (h : 5 ≤ length s) {n : ℕ} (p : Parsed (λ m. m < 256 ^ 1) (big 1) s 0 n 1) where
+  module _ (h : 5 ≤ length s) {n next : ℕ} (p : Parsed (λ m. m < 256 ^ 1) (big 1) s 0 n next) where
     first-is : getD s 0 0 ≡ n
     first-is = head-same (sym (drop-byte s 0 (omega arith)) ∙ byte-stands (p .is-good) p)
 
     pub front-other : (n ≡ 1 → ⊥) → not-an-archive ≡ first-no (front-questions s)
     front-other u = rw (le-leb 5 (length s) h, ne-eqb (getD s 0 0) 1 (λ e. u (sym first-is ∙ e))) refl
 
-    module _ (one : n ≡ 1) {k : ℕ} (q : Parsed (λ m. m < 256 ^ 4) (big 4) s 1 k 5) where
+    module _ (one : n ≡ 1) {k end : ℕ} (q : Parsed (λ m. m < 256 ^ 4) (big 4) s 1 k end) where
       length-is : length-field s ≡ k
       length-is = field-tail s ∙ ap four (q .shape) ∙ word-bytes k (q .is-good)
 

@@ -5,7 +5,7 @@ use mathlib.Core.Logic.{⊎-elim}
 use Prim.Native.Nat.{ℕ}
 use lib.ListN.{drop}
 use Rattle.region_graph.specs.Model.{Model, Legal}
-use Rattle.big_endian.proofs.Told.{told}
+use Rattle.big_endian.proofs.SomeOrNone.{some-or-none}
 use Rattle.region_archive.specs.Image.{image}
 use Rattle.region_archive.specs.File.{FileMeaning, means, means-none}
 use Rattle.region_archive.proofs.ModelReaders.{read-body}
@@ -22,4 +22,4 @@ model-back m l = ap (λ (s : List ℕ). read-body .read s .0) (image-body m) ∙
 
 -- every list of numbers has a meaning
 pub file-meaning : (bytes : List ℕ) → FileMeaning bytes
-file-meaning bytes = ⊎-elim (λ h. means (h .0) (h .1) (h .2)) (λ n. means-none n) (told image tested-legal model-of model-back bytes)
+file-meaning bytes = ⊎-elim (λ h. means (h .0) (h .1) (h .2)) (λ n. means-none n) (some-or-none image tested-legal model-of model-back bytes)

@@ -1,4 +1,4 @@
--- The numbers of document 01's questions, each named after the answer "no". The constants of src/refusals.rt go with them.
+-- The numbers of document 01's questions, and of those that requests of document 02 add, each named after the answer "no". The constants of src/refusals.rt go with them.
 use Prim.Native.Nat.{ℕ}
 
 -- no question was answered no: the call is accepted
@@ -61,3 +61,11 @@ wrong-length = 16
 
 abbrev pub broken-layout : ℕ
 broken-layout = 17
+
+-- the bytes are not the layout of a name sheet, to the end
+abbrev pub broken-sheet : ℕ
+broken-sheet = 18
+
+-- no entry of a name sheet has the kind and number
+abbrev pub no-entry : ℕ
+no-entry = 19

@@ -36,10 +36,10 @@ negative-is zero h = omega (arith, h)
 negative-is (suc n) h = refl
 
 module _ {A : Type 0} (count numbered : ℕ → A) where
-  count-back : (n : ℕ) → CountFits n → read-back count numbered n ≡ count n
+  pub count-back : (n : ℕ) → CountFits n → read-back count numbered n ≡ count n
   count-back n h = rw (lt-ltb n (2 ^ 63) h) refl
 
-  number-back : (n : ℕ) → 0 < n → n ≤ 101 → read-back count numbered (negative n) ≡ numbered n
+  pub number-back : (n : ℕ) → 0 < n → n ≤ 101 → read-back count numbered (negative n) ≡ numbered n
   number-back n h k =
       rw (le-ltb (negative n) (2 ^ 63) (omega (arith, negative-is n h, k))) (ap numbered (omega (arith, negative-is n h, k)))
 

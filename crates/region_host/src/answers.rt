@@ -7,7 +7,7 @@ use region_routes::Kept;
 use region_routes::Routed;
 
 // A number below zero, in two's complement.
-fn negative(number: u32) -> u64
+pub fn negative(number: u32) -> u64
     ensures { λ r. ⌜ r ≡ negative number ⌝ }
 {
     if number == 0 {

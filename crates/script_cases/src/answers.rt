@@ -5,6 +5,8 @@ use crate::buffers::ROOM;
 use region_archive::Written;
 use region_routes::Kept;
 use region_routes::Routed;
+use script_text::show_bytes;
+use script_text::show_end;
 
 fn show_count(count: usize) {
     io::write_all(1, b"0 ");
@@ -44,27 +46,9 @@ pub fn show_written(answer: Written) {
     }
 }
 
-// The whole answer of a call that gives a number alone.
-pub fn show_number(number: u32) {
-    io::print_decimal(1, number as u64);
-    io::write_all(1, b"\n");
-}
-
-fn show_byte(byte: u8) {
-    io::print_hex(1, byte as u64, 2);
-}
-
-// The first bytes in hex: so many, or all; and the end of the line.
-pub fn show_bytes(room: &[u8; ROOM], count: usize) {
-    let mut i: usize = 0;
-    while i < ROOM {
-        if i == count {
-            break;
-        }
-        show_byte(room[i]);
-        i += 1;
-    }
-    show_end(i);
+// The first bytes of a buffer in hex: so many, or all; and the end of the line.
+pub fn show_room(room: &[u8; ROOM], count: usize) {
+    show_bytes(room, count);
 }
 
 fn show_place(i: usize, number: u32) {
@@ -85,12 +69,4 @@ pub fn show_places(places: &[u32; PLACES], count: usize) {
         i += 1;
     }
     show_end(i);
-}
-
-// Ends the line after so many bytes or places.
-fn show_end(count: usize) {
-    if count == 0 {
-        io::write_all(1, b"-");
-    }
-    io::write_all(1, b"\n");
 }

@@ -5,16 +5,16 @@
 //   query LOCATION KIND ITEM
 // LENGTH is how many bytes the buffer has. The query is of the file that stands.
 ghost use Rattle.region_graph.specs.Record.{Valid};
-use crate::answers::show_bytes;
-use crate::answers::show_number;
+use crate::answers::show_room;
 use crate::answers::show_routed;
 use crate::answers::show_written;
 use crate::buffers::BEFORE;
 use crate::buffers::ROOM;
-use crate::lines::value;
 use region_archive::Written;
 use region_archive::archive_query;
 use region_graph::Graph;
+use script_text::show_number;
+use script_text::value;
 
 pub fn route(g: Graph, line: &[u8])
     requires { ⌜ Valid g ⌝ }
@@ -29,7 +29,7 @@ pub fn route(g: Graph, line: &[u8])
         &mut room[..n],
     );
     show_routed(answer);
-    show_bytes(&room, n);
+    show_room(&room, n);
 }
 
 pub fn write(g: Graph, line: &[u8])
@@ -39,7 +39,7 @@ pub fn write(g: Graph, line: &[u8])
     let n = io::count(value(line, 1) as isize, &room);
     let answer = region_archive::write(g, &mut room[..n]);
     show_written(answer);
-    show_bytes(&room, n);
+    show_room(&room, n);
 }
 
 // The image alone: what is written to a buffer that takes every image.
@@ -49,7 +49,7 @@ pub fn image(g: Graph)
     let mut room = [BEFORE; ROOM];
     let answer = region_archive::write(g, &mut room);
     match answer {
-        Written::Bytes(length) => show_bytes(&room, length),
+        Written::Bytes(length) => show_room(&room, length),
         Written::Refused(number) => show_number(number),
     }
 }

@@ -1,12 +1,12 @@
 // The changing calls, as lines of the script.
 ghost use Rattle.region_graph.specs.Record.{Valid};
-use crate::lines::is_all;
-use crate::lines::list;
-use crate::lines::value;
-use crate::lines::word;
-use crate::words::is;
 use region_graph::Changed;
 use region_graph::Graph;
+use script_text::is;
+use script_text::is_all;
+use script_text::list;
+use script_text::value;
+use script_text::word;
 
 // Room for the numbers of a list: more than a list may have.
 const ROOM: usize = 20;

@@ -1,9 +1,9 @@
 // The file that stands, which calls read and query, and the base, a file over whose graph others are read.
 ghost use Prim.Native.Nat.{_≤_};
 ghost use lib.ListN.{length};
-use crate::hex::append_hex;
-use crate::words::has_bytes;
-use crate::words::is;
+use script_text::has_bytes;
+use script_text::is;
+use script_text::put_hex;
 
 // Where the file starts and ends in a buffer. The bytes before it are the base.
 pub struct File {
@@ -25,8 +25,11 @@ pub fn next_file(bytes: &mut [u8], file: File, line: &[u8]) -> File
         return File { start: end, end };
     }
     if has_bytes(line) {
-        let longer = append_hex(bytes, end, line);
-        return File { start, end: longer };
+        let count = put_hex(&mut bytes[end..], line);
+        return File {
+            start,
+            end: end + count,
+        };
     }
     file
 }

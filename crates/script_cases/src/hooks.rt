@@ -7,10 +7,6 @@ use crate::answers::show_kept;
 use crate::answers::show_places;
 use crate::buffers::PLACES;
 use crate::buffers::fill;
-use crate::lines::list;
-use crate::lines::value;
-use crate::lines::word;
-use crate::words::is;
 use region_graph::Graph;
 use region_routes::Kept;
 use region_routes::bundle_event;
@@ -18,6 +14,10 @@ use region_routes::bundle_find;
 use region_routes::resolve;
 use region_routes::service_event;
 use region_routes::service_find;
+use script_text::is;
+use script_text::list;
+use script_text::value;
+use script_text::word;
 
 // The hook of a line, with its candidates or listeners.
 fn kept(g: Graph, line: &[u8], numbers: &[u32], out: &mut [u32]) -> Kept

@@ -6,9 +6,7 @@ mod asks;
 mod buffers;
 mod calls;
 mod files;
-mod hex;
 mod hooks;
-mod lines;
 mod script;
 mod words;
 

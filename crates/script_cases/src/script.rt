@@ -2,7 +2,6 @@
 ghost use Prim.Native.Nat.{_≤_};
 ghost use lib.ListN.{length};
 ghost use Rattle.region_graph.specs.Record.{Valid};
-use crate::answers::show_number;
 use crate::asks::image;
 use crate::asks::query;
 use crate::asks::route;
@@ -12,9 +11,6 @@ use crate::calls::call;
 use crate::files::File;
 use crate::files::next_file;
 use crate::hooks::hook;
-use crate::lines::end_of;
-use crate::lines::value;
-use crate::words::is;
 use crate::words::is_event;
 use crate::words::is_find;
 use crate::words::is_silent;
@@ -23,6 +19,10 @@ use region_archive::read_over;
 use region_graph::Changed;
 use region_graph::Graph;
 use region_graph::refusals::NOT_REFUSED;
+use script_text::first_line;
+use script_text::is;
+use script_text::show_number;
+use script_text::value;
 
 // Answers a line that asks something of the graph or of the file, and hands back whether it does.
 fn asked(g: Graph, file: &[u8], line: &[u8]) -> bool
@@ -120,9 +120,9 @@ pub fn run(script: &[u8]) {
     let mut g = Graph::empty();
     let mut at: usize = 0;
     while at < script.len() {
-        let end = end_of(script, b'\n', at);
-        g = obey(g, bytes, file.start, file.end, &script[at..end]);
-        file = next_file(bytes, file, &script[at..end]);
-        at = end + 1;
+        let line = first_line(&script[at..]);
+        g = obey(g, bytes, file.start, file.end, line);
+        file = next_file(bytes, file, line);
+        at += line.len() + 1;
     }
 }

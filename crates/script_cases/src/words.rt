@@ -1,11 +1,7 @@
 // What a line is, by its first word or byte.
-use crate::lines::first;
-use crate::lines::word;
-use check::same;
-
-pub fn is(line: &[u8], name: &[u8]) -> bool {
-    same(word(line, 0), name)
-}
+use script_text::first;
+use script_text::has_bytes;
+use script_text::is;
 
 pub fn is_find(line: &[u8]) -> bool {
     if is(line, b"bfind") {
@@ -22,15 +18,6 @@ pub fn is_event(line: &[u8]) -> bool {
         return true;
     }
     is(line, b"sevent")
-}
-
-// Whether a line has bytes of the file: it starts with a digit of base 16, 0 to 9 or A to F.
-pub fn has_bytes(line: &[u8]) -> bool {
-    let byte = first(line);
-    match byte {
-        b'0'..=b'9' | b'A'..=b'F' => true,
-        _ => false,
-    }
 }
 
 // Whether a line has no answer: it is empty or a comment, or says what the file is.

@@ -11,7 +11,8 @@ use Rattle.region_archive.proofs.sections.length_at.Tie as tie
 returns : tie.Need-returns
 returns c =
     let r = c .before .before .number-at in
-    record { found = λ e. false-true e; missing = λ e n l h k f. no-number (omega arith) (r .ensures) (c .before .before .before .before .pre) (not-true _ (c .if1 .taken)) n l h f }
+    let none = no-number (omega arith) (r .ensures) (c .before .before .before .before .pre) (not-true _ (c .if1 .taken)) in
+    record { found = λ e. false-true e; missing = λ e n l h k f. none n l h f }
 
 returns-2 : tie.Need-returns-2
 returns-2 c =

@@ -16,5 +16,7 @@ second-at-spec =
     tie.close
     (tie.spec
     (λ c κs. search needs)
-    (λ c. second-missing (no-number (omega arith) (c .before .before .number-at .ensures) (c .before .before .before .before .before .pre .0) (not-true _ (c .if1 .taken))))
+    (λ c.
+    let p = c .before .before .before .before .before .pre in
+    second-missing (no-number (omega arith) (c .before .before .number-at .ensures) (p .0) (not-true _ (c .if1 .taken))))
     (λ c. search needs) (λ c. search needs) (λ c κs. search needs) (λ c. search needs) returns-2)

@@ -11,11 +11,11 @@ use lib.Seq.{length-take-le}
 use Rattle.region_graph.specs.Refusals.{not-refused, no-entry}
 use Rattle.region_graph.specs.Lists.{pick, exists}
 use Rattle.name_sheet.specs.Sheet.{Entry, LegalEntries, sheet}
-use Rattle.name_sheet.specs.File.{SheetMeaning, means, means-none, matches, name-of, lookup-number}
+use Rattle.name_sheet.specs.File.{SheetMeaning, means, means-none, matches, lookup-number}
 use Rattle.name_sheet.specs.Promise.{located, between}
 use Rattle.name_sheet.specs.declared.Located.{Located}
 use Rattle.name_sheet.proofs.OneSheet.{one-sheet}
-use Rattle.name_sheet.proofs.Meaning.{sheet-meaning, part-ordered, part-within, part-length, part-few, the-name, own-entry, own-name}
+use Rattle.name_sheet.proofs.Meaning.{sheet-meaning, part-ordered, part-within, part-size, part-few, name-of, the-name, own-entry, own-name}
 use Rattle.region_host.specs.CNumbers.{negative, read-back}
 use Rattle.region_host.specs.CNames.{CName, name-for-c}
 use Rattle.region_host.proofs.ReadBack.{count-back, number-back}
@@ -57,7 +57,7 @@ module _ (xs : List Entry) (e : Entry) (ys : List Entry) (l : LegalEntries (xs +
       own = own-name e ys xs (l .each) (l .ascend)
 
       size : place .to - place .from ≡ length (e .name)
-      size = part-length {s = sheet all} (means all l refl) (e .kind) (e .number) ∙ ap length own
+      size = part-size {s = sheet all} (means all l refl) (e .kind) (e .number) ∙ ap length own
 
       ends : place .from + length (e .name) ≡ place .to
       ends = omega (arith, size, part-ordered {s = sheet all} (means all l refl) (e .kind) (e .number))

@@ -55,8 +55,8 @@ read-entry = read-length 2 of back (λ e h. omega (arith, fields-length e, h .fe
 abbrev pub key : Entry → ℕ
 key e = e .kind * 2 ^ 32 + e .number
 
-abbrev pub legal-elements : Elements Entry
-legal-elements = record {
+abbrev pub entry-elements : Elements Entry
+entry-elements = record {
   good = LegalEntry;
   bytes = entry-bytes;
   before = entry-before;

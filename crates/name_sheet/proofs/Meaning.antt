@@ -16,9 +16,9 @@ use Rattle.region_graph.proofs.Ascending.{or-right}
 use Rattle.big_endian.proofs.Tested.{Tested, tested-le, tested-lt, tested-true, tested-both, tested-as, tested-all}
 use Rattle.big_endian.proofs.SomeOrNone.{some-or-none}
 use Rattle.name_sheet.specs.Sheet.{Entry, Printable, LegalEntry, LegalEntries, greatest-kind, longest-name, entry-before, entry-bytes, entries-bytes, sheet}
-use Rattle.name_sheet.specs.File.{SheetMeaning, means, means-none, Span, entries, matches, name-of, name-span, front-length, head-length}
+use Rattle.name_sheet.specs.File.{SheetMeaning, means, means-none, Span, entries, matches, name-span, front-length, head-length}
 use Rattle.name_sheet.specs.Promise.{located, between}
-use Rattle.name_sheet.proofs.EntryLaws.{entry-length, key, legal-elements}
+use Rattle.name_sheet.proofs.EntryLaws.{entry-length, key, entry-elements}
 use Rattle.name_sheet.proofs.OneSheet.{sheet-rest, sheet-length, entries-of, entries-back}
 
 -- whether an entry, and a list of entries, is legal
@@ -49,6 +49,11 @@ sheet-meaning bytes = ⊎-elim (λ h. means (h .0) (h .1) (h .2)) (λ n. means-n
 pick-either : {A : Type 0} (P : A → Type 0) (b : Bool) {x y : A} → P x → P y → P (pick b x y)
 pick-either P true h k = h
 pick-either P false h k = k
+
+-- the name of the entry with a kind and number; nothing where there is none
+abbrev pub name-of : ℕ → ℕ → List Entry → List ℕ
+name-of kind number [] = []
+name-of kind number (e ∷ es) = pick (matches kind number e) (e .name) (name-of kind number es)
 
 -- the part of a name, in entries that begin at a place
 module _ (kind number : ℕ) where
@@ -110,15 +115,15 @@ name-few kind number [] h = omega arith
 name-few kind number (e ∷ es) h =
     pick-either (λ (l : List ℕ). length l ≤ longest-name) (matches kind number e) (h .0 .few) (name-few kind number es (h .1))
 
-pub part-length : {s : List ℕ} (f : SheetMeaning s) (kind number : ℕ)
+pub part-size : {s : List ℕ} (f : SheetMeaning s) (kind number : ℕ)
     → located f kind number .to - located f kind number .from ≡ length (name-of kind number (entries f))
-part-length {s} f kind number =
+part-size {s} f kind number =
     let r = located f kind number in
     sym (length-take-le (r .to - r .from) (drop (r .from) s) (omega (arith, length-drop (r .from) s, part-within f kind number)))
     ∙ ap length (the-name f kind number)
 
 pub part-few : {s : List ℕ} (f : SheetMeaning s) (kind number : ℕ) → located f kind number .to - located f kind number .from ≤ longest-name
-part-few f kind number = omega (arith, part-length f kind number, few f)
+part-few f kind number = omega (arith, part-size f kind number, few f)
   where
     few : {s : List ℕ} (f : SheetMeaning s) → length (name-of kind number (entries f)) ≤ longest-name
     few (means es l e) = name-few kind number es (l .each)
@@ -128,12 +133,12 @@ part-few f kind number = omega (arith, part-length f kind number, few f)
 below : (x : Entry) (xs : List Entry) (e : Entry) (ys : List Entry) → All LegalEntry (x ∷ (xs ++ (e ∷ ys)))
     → ascends entry-before (x ∷ (xs ++ (e ∷ ys))) ≡ true → key x < key e
 below x [] e ys h a =
-    ltb-true (key x) (key e) (sym (legal-elements .keyed x e (h .0) (h .1 .0)) ∙ and-fst (entry-before x e) (ascends entry-before (e ∷ ys)) a)
+    ltb-true (key x) (key e) (sym (entry-elements .keyed x e (h .0) (h .1 .0)) ∙ and-fst (entry-before x e) (ascends entry-before (e ∷ ys)) a)
 below x (y ∷ xs) e ys h a =
     let rest = ascends entry-before (y ∷ (xs ++ (e ∷ ys))) in
     omega (
       arith,
-      ltb-true (key x) (key y) (sym (legal-elements .keyed x y (h .0) (h .1 .0)) ∙ and-fst (entry-before x y) rest a),
+      ltb-true (key x) (key y) (sym (entry-elements .keyed x y (h .0) (h .1 .0)) ∙ and-fst (entry-before x y) rest a),
       below y xs e ys (h .1) (and-snd (entry-before x y) rest a),
     )
 

@@ -15,7 +15,7 @@ use Rattle.name_sheet.specs.File.{means, means-none, matches, name-span,
 use Rattle.name_sheet.specs.Promise.{Locates}
 use Rattle.name_sheet.specs.Reading.{StartsAsSheet, noted}
 use Rattle.name_sheet.specs.declared.Located.{Located}
-use Rattle.name_sheet.proofs.EntryLaws.{entry-length, key, legal-elements}
+use Rattle.name_sheet.proofs.EntryLaws.{entry-length, key, entry-elements}
 use Rattle.name_sheet.proofs.OneSheet.{sheet-rest, one-sheet, whole-sheet}
 
 -- a refusal's number, and the empty part at the start
@@ -63,19 +63,19 @@ module _ (kind number : ℕ) where
 -- the entries up to a place were read, in order, and what was found in them
 pub record Scanning (s : List ℕ) (kind number at least : ℕ) (found : Located) : Type 0 where
   pub rows : List Entry
-  pub going : Going legal-elements s front-length rows at least
+  pub going : Going entry-elements s front-length rows at least
   pub found-is : found ≡ found-in kind number front-length rows
 
 module _ {s : List ℕ} {kind number : ℕ} where
   pub scan-start : front-length ≤ length s → {found : Located} → found ≡ refused-with no-entry → Scanning s kind number front-length 0 found
-  scan-start h e = record { rows = []; going = going-none legal-elements h; found-is = e }
+  scan-start h e = record { rows = []; going = going-none entry-elements h; found-is = e }
 
   module _ {at least : ℕ} {found : Located} (w : Scanning s kind number at least found) where
     pub scan-more : {e : Entry} {next : ℕ} → Parsed LegalEntry entry-bytes s at e next → least ≤ key e → {after : Located}
         → after ≡ noted found (matches kind number e) (at + head-length) next → Scanning s kind number next (key e + 1) after
     scan-more {e} {next} p h f = record {
       rows = w .rows ++ (e ∷ []);
-      going = going-more legal-elements (w .going) p h;
+      going = going-more entry-elements (w .going) p h;
       found-is =
           f ∙ ap (λ (l : Located). noted l (matches kind number e) (at + head-length) next) (w .found-is)
           ∙ sym (found-snoc kind number front-length (w .rows) e from to);
@@ -104,7 +104,7 @@ module _ {s : List ℕ} {kind number : ℕ} where
         answer (means-none n) = absurd (n (w .rows) (whole .0) (whole .1))
 
     -- before it, where no entry can follow, the file is no sheet
-    pub scan-broken : at < length s → NoNext legal-elements s at least → Locates s kind number (refused-with broken-sheet)
+    pub scan-broken : at < length s → NoNext entry-elements s at least → Locates s kind number (refused-with broken-sheet)
     scan-broken h u =
         broken-located kind number
-        (λ es l e. row-broken legal-elements (w .going) h u es (l .each) (l .ascend) (ap (drop front-length) (sym e) ∙ sheet-rest es))
+        (λ es l e. row-broken entry-elements (w .going) h u es (l .each) (l .ascend) (ap (drop front-length) (sym e) ∙ sheet-rest es))

@@ -38,11 +38,6 @@ lookup-questions f kind number =
 abbrev pub lookup-number : {bytes : List ℕ} → SheetMeaning bytes → ℕ → ℕ → ℕ
 lookup-number f kind number = first-no (lookup-questions f kind number)
 
--- the name of the entry with the kind and number; nothing where there is none
-abbrev pub name-of : ℕ → ℕ → List Entry → List ℕ
-name-of kind number [] = []
-name-of kind number (e ∷ es) = pick (matches kind number e) (e .name) (name-of kind number es)
-
 -- the bytes of a sheet before its entries, and those of an entry before its name
 abbrev pub front-length : ℕ
 front-length = 5
@@ -55,7 +50,8 @@ pub record Span : Type 0 where
   pub from : ℕ
   pub to : ℕ
 
--- where that name stands, in entries that begin at a place; the empty part at the start where there is none
+-- where the name of the entry with the kind and number stands, in entries that begin at a place; the empty part at the start where there is
+-- none
 abbrev pub name-span : ℕ → ℕ → ℕ → List Entry → Span
 name-span kind number at [] = record { from = 0; to = 0 }
 name-span kind number at (e ∷ es) =

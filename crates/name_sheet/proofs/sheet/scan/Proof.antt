@@ -10,7 +10,7 @@ use Rattle.big_endian.specs.Parsing.{Parsed}
 use Rattle.big_endian.proofs.Rows.{low-next}
 use Rattle.name_sheet.specs.Sheet.{LegalEntry, entry-bytes}
 use Rattle.name_sheet.specs.Reading.{entry-in, noted}
-use Rattle.name_sheet.proofs.EntryLaws.{entry-length, legal-elements}
+use Rattle.name_sheet.proofs.EntryLaws.{entry-length, entry-elements}
 use Rattle.name_sheet.proofs.Scanning.{Scanning, scan-start, scan-more, scan-end, scan-broken}
 use Rattle.name_sheet.proofs.sheet.scan.Statement.{statement}
 use Rattle.name_sheet.proofs.sheet.scan.Tie as tie
@@ -61,7 +61,7 @@ returns c f =
     ∙ scan-broken (l .inv) inside
     (⊎-elim (λ w. absurd (omega (arith, inside, w .left)))
     (⊎-elim (λ w z r g h e. w .1 .ensures .missing (not-true _ (w .3 .taken)) z r g e)
-    (λ w. low-next legal-elements (entry-in s (l .at) (w .1 .result)) (w .1 .ensures .found (not-false _ (w .3 .left))) (w .6 .taken)))
+    (λ w. low-next entry-elements (entry-in s (l .at) (w .1 .result)) (w .1 .ensures .found (not-false _ (w .3 .left))) (w .6 .taken)))
     (c .before .before .loop-test .came)) f
 
 pub scan-spec : {M : Type 1} → statement M

@@ -13,26 +13,9 @@ Inv-loop places₀ count next₀ n₀ places next n = (length places ≡ length 
 abbrev μ-loop : tie.MeasureT-loop
 μ-loop places₀ count next₀ n₀ places next n = length places₀ - n
 
-returns : tie.Need-returns Inv-loop μ-loop
-returns c = counts _ _ (omega arith)
-
-returns-2 : tie.Need-returns-2 Inv-loop μ-loop
-returns-2 c = counts _ _ (omega arith)
-
 pub fill-spec : {M : Type 1} → statement M
 fill-spec =
     tie.close
     (tie.spec
-    Inv-loop
-    μ-loop
-    (λ c. search needs)
-    (λ c. search needs)
-    returns
-    (λ c. search needs)
-    (λ c. search needs)
-    (λ c κs. search needs)
-    (λ c. search needs)
-    (λ c. search needs)
-    (λ c. search needs)
-    (λ c. search needs)
-    returns-2)
+    Inv-loop μ-loop (λ c. search needs) (λ c. search needs) (λ c. counts _ _ (omega arith)) (λ c. search needs) (λ c. search needs) (λ c κs. search needs)
+    (λ c. search needs) (λ c. search needs) (λ c. search needs) (λ c. search needs) (λ c. counts _ _ (omega arith)))

@@ -2,19 +2,17 @@
 use mathlib.Core.Path.{_≡_}
 use mathlib.Core.List.{List}
 use Prim.Native.Nat.{ℕ}
-use lib.ListN.{length}
 use Rattle.region_graph.specs.Calls.{Call}
 use Rattle.region_graph.specs.Record.{Valid, meaning}
 use Rattle.region_graph.specs.Promise.{Empty, Follows}
 use Rattle.region_graph.specs.declared.Graph.{Graph}
 use Rattle.region_routes.specs.Hooks.{Outcome, routed, routed-as, kept, kept-as, route-outcome, find-outcome, event-outcome}
 use Rattle.region_routes.specs.declared.Kind.{Kind}
-use Rattle.region_routes.specs.declared.Kind.the-variants as Kind
 use Rattle.region_routes.specs.declared.Routed.{Routed}
 use Rattle.region_routes.specs.declared.Kept.{Kept}
 use Rattle.region_archive.specs.Promise.{ReadsOver, archived, written-as, write-outcome, Queried}
 use Rattle.region_archive.specs.declared.Written.{Written}
-use Rattle.region_host.specs.CNumbers.{CAnswer, answered, for-c, routed-value, routed-of, kept-value, kept-of, written-value, written-of, CountFits}
+use Rattle.region_host.specs.CNumbers.{CAnswer, answered, for-c, routed-value, routed-of, kept-value, kept-of, written-value, written-of}
 use Rattle.region_host.proofs.Outcomes.{read-off, route-whole, find-whole, event-whole, write-whole}
 use Rattle.region_host.proofs.ReadBack.{routed-back, kept-back, written-back}
 use Rattle.region_host.proofs.Given.{route-given, find-given, event-given, write-given}
@@ -106,34 +104,39 @@ lent-writes v (lent.by-write κs g was out n e) =
     let m = meaning (g .now) in
     read-off written-as written-value written-of (write-whole m (was .now)) (written-back _ (write-given m (v .good) (was .now))) e
 
+-- the number that C gets, and the buffer, are those of the outcome
+pub c-routes : {g : Graph} {l kind number v : ℕ} {entry exit : List ℕ} → lent.CRoute g l kind number entry v exit
+    → _≡_ {A = CAnswer} (answered v exit) (for-c routed-value (route-outcome (meaning g) l kind number entry))
+c-routes (lent.by-route κs g was out l kind number v e) = e
+
+pub c-finds : {g : Graph} {k : Kind} {l v : ℕ} {xs entry exit : List ℕ} → lent.CFind g k l xs entry v exit
+    → _≡_ {A = CAnswer} (answered v exit) (for-c kept-value (find-outcome (meaning g) k l xs entry))
+c-finds (lent.by-bundle-find κs g was xs out l v e) = e
+c-finds (lent.by-resolve κs g was xs out l v e) = e
+c-finds (lent.by-service-find κs g was xs out l v e) = e
+
+pub c-events : {g : Graph} {k : Kind} {number v : ℕ} {xs entry exit : List ℕ} → lent.CEvent g k number xs entry v exit
+    → _≡_ {A = CAnswer} (answered v exit) (for-c kept-value (event-outcome (meaning g) k xs number entry))
+c-events (lent.by-bundle-event κs g was xs out number v e) = e
+c-events (lent.by-service-event κs g was xs out number v e) = e
+
 lent-routes : {g : Graph} {l kind number : ℕ} {entry exit : List ℕ} {a : Routed} → lent.LentRoute g l kind number entry a exit
     → _≡_ {A = Outcome Routed} (routed a exit) (route-outcome (meaning g) l kind number entry)
-lent-routes (lent.by-route κs g was out l kind number v e) =
-    let m = meaning (g .now) in
-    read-off routed-as routed-value routed-of (route-whole m l kind number (was .now)) (routed-back _ (route-given m l kind number (was .now))) e
-
-found : (g : Graph) (k : Kind) (l : ℕ) (xs entry exit : List ℕ) (v : ℕ) → CountFits (length xs)
-    → _≡_ {A = CAnswer} (answered v exit) (for-c kept-value (find-outcome (meaning g) k l xs entry))
-    → _≡_ {A = Outcome Kept} (kept (kept-of v) exit) (find-outcome (meaning g) k l xs entry)
-found g k l xs entry exit v f e =
-    read-off kept-as kept-value kept-of (find-whole (meaning g) k l xs entry) (kept-back _ (find-given (meaning g) k l xs entry f)) e
+lent-routes {g} {l} {kind} {number} {entry} (lent.route-read p) =
+    let m = meaning g in
+    read-off routed-as routed-value routed-of (route-whole m l kind number entry) (routed-back _ (route-given m l kind number entry)) (c-routes p)
 
 lent-finds : {g : Graph} {k : Kind} {l : ℕ} {xs entry exit : List ℕ} {a : Kept} → lent.LentFind g k l xs entry a exit
     → _≡_ {A = Outcome Kept} (kept a exit) (find-outcome (meaning g) k l xs entry)
-lent-finds (lent.by-bundle-find κs g was xs out l v f e) = found (g .now) Kind.Bundle l (xs .now) (was .now) (out .now) v f e
-lent-finds (lent.by-resolve κs g was xs out l v f e) = found (g .now) Kind.Package l (xs .now) (was .now) (out .now) v f e
-lent-finds (lent.by-service-find κs g was xs out l v f e) = found (g .now) Kind.Service l (xs .now) (was .now) (out .now) v f e
-
-told : (g : Graph) (k : Kind) (number : ℕ) (xs entry exit : List ℕ) (v : ℕ) → CountFits (length xs)
-    → _≡_ {A = CAnswer} (answered v exit) (for-c kept-value (event-outcome (meaning g) k xs number entry))
-    → _≡_ {A = Outcome Kept} (kept (kept-of v) exit) (event-outcome (meaning g) k xs number entry)
-told g k number xs entry exit v f e =
-    read-off kept-as kept-value kept-of (event-whole (meaning g) k xs number entry) (kept-back _ (event-given (meaning g) k xs number entry f)) e
+lent-finds {g} {k} {l} {xs} {entry} (lent.find-read f p) =
+    let m = meaning g in
+    read-off kept-as kept-value kept-of (find-whole m k l xs entry) (kept-back _ (find-given m k l xs entry f)) (c-finds p)
 
 lent-events : {g : Graph} {k : Kind} {number : ℕ} {xs entry exit : List ℕ} {a : Kept} → lent.LentEvent g k number xs entry a exit
     → _≡_ {A = Outcome Kept} (kept a exit) (event-outcome (meaning g) k xs number entry)
-lent-events (lent.by-bundle-event κs g was xs out number v f e) = told (g .now) Kind.Bundle number (xs .now) (was .now) (out .now) v f e
-lent-events (lent.by-service-event κs g was xs out number v f e) = told (g .now) Kind.Service number (xs .now) (was .now) (out .now) v f e
+lent-events {g} {k} {number} {xs} {entry} (lent.event-read f p) =
+    let m = meaning g in
+    read-off kept-as kept-value kept-of (event-whole m k xs number entry) (kept-back _ (event-given m k xs number entry f)) (c-events p)
 
 lent-asks : {s : List ℕ} {l kind number v : ℕ} → lent.LentAsk s l kind number v → Queried s l kind number v
 lent-asks (lent.by-archive-query κs bytes l kind number v q) = q

@@ -13,6 +13,14 @@ use Rattle.region_routes.specs.declared.Kept.{Kept}
 use Rattle.region_archive.specs.File.{FileMeaning, read-model}
 use Rattle.region_archive.specs.declared.Written.{Written}
 
+-- a route call on a record, with location, kind and number of the item, then the buffer before, the answer and the buffer after
+abbrev pub RouteCalls : Type 0 → Type 1
+RouteCalls A = Graph → ℕ → ℕ → ℕ → List ℕ → A → List ℕ → Type 0
+
+-- the same of a find on a record, with location and candidates, or of an event on it, with the item's number and the listeners
+abbrev pub ListCalls : Type 0 → Type 1
+ListCalls A = Graph → Kind → ℕ → List ℕ → List ℕ → A → List ℕ → Type 0
+
 pub record Interface : Type 1 where
   -- the empty record is g
   pub empties : Graph → Type 0
@@ -22,11 +30,9 @@ pub record Interface : Type 1 where
   pub reads : List ℕ → Graph → ℕ → Graph → Type 0
   -- a write of g to a buffer
   pub writes : Graph → List ℕ → Written → List ℕ → Type 0
-  -- a route call on g, with location, kind and number of the item
-  pub routes : Graph → ℕ → ℕ → ℕ → List ℕ → Routed → List ℕ → Type 0
-  -- a find on g, with location and candidates; an event on g, with the item's number and the listeners
-  pub finds : Graph → Kind → ℕ → List ℕ → List ℕ → Kept → List ℕ → Type 0
-  pub events : Graph → Kind → ℕ → List ℕ → List ℕ → Kept → List ℕ → Type 0
+  pub routes : RouteCalls Routed
+  pub finds : ListCalls Kept
+  pub events : ListCalls Kept
   -- an archive query of a file, with location, kind and number of the item, returned v
   pub asks : List ℕ → ℕ → ℕ → ℕ → ℕ → Type 0
 

@@ -140,28 +140,39 @@ pub data LentChange : Graph → Call → ℕ → Graph → Type 0 where
 pub data LentRead : List ℕ → Graph → ℕ → Graph → Type 0 where
   by-read : (κs : Lfts 2) (was is : LentGraph) (bytes : Slice) (n : ℕ) → ReadsFile κs was bytes is n → LentRead (bytes .now) (was .now) n (is .now)
 
--- of a query, the answer is what C reads in the number v
+-- of a write, the answer is what C reads in the number v
 pub data LentWrite : Graph → List ℕ → Written → List ℕ → Type 0 where
   by-write : (κs : Lfts 2) (g : LentGraph) (was out : Slice) (v : ℕ) → WritesImage κs g was out v → LentWrite (g .now) (was .now) (written-of v) (out .now)
 
-pub data LentRoute : Graph → ℕ → ℕ → ℕ → List ℕ → Routed → List ℕ → Type 0 where
+-- the number that C gets for a route call, a find or an event
+pub data CRoute : Graph → ℕ → ℕ → ℕ → List ℕ → ℕ → List ℕ → Type 0 where
   by-route : (κs : Lfts 2) (g : LentGraph) (was out : Slice) (l kind number v : ℕ) → FindsRoute κs g was l kind number out v
-      → LentRoute (g .now) l kind number (was .now) (routed-of v) (out .now)
+      → CRoute (g .now) l kind number (was .now) v (out .now)
+
+pub data CFind : Graph → Kind → ℕ → List ℕ → List ℕ → ℕ → List ℕ → Type 0 where
+  by-bundle-find : (κs : Lfts 3) (g : LentGraph) (was xs out : Slice) (l v : ℕ) → FindsBundles κs g was l xs out v
+      → CFind (g .now) Kind.Bundle l (xs .now) (was .now) v (out .now)
+  by-resolve : (κs : Lfts 3) (g : LentGraph) (was xs out : Slice) (l v : ℕ) → FindsPackages κs g was l xs out v
+      → CFind (g .now) Kind.Package l (xs .now) (was .now) v (out .now)
+  by-service-find : (κs : Lfts 3) (g : LentGraph) (was xs out : Slice) (l v : ℕ) → FindsServices κs g was l xs out v
+      → CFind (g .now) Kind.Service l (xs .now) (was .now) v (out .now)
+
+pub data CEvent : Graph → Kind → ℕ → List ℕ → List ℕ → ℕ → List ℕ → Type 0 where
+  by-bundle-event : (κs : Lfts 3) (g : LentGraph) (was xs out : Slice) (number v : ℕ) → TellsBundle κs g was xs number out v
+      → CEvent (g .now) Kind.Bundle number (xs .now) (was .now) v (out .now)
+  by-service-event : (κs : Lfts 3) (g : LentGraph) (was xs out : Slice) (number v : ℕ) → TellsService κs g was xs number out v
+      → CEvent (g .now) Kind.Service number (xs .now) (was .now) v (out .now)
+
+-- the answer that C reads in it
+pub data LentRoute (g : Graph) (l kind number : ℕ) (entry : List ℕ) : Routed → List ℕ → Type 0 where
+  route-read : {v : ℕ} {exit : List ℕ} → CRoute g l kind number entry v exit → LentRoute g l kind number entry (routed-of v) exit
 
 -- a list in memory has fewer than 2^63 numbers, so that a count is not read as a number below zero
-pub data LentFind : Graph → Kind → ℕ → List ℕ → List ℕ → Kept → List ℕ → Type 0 where
-  by-bundle-find : (κs : Lfts 3) (g : LentGraph) (was xs out : Slice) (l v : ℕ) → CountFits (length (xs .now)) → FindsBundles κs g was l xs out v
-      → LentFind (g .now) Kind.Bundle l (xs .now) (was .now) (kept-of v) (out .now)
-  by-resolve : (κs : Lfts 3) (g : LentGraph) (was xs out : Slice) (l v : ℕ) → CountFits (length (xs .now)) → FindsPackages κs g was l xs out v
-      → LentFind (g .now) Kind.Package l (xs .now) (was .now) (kept-of v) (out .now)
-  by-service-find : (κs : Lfts 3) (g : LentGraph) (was xs out : Slice) (l v : ℕ) → CountFits (length (xs .now)) → FindsServices κs g was l xs out v
-      → LentFind (g .now) Kind.Service l (xs .now) (was .now) (kept-of v) (out .now)
+pub data LentFind (g : Graph) (k : Kind) (l : ℕ) (xs entry : List ℕ) : Kept → List ℕ → Type 0 where
+  find-read : {v : ℕ} {exit : List ℕ} → CountFits (length xs) → CFind g k l xs entry v exit → LentFind g k l xs entry (kept-of v) exit
 
-pub data LentEvent : Graph → Kind → ℕ → List ℕ → List ℕ → Kept → List ℕ → Type 0 where
-  by-bundle-event : (κs : Lfts 3) (g : LentGraph) (was xs out : Slice) (number v : ℕ) → CountFits (length (xs .now)) → TellsBundle κs g was xs number out v
-      → LentEvent (g .now) Kind.Bundle number (xs .now) (was .now) (kept-of v) (out .now)
-  by-service-event : (κs : Lfts 3) (g : LentGraph) (was xs out : Slice) (number v : ℕ) → CountFits (length (xs .now)) → TellsService κs g was xs number out v
-      → LentEvent (g .now) Kind.Service number (xs .now) (was .now) (kept-of v) (out .now)
+pub data LentEvent (g : Graph) (k : Kind) (number : ℕ) (xs entry : List ℕ) : Kept → List ℕ → Type 0 where
+  event-read : {v : ℕ} {exit : List ℕ} → CountFits (length xs) → CEvent g k number xs entry v exit → LentEvent g k number xs entry (kept-of v) exit
 
 -- the archive query takes no record
 pub data LentAsk : List ℕ → ℕ → ℕ → ℕ → ℕ → Type 0 where

@@ -15,6 +15,15 @@ LEVEL = 11
 # gen2 has region numbers and kinds of one byte. The interface takes 32 bits.
 LARGE = (256, 65536, 2**31, 2**32 - 16, 2**32 - 1)
 
+# The finds and the events, with the kind of what they ask for.
+FINDS = {"bfind": oracle2.BUNDLE, "resolve": oracle2.PACKAGE, "sfind": oracle2.SERVICE}
+EVENTS = {"bevent": oracle2.BUNDLE, "sevent": oracle2.SERVICE}
+
+
+def numbers_held(graph, kind):
+    """The numbers of a kind that bundles of a graph hold."""
+    return {item[0] if kind == oracle2.PACKAGE else item for item in oracle2.all_items(graph, kind)}
+
 
 class Script(gen2.Script):
     """A script under way, with large region numbers, and with images of the record after some of the refused changes."""

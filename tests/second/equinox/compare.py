@@ -16,12 +16,10 @@ sys.path.insert(0, os.path.join(HERE, ".."))
 import cases  # noqa: E402
 import gen2  # noqa: E402
 import oracle2  # noqa: E402
-from cases import LEVEL  # noqa: E402
+from cases import EVENTS, FINDS, LEVEL  # noqa: E402
 
 CHANGES = tuple(oracle2.CHANGES)
-QUERIES = ("bfind", "resolve", "sfind", "bevent", "sevent")
-FINDS = {"bfind": oracle2.BUNDLE, "resolve": oracle2.PACKAGE, "sfind": oracle2.SERVICE}
-EVENTS = {"bevent": oracle2.BUNDLE, "sevent": oracle2.SERVICE}
+QUERIES = (*FINDS, *EVENTS)
 UNHELD = [77, 91]
 MOST_SHOWN = 10
 BLOCK = 500
@@ -29,8 +27,7 @@ BLOCK = 500
 
 def items_of(graph, kind):
     """Every item of a kind that is held, and two that are not."""
-    held = oracle2.all_items(graph, kind)
-    return sorted({item[0] if kind == oracle2.PACKAGE else item for item in held} | set(UNHELD))
+    return sorted(cases.numbers_held(graph, kind) | set(UNHELD))
 
 
 def some(rnd, pool, most):

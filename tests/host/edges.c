@@ -1,47 +1,9 @@
-/* Memory that ends where a page that faults begins: a call that reads or writes past what it is lent ends the program. */
-#define _DEFAULT_SOURCE
+/* Calls on memory that ends where a page that faults begins. */
+#include "edge.h"
 #include "graphs.h"
 #include "host.h"
 #include "images.h"
 #include "sheets.h"
-
-#include <string.h>
-#include <sys/mman.h>
-#include <unistd.h>
-
-enum {
-    ROOM = 1 << 16 /* a whole number of pages, for any part that is lent */
-};
-
-/* The end of ROOM bytes of memory, which have a page after them that faults. */
-static uint8_t *edge(void)
-{
-    size_t fault = (size_t)sysconf(_SC_PAGESIZE);
-    uint8_t *start = mmap(NULL, ROOM + fault, PROT_READ | PROT_WRITE, MAP_PRIVATE | MAP_ANONYMOUS, -1, 0);
-    CHECK(start != MAP_FAILED && mprotect(start + ROOM, fault, PROT_NONE) == 0);
-    return start + ROOM;
-}
-
-static void release(uint8_t *end)
-{
-    CHECK(munmap(end - ROOM, ROOM + (size_t)sysconf(_SC_PAGESIZE)) == 0);
-}
-
-/* A record, a list of numbers, or bytes, that end at an edge. */
-static region_graph *record_at(uint8_t *end)
-{
-    return (region_graph *)(void *)(end - sizeof(region_graph));
-}
-
-static uint32_t *numbers_at(uint8_t *end, const uint32_t *numbers, size_t count)
-{
-    return memcpy(end - count * sizeof *numbers, numbers, count * sizeof *numbers);
-}
-
-static uint8_t *bytes_at(uint8_t *end, const uint8_t *bytes, size_t count)
-{
-    return memcpy(end - count, bytes, count);
-}
 
 static void changes_at(uint8_t *a, uint8_t *b)
 {

@@ -12,6 +12,7 @@ static void test_all(void)
     test_changes();
     test_refused_changes();
     test_queries();
+    test_isolation();
     test_archives();
     test_names();
     test_edges();

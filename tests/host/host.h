@@ -7,6 +7,7 @@ void test_lists(void);
 void test_changes(void);
 void test_refused_changes(void);
 void test_queries(void);
+void test_isolation(void);
 void test_archives(void);
 void test_names(void);
 void test_edges(void);

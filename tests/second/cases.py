@@ -1,4 +1,5 @@
-"""What is compared: the level, and the second program's cases with more of what the interface for C can be handed."""
+"""What is compared: the level, and the second program's cases with more of what the interface for C can be handed, and with more
+queries of two graphs that agree on a set of regions."""
 
 import os
 import random
@@ -10,7 +11,7 @@ import gen2  # noqa: E402
 import oracle2  # noqa: E402
 
 # The level of the product: 10 is document 01 alone, a higher one the number of the last request of document 02 that it has.
-LEVEL = 11
+LEVEL = 12
 
 # gen2 has region numbers and kinds of one byte. The interface takes 32 bits.
 LARGE = (256, 65536, 2**31, 2**32 - 16, 2**32 - 1)
@@ -18,6 +19,7 @@ LARGE = (256, 65536, 2**31, 2**32 - 16, 2**32 - 1)
 # The finds and the events, with the kind of what they ask for.
 FINDS = {"bfind": oracle2.BUNDLE, "resolve": oracle2.PACKAGE, "sfind": oracle2.SERVICE}
 EVENTS = {"bevent": oracle2.BUNDLE, "sevent": oracle2.SERVICE}
+KINDS = tuple(FINDS.values())
 
 
 def numbers_held(graph, kind):
@@ -45,12 +47,15 @@ class Script(gen2.Script):
         return region if region <= oracle2.max_region(self.level) else self.rnd.choice((region,) + LARGE)
 
 
+# What coverage notes besides: hidden routes; and of each query, answers in cases of `isolation` that differ where a connection
+# leads out of the set.
 HIDDEN_ROUTE = "route, hidden"
+LED_OUT = {call: call + ", led out" for call in (*FINDS, *EVENTS, "route")}
 
 
 def unreached(coverage):
-    """The pairs of call and answer that the papers allow at the level and no case had."""
-    return coverage.missing() + [(HIDDEN_ROUTE, 0)] * (not coverage.answers[HIDDEN_ROUTE, 0])
+    """The pairs of call and answer that the papers allow at the level and no case had, and what was not noted besides."""
+    return coverage.missing() + [(name, 0) for name in (HIDDEN_ROUTE, *LED_OUT.values()) if not coverage.answers[name, 0]]
 
 
 def case_wide(s, rnd, i):
@@ -143,6 +148,125 @@ def case_names(s, rnd, i):
         put_sheet(s, changed(rnd, whole), rnd.sample(held, min(3, len(held))) + near[:2])
 
 
+# ---- two graphs that agree on a set of regions: request C-12
+
+ISOLATION = "isolation"
+MOST_REGIONS = 6        # regions that are built outside the set
+MOST_BUILT = 12         # bundles that are built there, and connections
+MOST_ASKED = 24         # numbers of a kind that are asked for, of those that the graphs have
+ABSENT = 2              # and of those that neither has
+
+
+def closure(graph, region):
+    """A region, and all that connections lead to from it, whatever they pass."""
+    found, more = set(), {region}
+    while more:
+        found |= more
+        more = {target for source, target in graph.F if source in found} - found
+    return found
+
+
+def within(graph, inside):
+    """What a graph has of a set of regions: those of its regions, the bundles in them and the connections that leave them."""
+    return oracle2.Graph(graph.R & inside, {location: bundle for location, bundle in graph.B.items() if bundle.region in inside},
+                         {pair: passed for pair, passed in graph.F.items() if pair[0] in inside})
+
+
+def built_around(rnd, level, inner, inside, other):
+    """A graph that has `inner` in the set. Outside are regions, bundles and connections at random: bundles also at locations of
+    another graph, connections also into the set. There is a place for one more connection."""
+    free = sorted(set(range(oracle2.max_region(level) + 1)) - inside)
+    outside = rnd.sample(free, rnd.randint(1, min(MOST_REGIONS, len(free))))
+    locations, packages, services = (sorted(numbers_held(other, kind) | set(rnd.sample(range(60), 6))) for kind in KINDS)
+    bundles, filters = dict(inner.B), dict(inner.F)
+    new = [location for location in locations if location not in bundles]
+    for location in rnd.sample(new, min(MOST_BUILT, len(new), oracle2.MAX_BUNDLES - len(bundles))):
+        bundles[location] = oracle2.Bundle(rnd.choice(outside), gen2.exports(rnd, level, packages), gen2.subset(rnd, services, 8))
+    pairs = [(source, target) for source in outside for target in sorted(inner.R) + outside if source != target]
+    for pair in rnd.sample(pairs, min(MOST_BUILT, len(pairs), oracle2.MAX_CONNECTIONS - 1 - len(filters))):
+        filters[pair] = oracle2.Filter(gen2.subset(rnd, locations, 16),
+                                       rnd.choice((oracle2.ALL, gen2.entries(rnd, level, packages))),
+                                       rnd.choice((oracle2.ALL, gen2.subset(rnd, services, 16))))
+    return oracle2.Graph(inner.R | set(outside), bundles, filters)
+
+
+def agreeing(rnd, level, large):
+    """Two graphs and a set of regions on which they agree: the closure of a region, with a bundle in it, and at times with numbers
+    of regions that neither graph has. Both graphs have regions outside."""
+    while True:
+        graph = gen2.any_graph(rnd, level, large)
+        unused = sorted(set(range(oracle2.max_region(level) + 1)) - graph.R)
+        inside = closure(graph, rnd.choice(sorted(graph.R)))
+        inside |= set(rnd.sample(unused, min(rnd.choice((0, 0, 1, 3)), len(unused))))
+        inner = within(graph, inside)
+        if inner.B and len(inner.F) < oracle2.MAX_CONNECTIONS and len(inside) <= oracle2.max_region(level):
+            break
+    first = graph if graph.R - inside else built_around(rnd, level, inner, inside, graph)
+    second = built_around(rnd, level, inner, inside, first)
+    assert oracle2.agree_on(first, second, inside)
+    return first, second, inside
+
+
+def leading_out(rnd, graph, inside):
+    """The graph with one more connection: it leads from a bundle's region in the set to one outside, and passes all that it can."""
+    regions = {bundle.region for bundle in graph.B.values()}
+    pair = rnd.choice(sorted(regions & inside)), rnd.choice(sorted(regions - inside or graph.R - inside))
+    outside = sorted(location for location, bundle in graph.B.items() if bundle.region not in inside)
+    return oracle2.Graph(graph.R, graph.B, {**graph.F, pair: oracle2.Filter(tuple(outside[:16]), oracle2.ALL, oracle2.ALL)})
+
+
+def some_numbers(rnd, graphs, kind):
+    """Numbers of a kind that one of the graphs has, and some that none has, in any order."""
+    held = sorted(set().union(*(numbers_held(graph, kind) for graph in graphs)))
+    absent = [number for number in range(100) if number not in held]
+    numbers = rnd.sample(held, min(MOST_ASKED, len(held))) + rnd.sample(absent, ABSENT)
+    return rnd.sample(numbers, len(numbers))
+
+
+def asker_lines(rnd, level, asker, numbers):
+    """Every find and route of a bundle: with room, with just enough of it, with too little; and a route of no kind."""
+    for call, kind in FINDS.items():
+        for more in (2, 0, -1):
+            yield "%s %d %d %s" % (call, asker, len(numbers[kind]) + more, oracle2.show(numbers[kind]))
+    length = oracle2.route_bytes(level)
+    items = [(kind, number) for kind in KINDS for number in numbers[kind]]
+    for kind, number in items:
+        yield "route %d %d %d %d" % (asker, kind, number, length + rnd.choice((0, 0, 4)))
+    kind, number = rnd.choice(items)
+    yield "route %d %d %d %d" % (asker, kind, number, length - 1)
+    yield "route %d %d %d %d" % (asker, rnd.choice((3, 4, 255) + LARGE), number, length)
+
+
+def event_lines(rnd, bundles, numbers):
+    """Every event, with all bundles as listeners in any order, some of them twice: with room, and with too little."""
+    for call, kind in EVENTS.items():
+        for number in numbers[kind]:
+            listeners = bundles + rnd.choices(bundles, k=2)
+            rnd.shuffle(listeners)
+            for more in (rnd.choice((0, 2)), -1):
+                yield "%s %d %d %s" % (call, len(listeners) + more, number, oracle2.show(listeners))
+
+
+def case_isolation(s, rnd, i):
+    """Two graphs that agree on a set of regions, and the six queries of every bundle of the set on the one and on the other; then the
+    same on the second with a connection that leads out of the set. So that a script stays short, up to MOST_ASKED numbers of a kind
+    are asked for, of those that the graphs have."""
+    first, second, inside = agreeing(rnd, s.level, large=i % 3 == 0)
+    bundles = sorted(within(first, inside).B)
+    numbers = {kind: some_numbers(rnd, (first, second), kind) for kind in KINDS}
+    lines = [line for asker in bundles for line in asker_lines(rnd, s.level, asker, numbers)]
+    lines += event_lines(rnd, bundles, numbers)
+    answers = []
+    for graph in (first, second, leading_out(rnd, second, inside)):
+        s.put("start " + oracle2.image(s.level, graph).hex())
+        answers.append([s.put(line) for line in lines])
+    assert answers[0] == answers[1], "C-12 does not hold in the oracle"
+    for line, before, after in zip(lines, *answers[1:]):
+        if before != after:
+            s.coverage.note(LED_OUT[line.split(" ")[0]], 0)
+
+
 # gen2's functions make their scripts by this name, and all that this table has.
 gen2.Script = Script
-gen2.CAPABILITIES.update({"wide": (10, case_wide, 1), "over": (10, case_over, 1), "names": (11, case_names, 3)})
+gen2.CAPABILITIES.update({"wide": (10, case_wide, 1), "over": (10, case_over, 1), "names": (11, case_names, 3),
+                          ISOLATION: (12, case_isolation, 3)})

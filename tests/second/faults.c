@@ -8,7 +8,9 @@
 #include "wimboru.h"
 
 /* The faults have the numbers from 1 up to this one; 0 is none. */
-enum { FAULTS = 65 };
+enum { FAULTS = 68 };
+/* From this one on they let a bundle learn what stands in regions that no connection leads to. */
+enum { OUTSIDE = 66 };
 
 #define CALL(type, name, ...) \
     type __real_##name(__VA_ARGS__); \
@@ -122,6 +124,58 @@ CALL(uint32_t, region_disconnect, region_graph *g, uint32_t source, uint32_t tar
     return fault(17) && number == 6 ? 0 : number;
 }
 
+/* ---- what stands in other regions ---- */
+
+int64_t __real_region_route(const region_graph *g, uint8_t *out, size_t out_length, uint32_t location, uint32_t kind,
+                            uint32_t item);
+
+static bool holds(const region_graph *g, uint32_t region, uint32_t kind, uint32_t item)
+{
+    uint8_t out[REGION_ROUTE_BYTES];
+
+    for (size_t i = 0; i < g->bundle_count; i++) {
+        if (g->bundles[i].region == region && __real_region_route(g, out, sizeof out, g->bundles[i].location, kind, item) == 0) {
+            return true;
+        }
+    }
+    return false;
+}
+
+/* The place in the record of a bundle that is installed. */
+static size_t place_of(const region_graph *g, uint32_t location)
+{
+    size_t place = 0;
+
+    while (g->bundles[place].location != location) {
+        place++;
+    }
+    return place;
+}
+
+/* Whether the bundle that stands before one in the record sees an item. */
+static bool one_before_sees(const region_graph *g, uint32_t location, uint32_t kind, uint32_t item)
+{
+    uint8_t out[REGION_ROUTE_BYTES];
+    size_t place = place_of(g, location);
+
+    return __real_region_route(g, out, sizeof out, g->bundles[place == 0 ? 0 : place - 1].location, kind, item) >= 0;
+}
+
+/* The route against one connection, which leads from a holder of the item to the bundle's region. */
+static int64_t route_against(const region_graph *g, uint8_t *out, uint32_t location, uint32_t kind, uint32_t item)
+{
+    uint32_t region = g->bundles[place_of(g, location)].region;
+
+    for (size_t i = 0; i < g->connection_count; i++) {
+        if (g->connections[i].target == region && holds(g, g->connections[i].source, kind, item)) {
+            out[0] = (uint8_t)region;
+            out[1] = (uint8_t)g->connections[i].source;
+            return 1;
+        }
+    }
+    return -REGION_HIDDEN;
+}
+
 /* ---- finds and events ---- */
 
 /* What a find makes of its answer. */
@@ -148,8 +202,19 @@ static int64_t found(int64_t count, uint32_t *out, size_t out_count, const uint3
 CALL(int64_t, region_bundle_find, const region_graph *g, uint32_t *out, size_t out_count, uint32_t location,
      const uint32_t *candidates, size_t candidate_count)
 {
-    return found(__real_region_bundle_find(g, out, out_count, location, candidates, candidate_count), out, out_count, candidates,
-                 candidate_count);
+    uint8_t route[REGION_ROUTE_BYTES];
+    int64_t count = __real_region_bundle_find(g, out, out_count, location, candidates, candidate_count);
+
+    if (fault(66) && count >= 0) {
+        count = 0;
+        for (size_t i = 0; i < candidate_count; i++) {
+            if (__real_region_route(g, route, sizeof route, location, REGION_KIND_BUNDLE, candidates[i]) >= 0
+                || route_against(g, route, location, REGION_KIND_BUNDLE, candidates[i]) >= 0) {
+                out[count++] = candidates[i];
+            }
+        }
+    }
+    return found(count, out, out_count, candidates, candidate_count);
 }
 
 CALL(int64_t, region_resolve, const region_graph *g, uint32_t *out, size_t out_count, uint32_t location, const uint32_t *candidates,
@@ -174,8 +239,20 @@ CALL(int64_t, region_resolve, const region_graph *g, uint32_t *out, size_t out_c
 CALL(int64_t, region_service_event, const region_graph *g, uint32_t *out, size_t out_count, const uint32_t *listeners,
      size_t listener_count, uint32_t service)
 {
+    uint32_t own[REGION_LONGEST_IMAGE];
+    int64_t count = 0;
+
     if (fault(24) && listener_count > 1 && not_installed(g, listeners[listener_count - 1])) {
         listener_count--;
+    }
+    if (fault(67) && listener_count <= out_count
+        && __real_region_service_event(g, own, REGION_LONGEST_IMAGE, listeners, listener_count, service) >= 0) {
+        for (size_t i = 0; i < listener_count; i++) {
+            if (one_before_sees(g, listeners[i], REGION_KIND_SERVICE, service)) {
+                out[count++] = listeners[i];
+            }
+        }
+        return count;
     }
     return __real_region_service_event(g, out, out_count, listeners, listener_count, service);
 }
@@ -200,6 +277,9 @@ CALL(int64_t, region_route, const region_graph *g, uint8_t *out, size_t out_leng
     }
     if (fault(28) && count == -REGION_HIDDEN) {
         out[0] = 0;
+    }
+    if (fault(68) && count == -REGION_HIDDEN) {
+        return route_against(g, out, location, kind, item);
     }
     if (fault(29) && count == -REGION_NO_PLACE) {
         count = __real_region_route(g, own, sizeof own, location, kind, item);

@@ -5,5 +5,8 @@ pub mod Inverse
 pub mod Meets
 pub mod Theorems
 pub mod NamesFound
+pub mod Restricted
+pub mod Isolation
 pub mod Rows
 pub mod GraphG
+pub mod Neighbours

@@ -19,7 +19,7 @@ use Rattle.region_routes.proofs.Choosing.{chosen-best, chosen-none}
 use Rattle.demands.proofs.Claims.{keep-selected, sees-seen, seen-sees}
 
 module _ (cs : List Call) (w : All Words cs) where
-  legal : Legal (run nothing cs)
+  pub legal : Legal (run nothing cs)
   legal = legal-run nothing cs legal-nothing w
 
   -- a route that was computed, or that there is none
@@ -39,7 +39,7 @@ module _ (cs : List Call) (w : All Words cs) where
         (λ n. seen-sees (run nothing cs) legal (item 1 n) r) xs,
   )
 
-words-g : All Words graph-g
+pub words-g : All Words graph-g
 words-g = search needs depth 30 fits 4000
 
 words-cycle : All Words cycle

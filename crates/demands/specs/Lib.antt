@@ -8,5 +8,7 @@ pub mod ByValue
 pub mod Lent
 -- request C-11: what lookups of names say
 pub mod Names
+-- request C-12: two graphs that agree on a set of regions
+pub mod Isolation
 -- document 01's worked cases
 pub mod JointTable

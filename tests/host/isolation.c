@@ -1,0 +1,225 @@
+/* Request C-12: two graphs that agree on a set of regions that no connection leads out of. The six queries of the bundles of the set
+   are put to both: the numbers are equal, and so is every byte of the buffers. What is lent ends at a page that faults. */
+#include "edge.h"
+#include "graphs.h"
+#include "host.h"
+
+#include <string.h>
+
+enum { SIDES = 2 };
+
+/* The two graphs: the record, its bytes before the queries, and the end of the buffer. */
+static struct side {
+    region_graph *record;
+    region_graph before;
+    uint8_t *end;
+} sides[SIDES];
+
+/* The end of the lists that are handed in. */
+static uint8_t *list_end;
+
+/* A find or an event: the other is NULL. Both take a number, which is the asker or the item, and a list. */
+struct hook {
+    find_call *find;
+    event_call *event;
+};
+
+static const struct hook finds[] = {{region_bundle_find, NULL}, {region_resolve, NULL}, {region_service_find, NULL}};
+static const struct hook events[] = {{NULL, region_bundle_event}, {NULL, region_service_event}};
+
+/* A buffer of so many bytes. It has the pattern, as what lend fills has, and so has all memory before it. */
+static void *buffer(const struct side *side, size_t length)
+{
+    memset(side->end - ROOM, lent.before[0], ROOM);
+    return side->end - length;
+}
+
+/* Whether both sides gave the same number and have the same bytes. No record may have changed. */
+static bool alike(const int64_t *answers)
+{
+    for (size_t i = 0; i < SIDES; i++) {
+        CHECK(memcmp(sides[i].record, &sides[i].before, sizeof sides[i].before) == 0);
+    }
+    return answers[0] == answers[1] && memcmp(sides[0].end - ROOM, sides[1].end - ROOM, ROOM) == 0;
+}
+
+/* A find or an event on both sides, which is refused only where it has too few places. */
+static bool hook_alike(struct hook hook, size_t places, uint32_t number, const uint32_t *numbers, size_t count)
+{
+    const uint32_t *list = numbers_at(list_end, numbers, count);
+    int64_t answers[SIDES];
+    for (size_t i = 0; i < SIDES; i++) {
+        const region_graph *record = sides[i].record;
+        uint32_t *out = buffer(&sides[i], places * sizeof *out);
+        answers[i] = hook.find != NULL ? hook.find(record, out, places, number, list, count)
+                                       : hook.event(record, out, places, list, count, number);
+        CHECK(places < count ? answers[i] == -REGION_NO_PLACE : answers[i] >= 0);
+    }
+    return alike(answers);
+}
+
+/* A route on both sides, which is refused only where the kind is none, or it has too few bytes. */
+static bool route_alike(size_t length, uint32_t asker, uint32_t kind, uint32_t item)
+{
+    bool is_kind = kind <= REGION_KIND_SERVICE;
+    int64_t answers[SIDES];
+    for (size_t i = 0; i < SIDES; i++) {
+        answers[i] = region_route(sides[i].record, buffer(&sides[i], length), length, asker, kind, item);
+        CHECK((answers[i] == -REGION_NOT_A_KIND) == !is_kind);
+        CHECK((answers[i] == -REGION_NO_PLACE) == (is_kind && length < REGION_ROUTE_BYTES));
+        CHECK(answers[i] != -REGION_NOT_INSTALLED);
+    }
+    return alike(answers);
+}
+
+/* With more places than the list has numbers, as many, fewer, none; and with an empty list. */
+static void hook_queries(struct hook hook, uint32_t number, const uint32_t *numbers, size_t count)
+{
+    CHECK(hook_alike(hook, count + 1, number, numbers, count));
+    CHECK(hook_alike(hook, count, number, numbers, count));
+    CHECK(hook_alike(hook, count - 1, number, numbers, count));
+    CHECK(hook_alike(hook, 0, number, numbers, count));
+    CHECK(hook_alike(hook, 0, number, numbers, 0));
+}
+
+/* Of every kind, and of one that is none: with more bytes than a route needs, as many, fewer, none. */
+static void route_queries(uint32_t asker, uint32_t item)
+{
+    for (uint32_t kind = REGION_KIND_BUNDLE; kind <= REGION_KIND_REGION; kind++) {
+        CHECK(route_alike(REGION_ROUTE_BYTES + 1, asker, kind, item));
+        CHECK(route_alike(REGION_ROUTE_BYTES, asker, kind, item));
+        CHECK(route_alike(REGION_ROUTE_BYTES - 1, asker, kind, item));
+        CHECK(route_alike(0, asker, kind, item));
+    }
+    CHECK(route_alike(REGION_ROUTE_BYTES, asker, UINT32_MAX, item));
+}
+
+static void keep_records(void)
+{
+    for (size_t i = 0; i < SIDES; i++) {
+        memcpy(&sides[i].before, sides[i].record, sizeof sides[i].before);
+    }
+}
+
+/* The six queries of bundles of the set: each asks for all numbers, and all listen to each number. */
+static void queries(const uint32_t *bundles, size_t bundle_count, const uint32_t *numbers, size_t count)
+{
+    keep_records();
+    for (size_t i = 0; i < bundle_count; i++) {
+        for (size_t k = 0; k < sizeof finds / sizeof finds[0]; k++) {
+            hook_queries(finds[k], bundles[i], numbers, count);
+        }
+        for (size_t k = 0; k < count; k++) {
+            route_queries(bundles[i], numbers[k]);
+        }
+    }
+    for (size_t i = 0; i < count; i++) {
+        for (size_t k = 0; k < sizeof events / sizeof events[0]; k++) {
+            hook_queries(events[k], numbers[i], bundles, bundle_count);
+        }
+    }
+}
+
+/* Agrees with G on the regions 1 and 2: bundle 10 is in region 3, which has a connection to region 1, and there is no region 0. */
+static void put_neighbours(region_graph *record)
+{
+    region_empty(record);
+    CHECK(region_add(record, 1) == REGION_NOT_REFUSED);
+    CHECK(region_add(record, 2) == REGION_NOT_REFUSED);
+    CHECK(region_add(record, 3) == REGION_NOT_REFUSED);
+    CHECK(region_install(record, 3, 10, LIST(1, 2, 3), LIST(7)) == REGION_NOT_REFUSED);
+    CHECK(region_install(record, 1, 20, LIST(1), NONE) == REGION_NOT_REFUSED);
+    CHECK(region_install(record, 2, 30, LIST(1, 2, 3), NONE) == REGION_NOT_REFUSED);
+    CHECK(region_connect(record, 1, 2, NONE, false, LIST(1, 3), false, NONE) == REGION_NOT_REFUSED);
+    CHECK(region_connect(record, 3, 1, LIST(20), true, NONE, true, NONE) == REGION_NOT_REFUSED);
+}
+
+static void g_and_neighbours(void)
+{
+    put_g(sides[0].record);
+    put_neighbours(sides[1].record);
+    queries(LIST(30, 20, 20), LIST(1, 2, 3, 7, 10, 20, 30, 77));
+}
+
+static void add_regions(region_graph *record, uint32_t from, uint32_t below)
+{
+    for (uint32_t region = from; region < below; region++) {
+        CHECK(region_add(record, region) == REGION_NOT_REFUSED);
+    }
+}
+
+/* In the regions 0 to 7: bundle 10 in the first, bundle 20 in the last, and a connection from each to the next. */
+static void put_row(region_graph *record)
+{
+    CHECK(region_install(record, 0, 10, NONE, LIST(6)) == REGION_NOT_REFUSED);
+    CHECK(region_install(record, 7, 20, LIST(8), LIST(5)) == REGION_NOT_REFUSED);
+    for (uint32_t region = 0; region < 7; region++) {
+        CHECK(region_connect(record, region, region + 1, LIST(20), false, LIST(8), true, NONE) == REGION_NOT_REFUSED);
+    }
+}
+
+/* In the other regions: as many bundles and connections as the row leaves places for, all connections but one into the row. */
+static void put_others(region_graph *record)
+{
+    for (uint32_t i = 0; i < REGION_MOST_BUNDLES - 2; i++) {
+        CHECK(region_install(record, 8 + i % 8, 2 * i + 1, LIST(8, 9), LIST(4, 5)) == REGION_NOT_REFUSED);
+    }
+    for (uint32_t i = 0; i < REGION_MOST_CONNECTIONS - 8; i++) {
+        CHECK(region_connect(record, 8 + i % 8, i / 8, LIST(10, 20), true, NONE, true, NONE) == REGION_NOT_REFUSED);
+    }
+    CHECK(region_connect(record, 8, 9, LIST(10, 20), true, NONE, true, NONE) == REGION_NOT_REFUSED);
+}
+
+/* The row with one other bundle, and the row in a record with no place left, where the others were put before it. */
+static void few_and_many(void)
+{
+    region_empty(sides[0].record);
+    add_regions(sides[0].record, 0, 9);
+    put_row(sides[0].record);
+    CHECK(region_install(sides[0].record, 8, 11, NONE, LIST(7)) == REGION_NOT_REFUSED);
+    region_empty(sides[1].record);
+    add_regions(sides[1].record, 0, REGION_REGIONS);
+    put_others(sides[1].record);
+    put_row(sides[1].record);
+    CHECK(region_install(sides[1].record, 8, 1000, NONE, NONE) == REGION_FULL);
+    CHECK(region_connect(sides[1].record, 9, 8, NONE, false, NONE, false, NONE) == REGION_FULL);
+    queries(LIST(10, 20, 10), LIST(1, 4, 5, 6, 7, 8, 9, 10, 11, 20, 77));
+}
+
+/* G and its neighbours with a connection from 1 to 3, which leads out of the set: the answers differ. In G region 3 is empty. */
+static void led_out(void)
+{
+    put_g(sides[0].record);
+    CHECK(region_add(sides[0].record, 3) == REGION_NOT_REFUSED);
+    put_neighbours(sides[1].record);
+    for (size_t i = 0; i < SIDES; i++) {
+        CHECK(region_connect(sides[i].record, 1, 3, LIST(10), true, NONE, true, NONE) == REGION_NOT_REFUSED);
+    }
+    keep_records();
+    CHECK(!hook_alike(finds[0], 3, 20, LIST(10, 20, 30)));
+    CHECK(!hook_alike(finds[1], 3, 20, LIST(1, 2, 3)));
+    CHECK(!hook_alike(finds[2], 3, 20, LIST(7)));
+    CHECK(!hook_alike(events[0], 3, 10, LIST(20, 30, 20)));
+    CHECK(!hook_alike(events[1], 3, 7, LIST(20, 30)));
+    CHECK(!route_alike(REGION_ROUTE_BYTES, 20, REGION_KIND_PACKAGE, 2));
+}
+
+void test_isolation(void)
+{
+    uint8_t *records[SIDES];
+    lend();
+    for (size_t i = 0; i < SIDES; i++) {
+        records[i] = edge();
+        sides[i].record = record_at(records[i]);
+        sides[i].end = edge();
+    }
+    list_end = edge();
+    g_and_neighbours();
+    few_and_many();
+    led_out();
+    for (size_t i = 0; i < SIDES; i++) {
+        release(records[i]);
+        release(sides[i].end);
+    }
+    release(list_end);
+}

@@ -16,6 +16,7 @@ use Rattle.region_graph.proofs.Legal.{Words}
 use Rattle.region_graph.proofs.Storing.{stores-valid, stores-means}
 use Rattle.region_routes.specs.Chosen.{chosen-by, chosen}
 use Rattle.region_routes.specs.Hooks.{kept, find-outcome}
+use Rattle.region_routes.specs.declared.Kind.{Kind}
 use Rattle.region_routes.specs.declared.Kind.the-variants as Kind
 use Rattle.region_routes.specs.declared.Kept.the-variants.{Wrote}
 use Rattle.demands.specs.Isolation.{restricted, Agree}
@@ -67,9 +68,15 @@ agree-example = (
     differ : run nothing graph-g ≡ run nothing neighbours → ⊥
     differ e = let z : _≡_ {A = ℕ} 0 1 = ap (λ (m : Model). getD (m .regions) 0 0) e in absurd (omega arith)
 
--- a bundle outside the set: 10 finds bundle 20 in one of them
-pub outside-differs : (find-outcome (run nothing graph-g) Kind.Bundle 10 (20 ∷ []) (0 ∷ []) ≡ kept (Wrote 0) (0 ∷ []))
-    × (find-outcome (run nothing neighbours) Kind.Bundle 10 (20 ∷ []) (0 ∷ []) ≡ kept (Wrote 1) (20 ∷ []))
+-- in the graph of some calls a find of the bundle at l for one number keeps it, or does not
+abbrev Finds : List Call → Kind → ℕ → ℕ → Type 0
+Finds cs k l x = find-outcome (run nothing cs) k l (x ∷ []) (0 ∷ []) ≡ kept (Wrote 1) (x ∷ [])
+
+abbrev Misses : List Call → Kind → ℕ → ℕ → Type 0
+Misses cs k l x = find-outcome (run nothing cs) k l (x ∷ []) (0 ∷ []) ≡ kept (Wrote 0) (0 ∷ [])
+
+-- a bundle outside the set
+pub outside-differs : Misses graph-g Kind.Bundle 10 20 × Finds neighbours Kind.Bundle 10 20
 unfolding chosen chosen-by
 outside-differs = (refl, refl)
 
@@ -77,9 +84,19 @@ outside-differs = (refl, refl)
 abbrev opened : List ℕ → List Call
 opened services = graph-g ++ (Call.add-region 3 ∷ bundle-of 40 3 [] services ∷ passing 1 3 [] (Part.listed []) Part.everything ∷ [])
 
--- their restrictions are the same, but that connection leads out of the set: 20 finds service 7 in one of them
+-- the restrictions are the same, but that connection leads out of the set
 pub leading-out-differs : (restricted one-and-two (run nothing (opened [])) ≡ restricted one-and-two (run nothing (opened (7 ∷ []))))
-    × (find-outcome (run nothing (opened [])) Kind.Service 20 (7 ∷ []) (0 ∷ []) ≡ kept (Wrote 0) (0 ∷ []))
-    × (find-outcome (run nothing (opened (7 ∷ []))) Kind.Service 20 (7 ∷ []) (0 ∷ []) ≡ kept (Wrote 1) (7 ∷ []))
+    × Misses (opened []) Kind.Service 20 7 × Finds (opened (7 ∷ [])) Kind.Service 20 7
 unfolding chosen chosen-by
 leading-out-differs = (refl, refl, refl)
+
+-- G with another bundle 30, which lacks package 3
+abbrev exchanged : List Call
+exchanged = graph-g ++ (Call.uninstall 30 ∷ bundle-of 30 2 (1 ∷ 2 ∷ []) [] ∷ [])
+
+-- the regions of the set and the connections leaving them are the same, but a bundle in them is not
+pub other-bundle-differs : (restricted one-and-two (run nothing graph-g) .regions ≡ restricted one-and-two (run nothing exchanged) .regions)
+    × (restricted one-and-two (run nothing graph-g) .connections ≡ restricted one-and-two (run nothing exchanged) .connections)
+    × Finds graph-g Kind.Package 20 3 × Misses exchanged Kind.Package 20 3
+unfolding chosen chosen-by
+other-bundle-differs = (refl, refl, refl, refl)

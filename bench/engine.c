@@ -18,8 +18,11 @@ enum { COPIES = 8 };
 
 enum { LIST = 1000, HELD = 512, LISTED = 8, PROVIDED = 8 };
 
+/* The regions of the graphs "all" and "listed"; and the first of a row of connections that ends in the last region there is. */
+enum { REGIONS = 16, FIRST_OF_ROW = REGION_REGIONS - 1 - REGION_MOST_CONNECTIONS };
+
 static const uint32_t ASKER = 2000;
-/* Held in region 15, five connections away from the asker. */
+/* Held in region 15, five connections away from the asker; where there are 64 regions, in region 63. */
 static const uint32_t SEEN_ITEM = 511;
 /* Held in region 15, and passed by every connection but those to region 15. */
 static const uint32_t HIDDEN_ITEM = 504;
@@ -166,6 +169,7 @@ static int64_t find_1_seen(void) { return region_resolve(&graph, kept, LIST, ASK
 static int64_t find_1_hidden(void) { return region_resolve(&graph, kept, LIST, ASKER, &hidden, 1); }
 static int64_t find_1000(void) { return region_resolve(&graph, kept, LIST, ASKER, candidates, LIST); }
 static int64_t event_1000(void) { return region_service_event(&graph, kept, LIST, listeners, LIST, SEEN_ITEM); }
+static int64_t route_48(void) { return region_route(&graph, bytes, sizeof bytes, ASKER + FIRST_OF_ROW, REGION_KIND_PACKAGE, SEEN_ITEM); }
 static uint32_t uninstall(region_graph *to) { return region_uninstall(to, ASKER + 32); }
 static uint32_t install(region_graph *to) { return region_install(to, 0, ASKER + 32, provided, PROVIDED, provided, PROVIDED); }
 static uint32_t disconnect(region_graph *to) { return region_disconnect(to, 7, 9); }
@@ -201,21 +205,37 @@ static void connect_full(uint32_t source, uint32_t target, bool all)
     must(region_connect(&graph, source, target, numbers, count, all, numbers, count, all, numbers, count) == 0, "connect");
 }
 
-/* 16 regions, 64 bundles, 48 connections that pass all packages and services, or list 8 numbers in each part. */
-static void full_graph(bool all)
+/* Regions from 0 on, and 64 bundles in them in turn. */
+static void add_regions(uint32_t count)
 {
-    region_empty(&graph);
-    for (uint32_t r = 0; r < REGION_REGIONS; r++) {
+    for (uint32_t r = 0; r < count; r++) {
         must(region_add(&graph, r) == 0, "add");
     }
     for (uint32_t i = 0; i < REGION_MOST_BUNDLES; i++) {
         provide(i);
-        must(region_install(&graph, i % REGION_REGIONS, ASKER + i, provided, PROVIDED, provided, PROVIDED) == 0, "install");
+        must(region_install(&graph, i % count, ASKER + i, provided, PROVIDED, provided, PROVIDED) == 0, "install");
     }
-    for (uint32_t r = 0; r < REGION_REGIONS; r++) {
+}
+
+/* 16 regions, 64 bundles, 48 connections that pass all packages and services, or list 8 numbers in each part. */
+static void full_graph(bool all)
+{
+    region_empty(&graph);
+    add_regions(REGIONS);
+    for (uint32_t r = 0; r < REGIONS; r++) {
         for (uint32_t step = 1; step <= 3; step++) {
-            connect_full(r, (r + step) % REGION_REGIONS, all);
+            connect_full(r, (r + step) % REGIONS, all);
         }
+    }
+}
+
+/* 64 regions with a bundle each; 48 connections, from region 15 to region 63 in a row, that pass all packages and services. */
+static void row_graph(void)
+{
+    region_empty(&graph);
+    add_regions(REGION_REGIONS);
+    for (uint32_t r = FIRST_OF_ROW; r + 1 < REGION_REGIONS; r++) {
+        connect_full(r, r + 1, true);
     }
 }
 
@@ -290,6 +310,8 @@ int main(int count, char **arguments)
     best("write_longest", "", write_longest);
     best("query_g", "", query_g);
     best("query_longest", "", query_longest);
+    row_graph();
+    best("route_48", "", route_48);
     best("name_g", "", name_g);
     best("name_1000_first", "", name_first);
     best("name_1000_last", "", name_last);

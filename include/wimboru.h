@@ -41,14 +41,15 @@
 extern "C" {
 #endif
 
-/* The version of this interface. It is raised whenever a host must be compiled anew: where the record or a call's arguments change. */
-#define WIMBORU_VERSION 1
+/* The version of this interface. It is raised whenever a host must be compiled anew: where the record, a call's arguments, or the
+   length of a buffer that this header gives, changes. */
+#define WIMBORU_VERSION 2
 
 /* What a changing call returns: 0, or the number of the question that was answered no. A query returns the same numbers below
    zero, as in -REGION_NOT_INSTALLED. */
 enum {
     REGION_NOT_REFUSED = 0,
-    REGION_NOT_A_REGION = 1,      /* a region number is above 15 */
+    REGION_NOT_A_REGION = 1,      /* a region number is above 63 */
     REGION_USED = 2,              /* the region is in the graph already */
     REGION_NO_SUCH_REGION = 3,    /* a region is not in the graph */
     REGION_ENDS_EQUAL = 4,        /* source and target are the same region */
@@ -62,9 +63,9 @@ enum {
     REGION_NOT_INSTALLED = 12,    /* the bundle, or a listener, is not installed */
     REGION_NOT_A_KIND = 13,       /* the kind is above 2 */
     REGION_NO_PLACE = 14,         /* the output buffer is too short */
-    REGION_NOT_AN_ARCHIVE = 15,   /* there are fewer than 5 bytes, or the first is not 1 */
+    REGION_NOT_AN_ARCHIVE = 15,   /* there are fewer than 5 bytes, or the first is neither 1 nor 2 */
     REGION_WRONG_LENGTH = 16,     /* the length field is not the count of bytes after it */
-    REGION_BROKEN_LAYOUT = 17,    /* the bytes after the length are not an archive's layout, to the end */
+    REGION_BROKEN_LAYOUT = 17,    /* the bytes after the length are not the layout of an archive of its version, to the end */
     REGION_BROKEN_SHEET = 18,     /* the bytes are not a name sheet's layout, from the first to the last */
     REGION_NO_ENTRY = 19,         /* the sheet has no entry of the kind and number */
 };
@@ -85,14 +86,14 @@ enum {
 
 /* The limits. */
 enum {
-    REGION_REGIONS = 16, /* region numbers are below this */
+    REGION_REGIONS = 64, /* region numbers are below this */
     REGION_MOST_BUNDLES = 64,
     REGION_MOST_CONNECTIONS = 48,
     REGION_MOST_PROVIDED = 8,     /* packages, and services, of one bundle */
     REGION_MOST_LISTED = 16,      /* numbers in one part of a filter */
     REGION_EVERYTHING = 255,      /* the count of a part that is everything, in the record and in an archive */
-    REGION_ROUTE_BYTES = 16,      /* the buffer that a route needs, however short the route is */
-    REGION_LONGEST_IMAGE = 14248, /* bytes; a buffer of this length takes the image of any graph */
+    REGION_ROUTE_BYTES = 64,      /* the buffer that a route needs, however short the route is */
+    REGION_LONGEST_IMAGE = 14296, /* bytes; a buffer of this length takes the image of any graph */
     REGION_LONGEST_NAME = 40,     /* bytes of a name, which has at least 1 */
     REGION_STACK_BYTES = 524288,  /* the stack that is enough for any call */
 };
@@ -142,8 +143,9 @@ static_assert(alignof(region_graph) == 8, "the alignment of the record");
 uint32_t region_interface_version(void);
 size_t region_record_size(void);
 
-/* Whether the library has the interface of this header. A host that may have been compiled with another header asks before it lends
-   a record: a record of another size would be read and written outside its memory. */
+/* Whether the library has the interface of this header. A host that may have been compiled with another header asks before any
+   other call: a record of another size would be read and written outside its memory, and a buffer of REGION_ROUTE_BYTES may be too
+   short for a route. */
 static inline bool region_library_matches(void)
 {
     return region_interface_version() == WIMBORU_VERSION && region_record_size() == sizeof(region_graph);
@@ -187,7 +189,8 @@ uint32_t region_connect(region_graph *graph, uint32_t source, uint32_t target,
 /* Removes the connection from source to target. Refused with 1, 3, 4, 6. */
 uint32_t region_disconnect(region_graph *graph, uint32_t source, uint32_t target);
 
-/* Makes the record the graph of an archive. Refused with 15, 16, 17. */
+/* Makes the record the graph of an archive, of version 1 or 2. Each graph has one image: version 1 with a region number above 15 is
+   refused with 17, and so is version 2 without one. Refused with 15, 16, 17. */
 uint32_t region_read(region_graph *graph, const uint8_t *bytes, size_t length);
 
 /*
@@ -196,13 +199,14 @@ uint32_t region_read(region_graph *graph, const uint8_t *bytes, size_t length);
  * the answer is below zero every place keeps its value.
  */
 
-/* Writes the image of the graph, an archive, and returns its length. Refused with 14 where the buffer is shorter than the image. */
+/* Writes the image of the graph, an archive, and returns its length. Its first byte is the version: 1 where no region number is
+   above 15, else 2. Refused with 14 where the buffer is shorter than the image. */
 int64_t region_write(const region_graph *graph, uint8_t *out, size_t out_length);
 
 /* Writes the route by which the bundle at a location sees an item, and returns the route's count of connections. The buffer then
    starts with the regions of the route, one byte each, which are one more than the count. The route is the one with fewest
    connections; among those, the one whose region number is smaller where two first differ. Returns -101 (-REGION_HIDDEN) where
-   there is no route. Refused with 12, 13, 14; 14 where the buffer has fewer than 16 bytes. */
+   there is no route. Refused with 12, 13, 14; 14 where the buffer has fewer than 64 bytes. */
 int64_t region_route(const region_graph *graph, uint8_t *out, size_t out_length,
                      uint32_t location, uint32_t kind, uint32_t item);
 

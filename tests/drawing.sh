@@ -51,10 +51,10 @@ four() {
     two "$1"
 }
 
-# FILE: what is on standard input, after version 1 and its length
+# FILE [VERSION]: what is on standard input, after a version, which is 1 where none is given, and its length
 framed() {
     cat > "$work/rest"
-    { byte 1; four $(($(wc -c < "$work/rest"))); cat "$work/rest"; } > "$1"
+    { byte "${2:-1}"; four $(($(wc -c < "$work/rest"))); cat "$work/rest"; } > "$1"
 }
 
 # KIND NUMBER NAME: an entry of a sheet
@@ -148,6 +148,49 @@ same empty "$(draw examples/empty.archive | content)" 'digraph regions {
   label="no regions";
 }'
 
+# version 2: region numbers above 15
+same plates "$(draw examples/plates.archive | content)" "digraph regions {
+  label=\"regions: 3, bundles: 3, connections: 2\\n$title\";
+  0 [C, label=\"region 0\\l\\lbundle 10\\l\"];
+  16 [C, label=\"region 16\\l\\lbundle 20\\l- packages: 1\\l\"];
+  63 [C, label=\"region 63\\l\\lbundle 30\\l- packages: 2, 3\\l- services: 5\\l\"];
+  \"0-16\" [C, label=\"0 -> 16\\lpackages: 1, 2\\l\"];
+  0 -> \"0-16\" [C, arrowhead=none];
+  \"0-16\" -> 16 [C];
+  \"16-63\" [C, label=\"16 -> 63\\lbundles: 30\\lpackages: 2, 3\\lall services\\l\"];
+  16 -> \"16-63\" [C, arrowhead=none];
+  \"16-63\" -> 63 [C];
+}"
+{ entry 0 30 tray; entry 3 16 lift; entry 3 63 corner; } | framed "$work/places"
+expect_line 'plates with names, region 16' 16 'region 16 lift\l\lbundle 20\l- packages: 1\l' examples/plates.archive "$work/places"
+expect_line 'plates with names, region 63' 63 'region 63 corner\l\lbundle 30 tray\l- packages: 2, 3\l- services: 5\l' examples/plates.archive "$work/places"
+expect_line 'plates with names, 16 to 63' '"16-63"' '16 -> 63\lbundle 30 tray\lpackages: 2, 3\lall services\l' examples/plates.archive "$work/places"
+
+# every region, and a connection to the one before it from each of the last 48
+{
+    byte 64
+    region=0
+    while [ "$region" -lt 64 ]; do byte "$region"; region=$((region + 1)); done
+    byte 0
+    byte 48
+    region=16
+    while [ "$region" -lt 64 ]; do { list; list; list; } | connection "$region" $((region - 1)); region=$((region + 1)); done
+} > "$work/body"
+framed "$work/every-region" 2 < "$work/body"
+framed "$work/early" < "$work/body"
+draw "$work/every-region" | content > "$work/text"
+same 'title of every region' "$(grep -c '^  label="regions: 64, bundles: 0, connections: 48' "$work/text")" 1
+same 'lines of every region' "$(grep -c . "$work/text")" $((1 + 1 + 64 + 48 * 3 + 1))
+region=0
+while [ "$region" -lt 64 ]; do
+    expect_line "region $region of every region" "$region" "region $region\\l\\lno bundles\\l" "$work/every-region"
+    region=$((region + 1))
+done
+same 'last line of every region' "$(tail -n 2 "$work/text")" '  "63-62" -> 62 [C];
+}'
+same 'every region as version 1' "$(draw "$work/early")" 'refused 17'
+same 'g as version 2' "$(draw examples/refused-17-version.archive)" 'refused 17'
+
 # the lists of the longest archive, which are cut
 expect_line 'longest, region 0' 0 'region 0\l\lbundle 1000\l- packages: 0, 1, 2, 3 and 4 more\l- services: 0, 1, 2, 3 and 4 more\lbundle 1016\l- packages: 128, 129, 130, 131 and 4 more\l- services: 128, 129, 130, 131 and 4 more\lbundle 1032\l- packages: 256, 257, 258, 259 and 4 more\l- services: 256, 257, 258, 259 and 4 more\lbundle 1048\l- packages: 384, 385, 386, 387 and 4 more\l- services: 384, 385, 386, 387 and 4 more\l' examples/longest.archive
 expect_line 'longest, 15 to 2' '"15-2"' '15 -> 2\lbundles: 1000, 1001, 1002, 1003 and 12 more\lpackages: 240, 241, 242, 243 and 12 more\lservices: 32, 33, 34, 35 and 12 more\l' examples/longest.archive
@@ -226,6 +269,9 @@ if [ -n "$(command -v dot)" ]; then
             *) dot_takes "$archive" "$archive" ;;
         esac
     done
+    dot_takes 'every region' "$work/every-region"
+    dot_takes 'plates with names' examples/plates.archive "$work/places"
+    same 'regions of plates in the SVG' "$(texts "$work/svg" | grep -c -e '^region 16 lift$' -e '^region 63 corner$')" 2
     dot_takes filters "$work/filters" "$work/some"
     dot_takes signs examples/g.archive "$work/signs"
     same 'signs in the SVG' "$(texts "$work/svg" | grep -e '^bundle 10' -e '^region 0')" 'bundle 10 a&quot;b\c&amp;lt;d

@@ -17,6 +17,33 @@ spaces() {
     printf "%${1}s" ''
 }
 
+# NUMBER: a byte
+byte() {
+    printf '%b' "\\0$(printf '%o' "$1")"
+}
+
+# VERSION REGION EXPECTED: the program's text on an archive of a version with one region and nothing else
+expect_alone() {
+    { byte "$1"; printf '\000\000\000\004\001'; byte "$2"; printf '\000\000'; } > "$work/alone"
+    expect "region $2, version $1" "$work/alone" "$3"
+}
+
+# Every region, as an archive has them.
+every_region() {
+    byte 64
+    for region in $numbers; do byte "$region"; done
+}
+
+# NUMBER: the numbers below it
+below() {
+    number=0
+    while [ "$number" -lt "$1" ]; do
+        echo "$number"
+        number=$((number + 1))
+    done
+}
+
+numbers=$(below 64)
 header='asker region bundles packages services'
 expect g examples/g.archive "$header
 10 0 1 1 0
@@ -29,6 +56,24 @@ expect empty examples/empty.archive "$header"
 expect refused-15 examples/refused-15.archive 'refused 15'
 expect refused-16 examples/refused-16.archive 'refused 16'
 expect refused-17 examples/refused-17.archive 'refused 17'
+expect refused-17-version examples/refused-17-version.archive 'refused 17'
+
+# version 2: region numbers above 15; under another version it is refused
+expect plates examples/plates.archive "$header
+10 0 1 2 0
+20 16 2 3 1
+30 63 1 2 1"
+{ printf '\001'; tail -c +2 examples/plates.archive; } > "$work/early"
+expect 'plates with version 1' "$work/early" 'refused 17'
+{ printf '\003'; tail -c +2 examples/plates.archive; } > "$work/third"
+expect 'plates with version 3' "$work/third" 'refused 15'
+expect_alone 1 15 "$header"
+expect_alone 2 15 'refused 17'
+expect_alone 1 16 'refused 17'
+expect_alone 2 16 "$header"
+expect_alone 2 63 "$header"
+expect_alone 2 64 'refused 17'
+expect_alone 1 64 'refused 17'
 
 : > "$work/none"
 expect no-bytes "$work/none" 'refused 15'
@@ -46,4 +91,36 @@ head -c 65535 "$work/whole" > "$work/under"
 expect 65535-bytes "$work/under" 'refused 16'
 
 same 'lines of longest' "$("$listing" < examples/longest.archive | grep -c .)" 65
+
+# the same with every region, which is the longest image: the listing is the same
+{
+    printf '\002\000\000\067\323'
+    every_region
+    tail -c +23 examples/longest.archive
+} > "$work/longest"
+same 'bytes with every region' "$(($(wc -c < "$work/longest")))" 14296
+expect 'longest with every region' "$work/longest" "$("$listing" < examples/longest.archive)"
+
+# each region with a bundle of its number, which publishes the service of that number, and each of the first 48 connected to the next
+{
+    printf '\002\000\000\004\323'
+    every_region
+    byte 64
+    for region in $numbers; do
+        printf '\000\013\000\000\000'
+        byte "$region"
+        byte "$region"
+        printf '\000\001\000\000\000'
+        byte "$region"
+    done
+    byte 48
+    for region in $(below 48); do
+        printf '\000\005'
+        byte "$region"
+        byte $((region + 1))
+        printf '\000\000\377'
+    done
+} > "$work/row"
+expect row "$work/row" "$header
+$(for region in $numbers; do echo "$region $region 1 0 $((region < 48 ? 49 - region : 1))"; done)"
 end_checks

@@ -169,9 +169,13 @@ lists() {
 10 3 1 0 0
 20 4 1 0 0" list "$examples/cyclic.archive"
     expect 0 "$header" list "$examples/empty.archive"
+    expect 0 "$listing_plates" list "$plates"
     expect 1 "refused 15: $question_15" list "$examples/refused-15.archive"
     expect 1 "refused 16: $question_16" list "$examples/refused-16.archive"
     expect 1 "refused 17: $question_17" list "$examples/refused-17.archive"
+    expect 1 "refused 17: $question_17" list "$examples/refused-17-version.archive"
+    expect 1 "refused 17: $question_17" list "$work/early"
+    expect 1 "refused 15: $question_15" list "$work/third"
     same 'lines of longest' "$("$work/tree/wimboru" list "$examples/longest.archive" | grep -c .)" 65
 }
 
@@ -194,18 +198,28 @@ queries() {
     expect 1 "refused 15: $question_15" query "$examples/refused-15.archive" 10 1 1
     expect 1 "refused 16: $question_16" query "$examples/refused-16.archive" 10 1 1
     expect 1 "refused 17: $question_17" query "$examples/refused-17.archive" 10 1 1
+    expect 0 seen query "$plates" 10 package 2
+    expect 0 hidden query "$plates" 10 package 3
+    expect 0 hidden query "$plates" 10 service 5
+    expect 0 seen query "$plates" 20 service 5
+    expect 0 seen query "$plates" 20 bundle 30
+    expect 1 "refused 12: is the bundle installed?" query "$plates" 63 1 1
+    expect 1 "refused 17: $question_17" query "$examples/refused-17-version.archive" 10 1 1
+    expect 1 "refused 17: $question_17" query "$work/early" 10 1 1
+    expect 1 "refused 15: $question_15" query "$work/third" 10 1 1
 }
 
 # Sheets: names that look like a refusal, need quotes in a picture, or have spaces at their ends; no entries; a byte too many; and
 # 2,000 names of 40 bytes, for the bundles from 0 on.
 make_sheets() {
     {
-        printf '\001\000\000\000\100'
+        printf '\001\000\000\000\115'
         printf '\000\010\000\000\000\000\012arm'
         printf '\000\017\000\000\000\000\024refused 19'
         printf '\000\016\001\000\000\000\001say "a\\b"'
         printf '\000\011\003\000\000\000\000deck'
         printf '\000\010\003\000\000\000\002 2 '
+        printf '\000\013\003\000\000\000\077corner'
     } > "$sheet"
     printf '\001\000\000\000\000' > "$no_entries"
     { cat "$sheet"; printf x; } > "$broken"
@@ -221,6 +235,12 @@ make_sheets() {
     } > "$work/large"
 }
 
+# Archives: region numbers above 15 as version 1, and as no version.
+make_archives() {
+    { printf '\001'; tail -c +2 "$plates"; } > "$work/early"
+    { printf '\003'; tail -c +2 "$plates"; } > "$work/third"
+}
+
 names() {
     expect 0 arm name "$sheet" bundle 10
     expect 0 arm name "$sheet" 0 10
@@ -229,6 +249,7 @@ names() {
     expect 0 deck name "$sheet" region 0
     expect 0 deck name "$sheet" 03 000000000000
     expect 0 ' 2 ' name "$sheet" 3 2
+    expect 0 corner name "$sheet" region 63
     expect 0 '1999                                    ' name "$work/large" bundle 1999
     expect 1 "refused 19: $question_19" name "$work/large" bundle 2000
     expect 1 "refused 19: $question_19" name "$sheet" service 1
@@ -254,6 +275,11 @@ named_lists() {
 20 1 1 2 0${tab}-${tab}-
 30 2 1 3 0${tab}-${tab}-" list "$g" "$no_entries"
     expect 0 "$titles" list "$examples/empty.archive" "$sheet"
+    expect 0 "$titles
+10 0 1 2 0${tab}arm${tab}deck
+20 16 2 3 1${tab}refused 19${tab}-
+30 63 1 2 1${tab}-${tab}corner" list "$plates" "$sheet"
+    expect 1 "refused 17: $question_17" list "$examples/refused-17-version.archive" "$broken"
     "$work/tree/wimboru" list "$examples/longest.archive" "$work/large" > "$work/longest"
     same 'lines of longest with names' "$(grep -c "${tab}10..  .*$tab-" "$work/longest")" 64
     expect 1 "refused 18: $question_18" list "$g" "$broken"
@@ -309,9 +335,14 @@ drawn() {
         same "$text in the picture" "$(grep -q "$text" "$work/with" && echo yes)" yes
     done
     expect 0 "$("$work/tree/wimboru" draw "$g" "$no_entries")" draw "$g"
+    same 'region 63 in a picture' "$("$work/tree/wimboru" draw "$plates" | grep -c 'label="region 63\\l')" 1
+    same 'region 63 in a picture with names' "$("$work/tree/wimboru" draw "$plates" "$sheet" | grep -c 'label="region 63 corner\\l')" 1
     expect 1 "refused 15: $question_15" draw "$examples/refused-15.archive"
     expect 1 "refused 16: $question_16" draw "$examples/refused-16.archive" "$broken"
     expect 1 "refused 17: $question_17" draw "$examples/refused-17.archive" "$sheet"
+    expect 1 "refused 17: $question_17" draw "$examples/refused-17-version.archive"
+    expect 1 "refused 17: $question_17" draw "$work/early" "$sheet"
+    expect 1 "refused 15: $question_15" draw "$work/third"
     expect 1 "refused 18: $question_18" draw "$g" "$broken"
     expect 1 "refused 18: $question_18" draw "$g" /dev/null
     same 'a picture with a sheet of 94 KB' "$("$work/tree/wimboru" draw "$g" "$work/large" | grep -c 'bundle 20 20')" 1
@@ -342,24 +373,30 @@ files() {
 
 examples=$root/examples
 g=$examples/g.archive
+plates=$examples/plates.archive
 header='asker region bundles packages services'
 listing_g="$header
 10 0 1 1 0
 20 1 1 2 0
 30 2 1 3 0"
+listing_plates="$header
+10 0 1 2 0
+20 16 2 3 1
+30 63 1 2 1"
 sheet=$work/sheet
 no_entries="$work/no entries"
 broken="$work/broken sheet"
 picture='digraph {
 "sheet: none"
 }'
-question_15='are there at least 5 bytes, the first being 1?'
+question_15='are there at least 5 bytes, the first being 1 or 2?'
 question_16='does the length field equal the count of bytes after it?'
 question_17='are those bytes the layout of an archive, to the end?'
 question_18='does the sheet keep its layout?'
 question_19='does an entry have the kind and number?'
 need "${CC:-cc}" 'Debian: gcc'
 make_sheets
+make_archives
 if [ -z "$WIMBORU_LISTING" ] || [ -z "$WIMBORU_DRAWING" ] || [ -z "$WIMBORU_LIB" ]; then
     need rt 'the Rattle kit'
     same 'list, built here' "$("$root/wimboru" list "$g")" "$listing_g"

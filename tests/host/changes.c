@@ -100,8 +100,8 @@ static void case_g9(void)
 static void case_g10(void)
 {
     lend();
-    ACCEPTED(region_add(graph, 15));
-    UNCHANGED(1, region_add(graph, 16));
+    ACCEPTED(region_add(graph, 63));
+    UNCHANGED(1, region_add(graph, 64));
 }
 
 void test_changes(void)

@@ -5,6 +5,8 @@
 #include "images.h"
 #include "sheets.h"
 
+#include <string.h>
+
 static void changes_at(uint8_t *a, uint8_t *b)
 {
     region_graph *record = record_at(a);
@@ -33,6 +35,41 @@ static void queries_at(uint8_t *a, uint8_t *b, uint8_t *c)
     CHECK(region_service_event(record, kept, 3, listeners, 3, 20) == 0);
     CHECK(region_route(record, c - REGION_ROUTE_BYTES, REGION_ROUTE_BYTES, 10, REGION_KIND_PACKAGE, 1) == 1);
     CHECK(region_write(record, c - 84, 84) == 84);
+}
+
+/* The longest route, in a buffer of just the length that it needs, and of one byte less. */
+static void longest_route_at(uint8_t *a, uint8_t *c)
+{
+    region_graph *record = record_at(a);
+    build_chain();
+    *record = *graph;
+    memset(c - REGION_ROUTE_BYTES, 99, REGION_ROUTE_BYTES);
+    uint8_t *out = c - REGION_ROUTE_BYTES + 1;
+    CHECK(region_route(record, out, REGION_ROUTE_BYTES - 1, 10, REGION_KIND_SERVICE, 5) == -REGION_NO_PLACE);
+    for (size_t i = 0; i < REGION_ROUTE_BYTES - 1; i++) {
+        CHECK(out[i] == 99);
+    }
+    out = c - REGION_ROUTE_BYTES;
+    CHECK(region_route(record, out, REGION_ROUTE_BYTES, 10, REGION_KIND_SERVICE, 5) == 48);
+    for (size_t i = 0; i < REGION_ROUTE_BYTES; i++) {
+        CHECK(out[i] == (i <= 48 ? 15 + i : 99));
+    }
+}
+
+/* The longest image, read, and written to a buffer of just its length, and of one byte less. */
+static void longest_image_at(uint8_t *a, uint8_t *b, uint8_t *c)
+{
+    region_graph *record = record_at(a);
+    const struct image longest = longest_image();
+    const uint8_t *bytes = bytes_at(b, longest.bytes, longest.length);
+    region_empty(record);
+    CHECK(region_read(record, bytes, longest.length) == REGION_NOT_REFUSED);
+    CHECK(archive_query(bytes, longest.length, 1000, REGION_KIND_PACKAGE, 8) == REGION_SEEN);
+    memset(c - longest.length, 99, longest.length);
+    CHECK(region_write(record, c - longest.length + 1, longest.length - 1) == -REGION_NO_PLACE);
+    CHECK(c[-1] == 99 && memcmp(c - longest.length, c - longest.length + 1, longest.length - 1) == 0);
+    CHECK(region_write(record, c - longest.length, longest.length) == REGION_LONGEST_IMAGE);
+    CHECK(memcmp(c - longest.length, bytes, longest.length) == 0);
 }
 
 /* The file, and every beginning of it. */
@@ -78,7 +115,10 @@ void test_edges(void)
     uint8_t *c = edge();
     changes_at(a, b);
     queries_at(a, b, c);
+    longest_route_at(a, c);
+    longest_image_at(a, b, c);
     archives_at(a, b, load("g.archive"));
+    archives_at(a, b, load("plates.archive"));
     names_at(a, b, deck_sheet());
     names_at(a, b, small_sheet());
     release(a);

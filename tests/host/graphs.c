@@ -45,38 +45,39 @@ static void open_services(uint32_t source, uint32_t target)
     ACCEPTED(region_connect(graph, source, target, NONE, false, NONE, true, NONE));
 }
 
-/* Every region, bundle 10 in region 0, and bundle 20, which publishes service 5, in another. */
-static void asker_and_holder(uint32_t holder)
+/* Every region, bundle 10 in one, and bundle 20, which publishes service 5, in another. */
+static void asker_and_holder(uint32_t asker, uint32_t holder)
 {
     regions(0, REGION_REGIONS);
-    ACCEPTED(region_install(graph, 0, 10, NONE, NONE));
+    ACCEPTED(region_install(graph, asker, 10, NONE, NONE));
     ACCEPTED(region_install(graph, holder, 20, NONE, LIST(5)));
 }
 
 void build_diamond(void)
 {
-    asker_and_holder(3);
+    asker_and_holder(0, 3);
     open_services(0, 1);
     open_services(0, 2);
     open_services(1, 3);
     open_services(2, 3);
 }
 
-void build_tie(void)
+void build_tie(const uint8_t *ends)
 {
-    asker_and_holder(5);
-    open_services(0, 1);
-    open_services(0, 2);
-    open_services(1, 4);
-    open_services(2, 3);
-    open_services(3, 5);
-    open_services(4, 5);
+    asker_and_holder(ends[0], ends[5]);
+    open_services(ends[0], ends[1]);
+    open_services(ends[0], ends[2]);
+    open_services(ends[1], ends[4]);
+    open_services(ends[2], ends[3]);
+    open_services(ends[3], ends[5]);
+    open_services(ends[4], ends[5]);
 }
 
 void build_chain(void)
 {
-    asker_and_holder(REGION_REGIONS - 1);
-    for (uint32_t region = 0; region + 1 < REGION_REGIONS; region++) {
+    const uint32_t last = REGION_REGIONS - 1;
+    asker_and_holder(last - REGION_MOST_CONNECTIONS, last);
+    for (uint32_t region = last - REGION_MOST_CONNECTIONS; region < last; region++) {
         open_services(region, region + 1);
     }
 }
@@ -91,7 +92,7 @@ void fill_bundles(uint32_t region, uint32_t count)
 void fill_connections(void)
 {
     regions(0, REGION_REGIONS);
-    for (uint32_t source = 0; source < REGION_REGIONS; source++) {
+    for (uint32_t source = REGION_REGIONS - 16; source < REGION_REGIONS; source++) {
         for (uint32_t step = 1; step <= 3; step++) {
             ACCEPTED(region_connect(graph, source, (source + step) % REGION_REGIONS, NONE, false, NONE, false, NONE));
         }

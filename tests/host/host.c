@@ -11,6 +11,7 @@ static void test_all(void)
     test_lists();
     test_changes();
     test_refused_changes();
+    test_regions();
     test_queries();
     test_isolation();
     test_archives();

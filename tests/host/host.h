@@ -6,6 +6,7 @@ void test_record(void);
 void test_lists(void);
 void test_changes(void);
 void test_refused_changes(void);
+void test_regions(void);
 void test_queries(void);
 void test_isolation(void);
 void test_archives(void);

@@ -25,6 +25,27 @@ struct image load(const char *name)
     return image;
 }
 
+struct image longest_image(void)
+{
+    enum { EARLY = 16, RAISED = REGION_REGIONS - EARLY, FRONT = 6, BUNDLE = 73, CONNECTION = 199 };
+    const struct image early = load("longest.archive");
+    struct image image = {REGION_LONGEST_IMAGE, {2, 0, 0, 0x37, 0xD3, REGION_REGIONS}};
+    for (uint8_t region = 0; region < REGION_REGIONS; region++) {
+        image.bytes[FRONT + region] = region;
+    }
+    memcpy(image.bytes + FRONT + REGION_REGIONS, early.bytes + FRONT + EARLY, REGION_LONGEST_IMAGE - FRONT - REGION_REGIONS);
+    uint8_t *bundles = image.bytes + FRONT + REGION_REGIONS + 1;
+    uint8_t *connections = bundles + REGION_MOST_BUNDLES * BUNDLE + 1;
+    for (size_t i = 0; i < REGION_MOST_BUNDLES; i++) {
+        bundles[i * BUNDLE + 6] += RAISED;
+    }
+    for (size_t i = 0; i < REGION_MOST_CONNECTIONS; i++) {
+        connections[i * CONNECTION + 2] += RAISED;
+        connections[i * CONNECTION + 3] += RAISED;
+    }
+    return image;
+}
+
 struct image image_of(const region_graph *record)
 {
     struct image image = {0};

@@ -15,6 +15,9 @@ void set_examples(const char *folder);
 /* An archive file of the examples; one that is missing or too long is a failed check and gives no bytes. */
 struct image load(const char *name);
 
+/* The longest image: longest.archive with its region numbers raised by 48, and with every region. */
+struct image longest_image(void);
+
 /* The image that the writer gives of a record. */
 struct image image_of(const region_graph *record);
 

@@ -6,7 +6,11 @@
 
 #include <string.h>
 
-enum { SIDES = 2 };
+enum {
+    SIDES = 2,
+    LAST = REGION_REGIONS - 1, /* the last region */
+    ROW = LAST - 7             /* the first of the last eight */
+};
 
 /* The two graphs: the record, its bytes before the queries, and the end of the buffer. */
 static struct side {
@@ -148,12 +152,12 @@ static void add_regions(region_graph *record, uint32_t from, uint32_t below)
     }
 }
 
-/* In the regions 0 to 7: bundle 10 in the first, bundle 20 in the last, and a connection from each to the next. */
+/* In the last eight regions: bundle 10 in the first, bundle 20 in the last, and a connection from each to the next. */
 static void put_row(region_graph *record)
 {
-    CHECK(region_install(record, 0, 10, NONE, LIST(6)) == REGION_NOT_REFUSED);
-    CHECK(region_install(record, 7, 20, LIST(8), LIST(5)) == REGION_NOT_REFUSED);
-    for (uint32_t region = 0; region < 7; region++) {
+    CHECK(region_install(record, ROW, 10, NONE, LIST(6)) == REGION_NOT_REFUSED);
+    CHECK(region_install(record, LAST, 20, LIST(8), LIST(5)) == REGION_NOT_REFUSED);
+    for (uint32_t region = ROW; region < LAST; region++) {
         CHECK(region_connect(record, region, region + 1, LIST(20), false, LIST(8), true, NONE) == REGION_NOT_REFUSED);
     }
 }
@@ -162,27 +166,27 @@ static void put_row(region_graph *record)
 static void put_others(region_graph *record)
 {
     for (uint32_t i = 0; i < REGION_MOST_BUNDLES - 2; i++) {
-        CHECK(region_install(record, 8 + i % 8, 2 * i + 1, LIST(8, 9), LIST(4, 5)) == REGION_NOT_REFUSED);
+        CHECK(region_install(record, i % ROW, 2 * i + 1, LIST(8, 9), LIST(4, 5)) == REGION_NOT_REFUSED);
     }
     for (uint32_t i = 0; i < REGION_MOST_CONNECTIONS - 8; i++) {
-        CHECK(region_connect(record, 8 + i % 8, i / 8, LIST(10, 20), true, NONE, true, NONE) == REGION_NOT_REFUSED);
+        CHECK(region_connect(record, i, ROW + i % 8, LIST(10, 20), true, NONE, true, NONE) == REGION_NOT_REFUSED);
     }
-    CHECK(region_connect(record, 8, 9, LIST(10, 20), true, NONE, true, NONE) == REGION_NOT_REFUSED);
+    CHECK(region_connect(record, 0, 1, LIST(10, 20), true, NONE, true, NONE) == REGION_NOT_REFUSED);
 }
 
 /* The row with one other bundle, and the row in a record with no place left, where the others were put before it. */
 static void few_and_many(void)
 {
     region_empty(sides[0].record);
-    add_regions(sides[0].record, 0, 9);
+    add_regions(sides[0].record, ROW - 1, REGION_REGIONS);
     put_row(sides[0].record);
-    CHECK(region_install(sides[0].record, 8, 11, NONE, LIST(7)) == REGION_NOT_REFUSED);
+    CHECK(region_install(sides[0].record, ROW - 1, 11, NONE, LIST(7)) == REGION_NOT_REFUSED);
     region_empty(sides[1].record);
     add_regions(sides[1].record, 0, REGION_REGIONS);
     put_others(sides[1].record);
     put_row(sides[1].record);
-    CHECK(region_install(sides[1].record, 8, 1000, NONE, NONE) == REGION_FULL);
-    CHECK(region_connect(sides[1].record, 9, 8, NONE, false, NONE, false, NONE) == REGION_FULL);
+    CHECK(region_install(sides[1].record, 0, 1000, NONE, NONE) == REGION_FULL);
+    CHECK(region_connect(sides[1].record, 1, 0, NONE, false, NONE, false, NONE) == REGION_FULL);
     queries(LIST(10, 20, 10), LIST(1, 4, 5, 6, 7, 8, 9, 10, 11, 20, 77));
 }
 

@@ -36,15 +36,35 @@ static void case_g8(void)
     KEEPS(region_service_event(graph, lent.places, PLACES, LIST(20, 10, 10, 20), 5), 20, 10, 10, 20);
 }
 
-/* The front decides between two routes; a route may visit every region; the holder's own route has no connection. */
-static void routes(void)
+/* The front decides between two routes; the holder's own route has no connection. */
+static void ties(void)
 {
-    build_tie();
-    ROUTES(route(10, REGION_KIND_SERVICE, 5), 0, 1, 4, 5);
-    ROUTES(route(20, REGION_KIND_SERVICE, 5), 5);
+    static const uint8_t ends[][6] = {{0, 1, 2, 3, 4, 5}, {15, 16, 31, 32, 62, 63}, {63, 30, 47, 17, 48, 0}};
+    for (size_t i = 0; i < sizeof ends / sizeof ends[0]; i++) {
+        build_tie(ends[i]);
+        ROUTES(route(10, REGION_KIND_SERVICE, 5), ends[i][0], ends[i][1], ends[i][4], ends[i][5]);
+        ROUTES(route(20, REGION_KIND_SERVICE, 5), ends[i][5]);
+    }
+}
+
+/* The longest route has 48 connections, from region 15 to region 63, in a buffer of 64 bytes: the last 15 keep their values. */
+static void longest_route(void)
+{
+    uint8_t visited[49];
+    for (uint8_t i = 0; i < sizeof visited; i++) {
+        visited[i] = (uint8_t)(15 + i);
+    }
     build_chain();
-    ROUTES(region_route(graph, lent.bytes, REGION_ROUTE_BYTES, 10, REGION_KIND_SERVICE, 5), 0, 1, 2, 3, 4, 5, 6, 7, 8, 9, 10, 11,
-           12, 13, 14, 15);
+    expect_same();
+    expect_bytes(visited, sizeof visited);
+    WRITES(48, region_route(graph, lent.bytes, 64, 10, REGION_KIND_SERVICE, 5));
+    UNCHANGED(-REGION_NO_PLACE, region_route(graph, lent.bytes, 63, 10, REGION_KIND_SERVICE, 5));
+    UNCHANGED(-REGION_NO_PLACE, region_route(graph, lent.bytes, 49, 10, REGION_KIND_SERVICE, 5));
+    KEEPS(region_service_find(graph, lent.places, PLACES, 10, LIST(5, 6, 5)), 5, 5);
+    KEEPS(region_service_event(graph, lent.places, PLACES, LIST(20, 10, 10, 20), 5), 20, 10, 10, 20);
+    ACCEPTED(region_disconnect(graph, 38, 39));
+    UNCHANGED(-REGION_HIDDEN, region_route(graph, lent.bytes, 64, 10, REGION_KIND_SERVICE, 5));
+    KEEPS(region_service_event(graph, lent.places, PLACES, LIST(20, 10, 10, 20), 5), 20, 20);
 }
 
 /* Order and repetitions are kept; what nobody holds is unseen; the kinds are apart. */
@@ -79,11 +99,14 @@ static void refused_routes(void)
     UNCHANGED(-REGION_NOT_INSTALLED, route(11, 3, 1));
     UNCHANGED(-REGION_NOT_A_KIND, route(10, 3, 1));
     UNCHANGED(-REGION_NOT_A_KIND, route(10, UINT32_MAX, 1));
-    UNCHANGED(-REGION_NO_PLACE, region_route(graph, lent.bytes, 15, 10, REGION_KIND_PACKAGE, 1));
-    UNCHANGED(-REGION_NO_PLACE, region_route(graph, lent.bytes, 15, 10, REGION_KIND_PACKAGE, 3));
+    UNCHANGED(-REGION_NO_PLACE, region_route(graph, lent.bytes, 63, 10, REGION_KIND_PACKAGE, 1));
+    UNCHANGED(-REGION_NO_PLACE, region_route(graph, lent.bytes, 63, 10, REGION_KIND_PACKAGE, 3));
+    UNCHANGED(-REGION_NO_PLACE, region_route(graph, lent.bytes, 63, 10, REGION_KIND_BUNDLE, 10));
+    UNCHANGED(-REGION_NO_PLACE, region_route(graph, lent.bytes, 16, 10, REGION_KIND_BUNDLE, 10));
     UNCHANGED(-REGION_NO_PLACE, region_route(graph, lent.bytes, 0, 10, REGION_KIND_BUNDLE, 10));
-    UNCHANGED(-REGION_NOT_A_KIND, region_route(graph, lent.bytes, 15, 10, 3, 1));
-    UNCHANGED(-REGION_NOT_INSTALLED, region_route(graph, lent.bytes, 15, 11, 3, 1));
+    ROUTES(region_route(graph, lent.bytes, 64, 10, REGION_KIND_BUNDLE, 10), 0);
+    UNCHANGED(-REGION_NOT_A_KIND, region_route(graph, lent.bytes, 63, 10, 3, 1));
+    UNCHANGED(-REGION_NOT_INSTALLED, region_route(graph, lent.bytes, 63, 11, 3, 1));
 }
 
 /* Bundle 10 provides package 10 and service 10, so that every find sees item 10. */
@@ -121,7 +144,8 @@ void test_queries(void)
     cases_g1_to_g6();
     case_g7();
     case_g8();
-    routes();
+    ties();
+    longest_route();
     kept();
     bundles_pass();
     refused_routes();

@@ -1,4 +1,5 @@
-/* The record as memory: its size, its alignment, copies of it; and the version of the interface, which its size goes with. */
+/* The record as memory: its size, its alignment, copies of it; and the version of the interface, which its size and the lengths of
+   buffers go with. */
 #include "graphs.h"
 #include "host.h"
 #include "images.h"
@@ -45,16 +46,23 @@ static void size(void)
     CHECK(same_graph(&a.graph, &b.graph));
 }
 
-/* The library has the interface of the header. The table has the bytes of the record at each version, from 1 on, and only grows: a
-   record of another size has another version. */
+/* The library has the interface of the header. The table has the bytes of the record, of a route's buffer and of the longest image at
+   each version, from 1 on, and only grows: where one of them is another, so is the version. */
 static void version(void)
 {
-    static const size_t sizes[] = {16408};
+    static const struct {
+        size_t record;
+        size_t route;
+        size_t image;
+    } bytes[] = {{16408, 16, 14248}, {16408, 64, 14296}};
+    const size_t versions = sizeof bytes / sizeof bytes[0];
     CHECK(region_library_matches());
     CHECK(region_interface_version() == WIMBORU_VERSION);
     CHECK(region_record_size() == sizeof(region_graph));
-    CHECK(WIMBORU_VERSION == sizeof sizes / sizeof sizes[0]);
-    CHECK(region_record_size() == sizes[sizeof sizes / sizeof sizes[0] - 1]);
+    CHECK(WIMBORU_VERSION == versions);
+    CHECK(region_record_size() == bytes[versions - 1].record);
+    CHECK(REGION_ROUTE_BYTES == bytes[versions - 1].route);
+    CHECK(REGION_LONGEST_IMAGE == bytes[versions - 1].image);
 }
 
 /* A record at each alignment that its type allows: at 8, and at no more than 8. */
@@ -82,10 +90,24 @@ static void copy(void)
     KEEPS(region_bundle_find(graph, lent.places, PLACES, 20, LIST(20)), 20);
 }
 
+/* A copy has the regions up to the last one. */
+static void copy_of_chain(void)
+{
+    build_chain();
+    region_graph other = *graph;
+    CHECK(same_graph(&other, graph));
+    UNCHANGED(REGION_NOT_REFUSED, region_remove(&other, 63));
+    UNCHANGED(-REGION_HIDDEN, region_route(&other, lent.bytes, REGION_ROUTE_BYTES, 10, REGION_KIND_SERVICE, 5));
+    KEEPS(region_service_find(graph, lent.places, PLACES, 10, LIST(5)), 5);
+    UNCHANGED(REGION_NOT_REFUSED, region_add(&other, 63));
+    UNCHANGED(REGION_USED, region_add(graph, 63));
+}
+
 void test_record(void)
 {
     size();
     version();
     alignment();
     copy();
+    copy_of_chain();
 }

@@ -11,9 +11,6 @@ static const uint32_t descending[LONG_LIST] = {17, 16, 15, 14, 13, 12, 11, 10, 9
 static void add(void)
 {
     build_g();
-    UNCHANGED(REGION_NOT_A_REGION, region_add(graph, 16));
-    UNCHANGED(REGION_NOT_A_REGION, region_add(graph, 64));
-    UNCHANGED(REGION_NOT_A_REGION, region_add(graph, UINT32_MAX));
     UNCHANGED(REGION_USED, region_add(graph, 0));
     UNCHANGED(REGION_USED, region_add(graph, 2));
 }
@@ -21,10 +18,8 @@ static void add(void)
 static void remove_region(void)
 {
     build_g();
-    UNCHANGED(REGION_NOT_A_REGION, region_remove(graph, 16));
-    UNCHANGED(REGION_NOT_A_REGION, region_remove(graph, UINT32_MAX));
     UNCHANGED(REGION_NO_SUCH_REGION, region_remove(graph, 3));
-    UNCHANGED(REGION_NO_SUCH_REGION, region_remove(graph, 15));
+    UNCHANGED(REGION_NO_SUCH_REGION, region_remove(graph, 63));
 }
 
 static void install_lists(void)
@@ -50,11 +45,47 @@ static void build_crowd(void)
     fill_bundles(1, REGION_MOST_BUNDLES - 1);
 }
 
+/* A connect and a disconnect, which are refused with the same number. */
+static void refused_ends(uint32_t number, uint32_t source, uint32_t target)
+{
+    UNCHANGED(number, region_connect(graph, source, target, descending, LONG_LIST, false, NONE, false, NONE));
+    UNCHANGED(number, region_disconnect(graph, source, target));
+}
+
+/* A number that no region has is asked about before all else. */
+static void no_region(void)
+{
+    static const uint32_t numbers[] = {64, 65, 66, 127, 128, 255, 256, 320, UINT32_C(1) << 31, UINT32_MAX - 63, UINT32_MAX};
+    build_crowd();
+    for (size_t i = 0; i < sizeof numbers / sizeof numbers[0]; i++) {
+        UNCHANGED(REGION_NOT_A_REGION, region_add(graph, numbers[i]));
+        UNCHANGED(REGION_NOT_A_REGION, region_remove(graph, numbers[i]));
+        UNCHANGED(REGION_NOT_A_REGION, region_install(graph, numbers[i], 20, descending, 9, descending, 9));
+        refused_ends(REGION_NOT_A_REGION, numbers[i], 1);
+        refused_ends(REGION_NOT_A_REGION, 1, numbers[i]);
+        refused_ends(REGION_NOT_A_REGION, numbers[i], 2);
+        refused_ends(REGION_NOT_A_REGION, 2, numbers[i]);
+        refused_ends(REGION_NOT_A_REGION, numbers[i], numbers[i]);
+    }
+}
+
+/* Numbers that regions may have, beside those of the graph. */
+static void no_such_region(void)
+{
+    static const uint32_t numbers[] = {2, 15, 16, 31, 32, 62, 63};
+    build_crowd();
+    for (size_t i = 0; i < sizeof numbers / sizeof numbers[0]; i++) {
+        UNCHANGED(REGION_NO_SUCH_REGION, region_remove(graph, numbers[i]));
+        UNCHANGED(REGION_NO_SUCH_REGION, region_install(graph, numbers[i], 20, descending, 9, descending, 9));
+        refused_ends(REGION_NO_SUCH_REGION, numbers[i], 1);
+        refused_ends(REGION_NO_SUCH_REGION, 1, numbers[i]);
+        refused_ends(REGION_NO_SUCH_REGION, numbers[i], numbers[i]);
+    }
+}
+
 static void install(void)
 {
     build_crowd();
-    UNCHANGED(REGION_NOT_A_REGION, region_install(graph, 16, 20, descending, 9, descending, 9));
-    UNCHANGED(REGION_NO_SUCH_REGION, region_install(graph, 2, 20, descending, 9, descending, 9));
     UNCHANGED(REGION_LIST_TOO_LONG, region_install(graph, 0, 20, descending, 9, descending, 9));
     UNCHANGED(REGION_LIST_OUT_OF_ORDER, region_install(graph, 0, 20, descending, 8, descending, 8));
     UNCHANGED(REGION_INSTALLED, region_install(graph, 0, 20, ascending, 8, ascending, 8));
@@ -79,13 +110,6 @@ static void uninstall(void)
 static void connect_ends(void)
 {
     build_g();
-    UNCHANGED(REGION_NOT_A_REGION, region_connect(graph, 16, 0, NONE, false, NONE, false, NONE));
-    UNCHANGED(REGION_NOT_A_REGION, region_connect(graph, 0, 16, NONE, false, NONE, false, NONE));
-    UNCHANGED(REGION_NOT_A_REGION, region_connect(graph, 16, 16, NONE, false, NONE, false, NONE));
-    UNCHANGED(REGION_NOT_A_REGION, region_connect(graph, 3, 16, NONE, false, NONE, false, NONE));
-    UNCHANGED(REGION_NO_SUCH_REGION, region_connect(graph, 3, 0, NONE, false, NONE, false, NONE));
-    UNCHANGED(REGION_NO_SUCH_REGION, region_connect(graph, 0, 3, NONE, false, NONE, false, NONE));
-    UNCHANGED(REGION_NO_SUCH_REGION, region_connect(graph, 3, 3, NONE, false, NONE, false, NONE));
     UNCHANGED(REGION_ENDS_EQUAL, region_connect(graph, 1, 1, descending, LONG_LIST, false, NONE, false, NONE));
     UNCHANGED(REGION_CONNECTED, region_connect(graph, 0, 1, descending, LONG_LIST, false, NONE, false, NONE));
     UNCHANGED(REGION_CONNECTED, region_connect(graph, 1, 2, NONE, true, NONE, true, NONE));
@@ -114,19 +138,13 @@ static void connect_full(void)
     UNCHANGED(REGION_LIST_TOO_LONG, region_connect(graph, 0, 4, descending, 17, false, NONE, false, NONE));
     UNCHANGED(REGION_LIST_OUT_OF_ORDER, region_connect(graph, 0, 4, descending, 16, false, NONE, false, NONE));
     UNCHANGED(REGION_FULL, region_connect(graph, 0, 4, ascending, 16, false, NONE, false, NONE));
-    ACCEPTED(region_disconnect(graph, 15, 2));
+    ACCEPTED(region_disconnect(graph, 63, 2));
     ACCEPTED(region_connect(graph, 0, 4, ascending, 16, false, NONE, false, NONE));
 }
 
 static void disconnect(void)
 {
     build_g();
-    UNCHANGED(REGION_NOT_A_REGION, region_disconnect(graph, 16, 3));
-    UNCHANGED(REGION_NOT_A_REGION, region_disconnect(graph, 3, 16));
-    UNCHANGED(REGION_NOT_A_REGION, region_disconnect(graph, 16, 16));
-    UNCHANGED(REGION_NO_SUCH_REGION, region_disconnect(graph, 3, 0));
-    UNCHANGED(REGION_NO_SUCH_REGION, region_disconnect(graph, 0, 3));
-    UNCHANGED(REGION_NO_SUCH_REGION, region_disconnect(graph, 3, 3));
     UNCHANGED(REGION_ENDS_EQUAL, region_disconnect(graph, 0, 0));
     UNCHANGED(REGION_NOT_CONNECTED, region_disconnect(graph, 1, 0));
     UNCHANGED(REGION_NOT_CONNECTED, region_disconnect(graph, 0, 2));
@@ -136,6 +154,8 @@ void test_refused_changes(void)
 {
     add();
     remove_region();
+    no_region();
+    no_such_region();
     install_lists();
     install();
     uninstall();

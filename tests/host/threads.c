@@ -20,18 +20,18 @@ static struct job {
     bool right;
 } jobs[THREADS];
 
-/* The longest archive, read into a record of the thread's own, and changes of it. */
+/* The longest image, read into a record of the thread's own, and changes of it. */
 static bool changes(region_graph *own)
 {
     region_empty(own);
     return region_read(own, longest.bytes, longest.length) == REGION_NOT_REFUSED
         && region_uninstall(own, 1000) == REGION_NOT_REFUSED && region_install(own, 0, 1, NONE, NONE) == REGION_NOT_REFUSED
-        && region_disconnect(own, 0, 1) == REGION_NOT_REFUSED
-        && region_connect(own, 0, 1, NONE, true, NONE, true, NONE) == REGION_NOT_REFUSED
-        && region_remove(own, 1) == REGION_NOT_REFUSED && region_add(own, 1) == REGION_NOT_REFUSED;
+        && region_disconnect(own, 48, 49) == REGION_NOT_REFUSED
+        && region_connect(own, 48, 49, NONE, true, NONE, true, NONE) == REGION_NOT_REFUSED
+        && region_remove(own, 63) == REGION_NOT_REFUSED && region_add(own, 63) == REGION_NOT_REFUSED;
 }
 
-/* Each query of the shared record, which holds the longest archive. */
+/* Each query of the shared record, which holds the graph of the longest image. */
 static bool queries(uint8_t *written)
 {
     uint8_t route[REGION_ROUTE_BYTES];
@@ -59,7 +59,7 @@ void test_threads(void)
 {
     pthread_t threads[THREADS];
     pthread_attr_t attributes;
-    longest = load("longest.archive");
+    longest = longest_image();
     lend();
     ACCEPTED(region_read(graph, longest.bytes, longest.length));
     CHECK(pthread_attr_init(&attributes) == 0);

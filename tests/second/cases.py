@@ -1,5 +1,5 @@
-"""What is compared: the level, and the second program's cases with more of what the interface for C can be handed, and with more
-queries of two graphs that agree on a set of regions."""
+"""What is compared: the level, and the second program's cases with more of what the interface for C can be handed, with more queries
+of two graphs that agree on a set of regions, and with more of the region numbers and of the versions of an archive."""
 
 import os
 import random
@@ -11,10 +11,17 @@ import gen2  # noqa: E402
 import oracle2  # noqa: E402
 
 # The level of the product: 10 is document 01 alone, a higher one the number of the last request of document 02 that it has.
-LEVEL = 12
+LEVEL = 13
 
 # gen2 has region numbers and kinds of one byte. The interface takes 32 bits.
 LARGE = (256, 65536, 2**31, 2**32 - 16, 2**32 - 1)
+
+# Region numbers on both sides of the last of version 1, of half of the numbers and of the last of all; and numbers of no region.
+EDGES = (0, 15, 16, 31, 32, 62, 63)
+BEYOND = (64, 65, 79, 127, 128, 255) + LARGE
+
+# Lengths of a buffer for a route: too few bytes, as many as level 10 asks for, and enough.
+ROUTE_ROOMS = (0, 15, 16, 17, 49, 63, 64, 65, 300)
 
 # The finds and the events, with the kind of what they ask for.
 FINDS = {"bfind": oracle2.BUNDLE, "resolve": oracle2.PACKAGE, "sfind": oracle2.SERVICE}
@@ -32,8 +39,9 @@ class Script(gen2.Script):
 
     def put(self, line):
         answer = super().put(line)
-        if line.startswith("route ") and answer.startswith("0 hidden "):
-            self.coverage.note(HIDDEN_ROUTE, 0)
+        for pair in besides(line.split(" "), answer.split(" ")):
+            if pair in BESIDES:
+                self.coverage.note(*pair)
         return answer
 
     def change(self, *weights):
@@ -47,15 +55,60 @@ class Script(gen2.Script):
         return region if region <= oracle2.max_region(self.level) else self.rnd.choice((region,) + LARGE)
 
 
-# What coverage notes besides: hidden routes; and of each query, answers in cases of `isolation` that differ where a connection
-# leads out of the set.
-HIDDEN_ROUTE = "route, hidden"
+# What coverage notes of each query: answers in cases of `isolation` that differ where a connection leads out of the set.
 LED_OUT = {call: call + ", led out" for call in (*FINDS, *EVENTS, "route")}
+
+# What it notes besides, by a name and a number. All of it must be reached.
+HIDDEN_ROUTE = "route, hidden"
+ROUTE_OF, ROUTE_IN, ADDED = "route of %d", "route, %d bytes", "add %d"
+MISLABELLED = "version %d for %d"
+REGIONS_IN = "image, version %d, %d regions"
+ABOVE_INSIDE, ABOVE_OUTSIDE, TWO_VERSIONS = "isolation, above 15 inside", "isolation, above 15 outside", "isolation, versions 1 and 2"
+AT_LIMITS = ([(ROUTE_IN % 63, 14), (ROUTE_IN % 64, 0), (ADDED % 64, 1), (MISLABELLED % (1, 2), 17), (MISLABELLED % (2, 1), 17)]
+             + [(ADDED % region, 0) for region in EDGES])
+BESIDES = (AT_LIMITS + [(HIDDEN_ROUTE, 0), (ABOVE_INSIDE, 0), (ABOVE_OUTSIDE, 0), (TWO_VERSIONS, 0)]
+           + [(ROUTE_OF % count, 0) for count in (15, 16, 32, 47, 48)]
+           + [(REGIONS_IN % pair, 0) for pair in ((1, 0), (1, 1), (1, 16), (2, 1), (2, 16), (2, 17), (2, 63), (2, 64))]
+           + [(name, 0) for name in LED_OUT.values()])
+
+
+def of_route(room, number, count):
+    yield ROUTE_IN % room, number
+    if count == "hidden":
+        yield HIDDEN_ROUTE, 0
+    elif number == 0:
+        yield ROUTE_OF % int(count), 0
+
+
+def written(words, answer):
+    """The file that a line has written, if any, by the answer."""
+    if words[0] == "image" and len(answer) == 1:
+        return [oracle2.unhex(answer[0])]
+    if words[0] == "write" and answer[0] == "0":
+        return [oracle2.unhex(answer[2])[:int(answer[1])]]
+    return []
+
+
+def of_read(data, number):
+    """A file that is refused for its version alone: it is accepted with the other front byte."""
+    if number == 17 and data[0] in (1, 2) and oracle2.read_call(LEVEL, bytes([3 - data[0]]) + data[1:])[1] == 0:
+        yield MISLABELLED % (data[0], 3 - data[0]), number
+
+
+def besides(words, answer):
+    """What a line and its answer show besides the call and the number, those of BESIDES among it."""
+    if words[0] == "add":
+        return [(ADDED % int(words[1]), int(answer[0]))]
+    if words[0] == "route":
+        return of_route(int(words[-1]), int(answer[0]), answer[1])
+    if words[0] == "lent":
+        return of_read(oracle2.unhex(words[1]), int(answer[0]))
+    return [(REGIONS_IN % (file[0], file[5]), 0) for file in written(words, answer)]
 
 
 def unreached(coverage):
-    """The pairs of call and answer that the papers allow at the level and no case had, and what was not noted besides."""
-    return coverage.missing() + [(name, 0) for name in (HIDDEN_ROUTE, *LED_OUT.values()) if not coverage.answers[name, 0]]
+    """The pairs of call and answer that the papers allow at the level and no case had, and those of BESIDES."""
+    return coverage.missing() + [pair for pair in BESIDES if not coverage.answers[pair]]
 
 
 def case_wide(s, rnd, i):
@@ -247,11 +300,21 @@ def event_lines(rnd, bundles, numbers):
                 yield "%s %d %d %s" % (call, len(listeners) + more, number, oracle2.show(listeners))
 
 
+def note_regions(coverage, first, second, inside):
+    """Notes regions that version 1 has no number for, of the set and outside it, and graphs with images of two versions."""
+    above = {region for graph in (first, second) for region in graph.R if region > 15}
+    versions = [oracle2.old_version(graph) for graph in (first, second)]
+    for name, holds in ((ABOVE_INSIDE, above & inside), (ABOVE_OUTSIDE, above - inside), (TWO_VERSIONS, versions == [1, 2])):
+        if holds:
+            coverage.note(name, 0)
+
+
 def case_isolation(s, rnd, i):
     """Two graphs that agree on a set of regions, and the six queries of every bundle of the set on the one and on the other; then the
     same on the second with a connection that leads out of the set. So that a script stays short, up to MOST_ASKED numbers of a kind
     are asked for, of those that the graphs have."""
     first, second, inside = agreeing(rnd, s.level, large=i % 3 == 0)
+    note_regions(s.coverage, first, second, inside)
     bundles = sorted(within(first, inside).B)
     numbers = {kind: some_numbers(rnd, (first, second), kind) for kind in KINDS}
     lines = [line for asker in bundles for line in asker_lines(rnd, s.level, asker, numbers)]
@@ -266,7 +329,121 @@ def case_isolation(s, rnd, i):
             s.coverage.note(LED_OUT[line.split(" ")[0]], 0)
 
 
+# ---- region numbers up to 63, and two versions of an archive: request C-13
+
+FRONTS = (0, 3, 4, 128, 255)    # versions that are not read
+MOST_FILES = 30         # of a script
+
+
+def put_images(s, rnd):
+    """Writes the record, to a buffer that is too short too."""
+    length = len(oracle2.image(s.level, s.g))
+    s.put("image")
+    s.put("write %d" % (length + rnd.choice((0, 3, -1))))
+
+
+def put_beyond(s, rnd):
+    """Every call that takes a region, with a number that no region has; in some the other end is none either, or both are equal."""
+    region, other = rnd.choice(BEYOND), rnd.choice(EDGES + BEYOND)
+    for call in (("add", region), ("remove", region), ("install", region, 7, [], None, []), ("disconnect", other, region),
+                 ("connect", region, other, [], oracle2.ALL, []), ("connect", other, region, [], oracle2.ALL, [])):
+        s.call(*call)
+
+
+def case_numbers(s, rnd, i):
+    """Regions at the edges come, are connected and go again, in any order; the images show the version in between."""
+    s.put("start empty")
+    regions = rnd.sample(EDGES, rnd.randint(2, len(EDGES)))
+    for region in regions:
+        s.call("add", region)
+        s.call("install", region, 100 + region, [region], None, [5, 100 + region])
+        put_images(s, rnd)
+    for source, target in zip(regions, regions[1:] + regions[:1]):
+        s.call("connect", source, target, [100 + target], oracle2.ALL, [5, 100 + target])
+    put_beyond(s, rnd)
+    for asker in regions:
+        for kind, item in ((oracle2.PACKAGE, rnd.choice(EDGES)), (oracle2.SERVICE, 100 + rnd.choice(EDGES))):
+            s.put("route %d %d %d %d" % (100 + asker, kind, item, rnd.choice(ROUTE_ROOMS)))
+    for region in rnd.sample(regions, len(regions)):
+        s.call("disconnect", region, rnd.choice(EDGES))
+        s.call("remove", region)
+        put_images(s, rnd)
+
+
+def line_of(regions):
+    """A connection from each region to the next."""
+    return list(zip(regions, regions[1:]))
+
+
+def diamonds_of(regions):
+    """From a region to two others, from both to the next, and so on: routes that are equally long, and chosen by the numbers."""
+    steps = [regions[at:at + 4] for at in range(0, len(regions) - 3, 3)]
+    return [pair for a, b, c, d in steps for pair in ((a, b), (a, c), (b, d), (c, d))]
+
+
+def chain_graph(rnd, i):
+    """A graph with routes of up to 48 connections, or of up to 24 with a choice at every second, and the regions in their order. The
+    first case has the longest of all, with ascending regions."""
+    regions = list(range(15, 64)) if i == 0 else rnd.sample(range(64), rnd.choice((4, 16, 17, 33, 48, 49, 49)))
+    pairs = (line_of if i % 3 != 2 else diamonds_of)(regions)[:oracle2.MAX_CONNECTIONS]
+    every = set(range(64)) if rnd.random() < 0.5 else set(regions)
+    bundles = {100 + region: oracle2.Bundle(region, ((region, 0),), (region,)) for region in every}
+    named = tuple(sorted({*gen2.subset(rnd, bundles, 15), 100 + regions[-1]}))
+    filters = {pair: oracle2.Filter(named, oracle2.ALL, oracle2.ALL) for pair in pairs}
+    return oracle2.Graph(every, bundles, filters), regions
+
+
+def case_chains(s, rnd, i):
+    """Long routes, with buffers of all lengths; finds and events along them; then the same after a connection has left."""
+    graph, regions = chain_graph(rnd, i)
+    if i % 2:
+        s.put("start " + oracle2.image(s.level, graph).hex())
+    else:
+        s.put("start empty")
+        for call in oracle2.graph_calls(graph):
+            s.call(*call)
+    put_images(s, rnd)
+    for _ in range(2):
+        for asker, target in [(regions[0], regions[-1])] + [rnd.choices(regions, k=2) for _ in range(4)]:
+            for kind, item in ((oracle2.BUNDLE, 100 + target), (oracle2.PACKAGE, target), (oracle2.SERVICE, target)):
+                for room in (64, rnd.choice(ROUTE_ROOMS)):
+                    s.put("route %d %d %d %d" % (100 + asker, kind, item, room))
+        asker, listeners = 100 + regions[0], [100 + region for region in regions]
+        s.put("bfind %d %d %s" % (asker, len(listeners), oracle2.show(listeners)))
+        for find in ("resolve", "sfind"):
+            s.put("%s %d %d %s" % (find, asker, len(regions), oracle2.show(regions)))
+        s.put("sevent %d %d %s" % (len(listeners), regions[-1], oracle2.show(listeners)))
+        s.call("disconnect", *rnd.choice(sorted(s.g.F)))
+
+
+def labelled(front, regions, count=None):
+    """A file with a front byte and regions, whatever they are, and at times another count of regions; some with a bundle in the last
+    region and a connection to it."""
+    graph = oracle2.Graph(())
+    if len(regions) > 1 and regions[-1] % 2:
+        graph = oracle2.Graph(regions, {10: oracle2.Bundle(regions[-1], ((1, 0),), (2,))},
+                              {(regions[0], regions[-1]): oracle2.Filter((10,), oracle2.ALL, (2,))})
+    tree = gen2.Tree(graph, 2)
+    tree.version, tree.regions, tree.rcount = front, list(regions), count
+    return tree.bytes()
+
+
+def region_lists(rnd):
+    """Regions of a file, on both sides of what a version may have."""
+    yield from ([], range(16), range(17), range(16, 64), range(64), range(63), range(65), [*range(16), 63], [0, 15], [15, 16], [63, 64])
+    yield from ([region] for region in EDGES + BEYOND[:6])
+    yield from (sorted(rnd.sample(range(top), rnd.randint(1, top))) for top in (16, 64, 66))
+
+
+def case_versions(s, rnd, i):
+    """Files with each front byte, read over one another."""
+    files = [labelled(front, list(regions)) for regions in region_lists(rnd) for front in (1, 2, rnd.choice(FRONTS))]
+    files += [labelled(2, list(range(64)), count) for count in (63, 65, 255)]
+    put_archives(s, rnd, rnd.sample(files, MOST_FILES))
+
+
 # gen2's functions make their scripts by this name, and all that this table has.
 gen2.Script = Script
 gen2.CAPABILITIES.update({"wide": (10, case_wide, 1), "over": (10, case_over, 1), "names": (11, case_names, 3),
-                          ISOLATION: (12, case_isolation, 3)})
+                          ISOLATION: (12, case_isolation, 3), "numbers": (13, case_numbers, 1), "chains": (13, case_chains, 1),
+                          "versions": (13, case_versions, 1)})

@@ -5,12 +5,15 @@
 #include <stdlib.h>
 #include <string.h>
 
+#include "guarded.h"
 #include "wimboru.h"
 
 /* The faults have the numbers from 1 up to this one; 0 is none. */
-enum { FAULTS = 68 };
+enum { FAULTS = 82 };
+/* From this one on, up to OUTSIDE, they write a file that a reader of version 1 alone must find wrong. */
+enum { EARLY = 76 };
 /* From this one on they let a bundle learn what stands in regions that no connection leads to. */
-enum { OUTSIDE = 66 };
+enum { OUTSIDE = 80 };
 
 #define CALL(type, name, ...) \
     type __real_##name(__VA_ARGS__); \
@@ -37,7 +40,21 @@ CALL(uint32_t, region_add, region_graph *g, uint32_t region)
 {
     uint32_t number = __real_region_add(g, fault(1) ? region % 256 : region);
 
+    if (fault(66) && number == 0 && region == REGION_REGIONS - 1) {
+        return region_remove(g, region), 1;
+    }
     return fault(2) && number == 2 ? 3 : number;
+}
+
+/* The last region of a graph, 0 where it has none. */
+static uint32_t last_region(const region_graph *g)
+{
+    uint32_t region = REGION_REGIONS - 1;
+
+    while (region > 0 && (g->regions >> region & 1) == 0) {
+        region--;
+    }
+    return region;
 }
 
 CALL(uint32_t, region_remove, region_graph *g, uint32_t region)
@@ -48,7 +65,7 @@ CALL(uint32_t, region_remove, region_graph *g, uint32_t region)
         region_add(g, region);
     }
     if (fault(4) && number == 3) {
-        __real_region_remove(g, 15);
+        __real_region_remove(g, last_region(g));
     }
     return number;
 }
@@ -205,7 +222,7 @@ CALL(int64_t, region_bundle_find, const region_graph *g, uint32_t *out, size_t o
     uint8_t route[REGION_ROUTE_BYTES];
     int64_t count = __real_region_bundle_find(g, out, out_count, location, candidates, candidate_count);
 
-    if (fault(66) && count >= 0) {
+    if (fault(80) && count >= 0) {
         count = 0;
         for (size_t i = 0; i < candidate_count; i++) {
             if (__real_region_route(g, route, sizeof route, location, REGION_KIND_BUNDLE, candidates[i]) >= 0
@@ -245,7 +262,7 @@ CALL(int64_t, region_service_event, const region_graph *g, uint32_t *out, size_t
     if (fault(24) && listener_count > 1 && not_installed(g, listeners[listener_count - 1])) {
         listener_count--;
     }
-    if (fault(67) && listener_count <= out_count
+    if (fault(81) && listener_count <= out_count
         && __real_region_service_event(g, own, REGION_LONGEST_IMAGE, listeners, listener_count, service) >= 0) {
         for (size_t i = 0; i < listener_count; i++) {
             if (one_before_sees(g, listeners[i], REGION_KIND_SERVICE, service)) {
@@ -258,6 +275,12 @@ CALL(int64_t, region_service_event, const region_graph *g, uint32_t *out, size_t
 }
 
 /* ---- routes ---- */
+
+/* Lengths below REGION_ROUTE_BYTES that a fault takes: as many bytes as the route has, 16, or one too few. */
+static bool is_room(size_t out_length)
+{
+    return fault(29) || (fault(67) && out_length >= 16) || (fault(68) && out_length == REGION_ROUTE_BYTES - 1);
+}
 
 CALL(int64_t, region_route, const region_graph *g, uint8_t *out, size_t out_length, uint32_t location, uint32_t kind, uint32_t item)
 {
@@ -278,15 +301,15 @@ CALL(int64_t, region_route, const region_graph *g, uint8_t *out, size_t out_leng
     if (fault(28) && count == -REGION_HIDDEN) {
         out[0] = 0;
     }
-    if (fault(68) && count == -REGION_HIDDEN) {
+    if (fault(82) && count == -REGION_HIDDEN) {
         return route_against(g, out, location, kind, item);
     }
-    if (fault(29) && count == -REGION_NO_PLACE) {
+    if (count == -REGION_NO_PLACE && is_room(out_length)) {
         count = __real_region_route(g, own, sizeof own, location, kind, item);
-        if (count < 0 || (size_t)count + 1 > out_length) {
+        if (count >= (int64_t)out_length) {
             return -REGION_NO_PLACE;
         }
-        memcpy(out, own, (size_t)count + 1);
+        memcpy(out, own, count < 0 ? 0 : (size_t)count + 1);
     }
     /* another route: of as many connections, or a longer one */
     if (count > 0 && region_disconnect(&other, out[0], out[1]) == 0) {
@@ -295,10 +318,101 @@ CALL(int64_t, region_route, const region_graph *g, uint8_t *out, size_t out_leng
             return memcpy(out, own, (size_t)others + 1), others;
         }
     }
-    return fault(32) && count == 15 ? -REGION_HIDDEN : count;
+    return fault(32) && count == REGION_MOST_CONNECTIONS ? -REGION_HIDDEN : count;
 }
 
 /* ---- archives ---- */
+
+enum { FRONT = 5 };
+
+static uint8_t other(uint8_t version)
+{
+    return version == 1 ? 2 : 1;
+}
+
+/* The version that goes with the regions of a file, where version 1 has the numbers up to a last one. */
+static uint8_t version_of(const uint8_t *bytes, size_t length, uint8_t last)
+{
+    for (size_t i = FRONT + 1; i < length && i <= (size_t)FRONT + bytes[FRONT]; i++) {
+        if (bytes[i] > last) {
+            return 2;
+        }
+    }
+    return 1;
+}
+
+static bool ends_in_last_region(const uint8_t *bytes, size_t length)
+{
+    size_t last = (size_t)FRONT + bytes[FRONT];
+
+    return last > FRONT && last < length && bytes[last] == REGION_REGIONS - 1;
+}
+
+/* The version that a fault of the reader expects. */
+static uint8_t expected(const uint8_t *bytes, size_t length, uint8_t right)
+{
+    if (fault(69)) {
+        return bytes[FRONT] > 16 ? 2 : 1;
+    }
+    if (fault(70)) {
+        return version_of(bytes, length, 16);
+    }
+    return fault(71) && ends_in_last_region(bytes, length) ? other(bytes[0]) : right;
+}
+
+/* A front byte with which the engine accepts the file, or refuses it for its version, where the fault does so. */
+static uint8_t front_of(const uint8_t *bytes, size_t length)
+{
+    const uint8_t front = bytes[0], right = version_of(bytes, length, 15);
+    const bool known = front == 1 || front == 2;
+
+    if ((fault(72) && known) || (fault(73) && front == 2) || (fault(74) && front == 3)) {
+        return right;
+    }
+    if (!known) {
+        return front;
+    }
+    return front == expected(bytes, length, right) ? right : other(right);
+}
+
+/* A file with another front byte. */
+static const uint8_t *relabelled(const uint8_t *bytes, size_t length, uint8_t front)
+{
+    static uint8_t copy[GUARDED_ROOM];
+
+    if (front == bytes[0]) {
+        return bytes;
+    }
+    memcpy(copy, bytes, length);
+    copy[0] = front;
+    return copy;
+}
+
+/* The file as a fault of the reader takes it. */
+static const uint8_t *taken(const uint8_t *bytes, size_t length)
+{
+    return length <= FRONT ? bytes : relabelled(bytes, length, front_of(bytes, length));
+}
+
+/* The version that a fault of the writer puts in front. */
+static uint8_t written_version(const region_graph *g, uint8_t right)
+{
+    if (fault(76) && last_region(g) == 16) {
+        return 1;
+    }
+    if (fault(77)) {
+        return 2;
+    }
+    if (fault(78)) {
+        return __builtin_popcountll(g->regions) > 16 ? 2 : 1;
+    }
+    for (size_t i = 0; fault(79) && i < g->bundle_count; i++) {
+        if (g->bundles[i].region > 15) {
+            return 2;
+        }
+    }
+    return fault(79) ? 1 : right;
+}
 
 CALL(uint32_t, region_read, region_graph *g, const uint8_t *bytes, size_t length)
 {
@@ -308,12 +422,12 @@ CALL(uint32_t, region_read, region_graph *g, const uint8_t *bytes, size_t length
     if (fault(33)) {
         length %= 65536;
     }
-    number = __real_region_read(g, bytes, length);
+    number = __real_region_read(g, taken(bytes, length), length);
     if (fault(34) && number != 0) {
         region_empty(g);
     }
     if (fault(35) && number == 17) {
-        region_add(g, 15);
+        region_add(g, REGION_REGIONS - 1);
     }
     if (fault(36) && number == 0) {
         g->regions |= regions;
@@ -326,8 +440,13 @@ CALL(uint32_t, region_read, region_graph *g, const uint8_t *bytes, size_t length
 
 CALL(uint32_t, archive_query, const uint8_t *bytes, size_t length, uint32_t location, uint32_t kind, uint32_t item)
 {
-    uint32_t answer = __real_archive_query(bytes, length, location, fault(39) ? kind % 256 : kind, item);
+    const uint8_t *file = taken(bytes, length);
+    uint32_t answer;
 
+    if (fault(75) && length > FRONT && (bytes[0] == 1 || bytes[0] == 2)) {
+        file = relabelled(bytes, length, version_of(bytes, length, 15));
+    }
+    answer = __real_archive_query(file, length, location, fault(39) ? kind % 256 : kind, item);
     if (fault(40) && answer == 12 && kind > 2) {
         return 13;
     }
@@ -341,6 +460,9 @@ CALL(int64_t, region_write, const region_graph *g, uint8_t *out, size_t out_leng
 {
     int64_t length = __real_region_write(g, out, out_length);
 
+    if (length > 0) {
+        out[0] = written_version(g, out[0]);
+    }
     if (fault(43) && length >= 0 && (size_t)length < out_length) {
         out[length] = 0;
     }

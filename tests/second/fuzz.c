@@ -9,9 +9,9 @@
    The library has no counters of its own, so the fuzzer is guided by what is seen from outside: the number of the read, the
    last byte that the reader touched before it refused (its place and its size), and the bytes of an accepted file (the same);
    and so for the lookup. The last byte touched is found by reading the file again with its end in memory that cannot be
-   touched: the readers leave at the first byte that breaks the layout, so an input that gets further, or breaks otherwise,
+   touched: the readers leave at the first byte that breaks the layout (a wrong version after the regions), so an input that gets further, or breaks otherwise,
    than all before it is kept and changed further. Most changed inputs get the version and the length that go with them, since
-   the readers refuse the others at once. */
+   the readers refuse the others at once; some get the other version. */
 #define _DEFAULT_SOURCE
 #include <setjmp.h>
 #include <signal.h>
@@ -23,7 +23,7 @@
 #include "guarded.h"
 #include "wimboru.h"
 
-enum { PLACES = 4096, SIZES = 6 };
+enum { PLACES = 4096, SIZES = 8 };
 
 /* What libFuzzer takes as new, by the number of the read, or of a lookup that finds nothing. */
 __attribute__((section("__libfuzzer_extra_counters"))) static uint8_t counters[REGION_NO_ENTRY + 1][PLACES][SIZES];
@@ -61,9 +61,9 @@ static void make_record(void)
 
     record = guarded_high(record_room, sizeof *record);
     region_empty(record);
-    require(region_add(record, 0) == 0 && region_add(record, 7) == 0, "add");
-    require(region_install(record, 7, 10, numbers, 3, numbers, 2) == 0, "install");
-    require(region_connect(record, 0, 7, numbers, 3, false, numbers, 1, true, NULL, 0) == 0, "connect");
+    require(region_add(record, 0) == 0 && region_add(record, 63) == 0, "add");
+    require(region_install(record, 63, 10, numbers, 3, numbers, 2) == 0, "install");
+    require(region_connect(record, 0, 63, numbers, 3, false, numbers, 1, true, NULL, 0) == 0, "connect");
     memcpy(&before, record, sizeof before);
 }
 
@@ -133,10 +133,16 @@ static size_t depth(reader *read, const uint8_t *data, size_t size)
     return low;
 }
 
-/* Bytes by the limits of document 01. */
-static int size_of(uint8_t byte)
+/* Bytes by the limits of lists, of the regions of each version and of bundles: how many of these are below one. */
+static size_t size_of(uint8_t byte)
 {
-    return byte == 0 ? 0 : byte <= 8 ? 1 : byte <= 16 ? 2 : byte <= 64 ? 3 : byte < 255 ? 4 : 5;
+    static const uint8_t limits[SIZES - 1] = {0, 8, 15, 16, 63, 64, 254};
+    size_t size = 0;
+
+    while (size < SIZES - 1 && limits[size] < byte) {
+        size++;
+    }
+    return size;
 }
 
 /* Counts the bytes of a whole file, or the last byte that was touched. */
@@ -232,6 +238,17 @@ static uint32_t check_sheet(const uint8_t *file, size_t size)
     return judged;
 }
 
+/* The version that goes with the regions of a file of at least 5 bytes. */
+static uint8_t version_of(const uint8_t *data, size_t size)
+{
+    for (size_t i = 6; i < size && i < 6u + data[5]; i++) {
+        if (data[i] > 15) {
+            return 2;
+        }
+    }
+    return 1;
+}
+
 size_t LLVMFuzzerMutate(uint8_t *data, size_t size, size_t most);
 size_t LLVMFuzzerCustomMutator(uint8_t *data, size_t size, size_t most, unsigned seed);
 int LLVMFuzzerTestOneInput(const uint8_t *data, size_t size);
@@ -241,7 +258,7 @@ size_t LLVMFuzzerCustomMutator(uint8_t *data, size_t size, size_t most, unsigned
     size_t changed = LLVMFuzzerMutate(data, size, most);
 
     if (changed >= 5 && seed % 8 != 0) {
-        data[0] = 1;
+        data[0] = seed % 8 == 1 ? (uint8_t)(3 - version_of(data, changed)) : version_of(data, changed);
         for (int i = 0; i < 4; i++) {
             data[1 + i] = (uint8_t)((changed - 5) >> (24 - 8 * i));
         }

@@ -1,11 +1,15 @@
 //! The archive: reading, writing and the archive query.
 
+use std::ops::RangeInclusive;
+
 use crate::graph::{
     ascends, Bundle, Connection, Filter, Graph, Kind, Part, Refusal, RegionSet, MOST_BUNDLES, MOST_CONNECTIONS,
     MOST_LISTED, MOST_PROVIDED, REGIONS,
 };
 
-const VERSION: u8 = 1;
+/// Version 1 has the regions below this number alone, version 2 has one that is not below it.
+const EARLY_REGIONS: u8 = 16;
+const VERSIONS: RangeInclusive<u8> = 1..=2;
 const HEAD: usize = 5;
 const EVERYTHING: u8 = 255;
 const SEEN: u32 = 100;
@@ -13,14 +17,14 @@ const HIDDEN: u32 = 101;
 
 impl Graph {
     pub fn read(bytes: &[u8]) -> Result<Graph, Refusal> {
-        if bytes.len() < HEAD || bytes[0] != VERSION {
+        if bytes.len() < HEAD || !VERSIONS.contains(&bytes[0]) {
             return Err(Refusal::NotAnArchive);
         }
         let (head, body) = bytes.split_at(HEAD);
         if u32::from_be_bytes([head[1], head[2], head[3], head[4]]) as usize != body.len() {
             return Err(Refusal::WrongLength);
         }
-        Fields(body).graph().ok_or(Refusal::BrokenLayout)
+        Fields(body).graph(head[0]).ok_or(Refusal::BrokenLayout)
     }
 
     /// Writes the image and gives its length.
@@ -31,7 +35,7 @@ impl Graph {
     }
 
     pub fn image(&self) -> Vec<u8> {
-        let mut image = vec![VERSION, 0, 0, 0, 0];
+        let mut image = vec![version(self.regions), 0, 0, 0, 0];
         image.push(self.regions.len() as u8);
         image.extend(self.regions.iter());
         image.push(self.bundles.len() as u8);
@@ -59,6 +63,15 @@ pub fn archive_query(bytes: &[u8], location: u32, kind: u32, item: u32) -> u32 {
         Ok(true) => SEEN,
         Ok(false) => HIDDEN,
         Err(refusal) => refusal as u32,
+    }
+}
+
+/// The version of a graph with these regions.
+fn version(regions: RegionSet) -> u8 {
+    if regions.reaches(EARLY_REGIONS) {
+        2
+    } else {
+        1
     }
 }
 
@@ -102,8 +115,12 @@ fn put_part(image: &mut Vec<u8>, part: &Part) {
 struct Fields<'a>(&'a [u8]);
 
 impl<'a> Fields<'a> {
-    fn graph(mut self) -> Option<Graph> {
+    /// The graph of a file of a version.
+    fn graph(mut self, first: u8) -> Option<Graph> {
         let regions = self.regions()?;
+        if version(regions) != first {
+            return None;
+        }
         let bundles = self.records(MOST_BUNDLES, |fields| fields.bundle(regions))?;
         let connections = self.records(MOST_CONNECTIONS, |fields| fields.connection(regions))?;
         let ordered = ascends_by(&bundles, |b| b.location) && ascends_by(&connections, Connection::ends);

@@ -1,6 +1,6 @@
-//! The region graph of document 01: regions, bundles, connections, and the six calls that change them.
+//! The region graph of document 01 and request C-13: regions, bundles, connections, and the six calls that change them.
 
-pub const REGIONS: u32 = 16;
+pub const REGIONS: u32 = 64;
 pub const MOST_BUNDLES: usize = 64;
 pub const MOST_CONNECTIONS: usize = 48;
 pub const MOST_PROVIDED: usize = 8;
@@ -52,7 +52,7 @@ impl TryFrom<u32> for Kind {
 
 /// A set of regions, one bit each.
 #[derive(Clone, Copy, Debug, Default, PartialEq, Eq)]
-pub struct RegionSet(u16);
+pub struct RegionSet(u64);
 
 impl RegionSet {
     pub fn contains(self, region: u8) -> bool {
@@ -69,6 +69,11 @@ impl RegionSet {
 
     pub fn len(self) -> usize {
         self.0.count_ones() as usize
+    }
+
+    /// Whether the set has a region from this one on.
+    pub fn reaches(self, region: u8) -> bool {
+        self.0 >> region != 0
     }
 
     pub fn iter(self) -> impl Iterator<Item = u8> {

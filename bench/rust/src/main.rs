@@ -1,4 +1,4 @@
-//! A second implementation of document 01, and of the lookup of request C-11, in plain Rust, to compare the engine's
+//! A second implementation of document 01 and of the requests C-11 and C-13 in plain Rust, to compare the engine's
 //! speed with.
 
 mod archive;
@@ -13,7 +13,6 @@ use std::path::Path;
 use std::process::ExitCode;
 
 const USAGE: &str = "usage: region-baseline script < SCRIPT
-       region-baseline query LOCATION KIND ITEM < ARCHIVE
        region-baseline bench EXAMPLES";
 
 fn main() -> ExitCode {
@@ -21,7 +20,6 @@ fn main() -> ExitCode {
     let arguments: Vec<&str> = arguments.iter().map(String::as_str).collect();
     let done = match arguments[..] {
         ["script"] => run_script(),
-        ["query", location, kind, item] => run_query([location, kind, item]),
         ["bench", examples] => measure::run(Path::new(examples)),
         _ => Err(io::Error::new(io::ErrorKind::InvalidInput, USAGE)),
     };
@@ -38,12 +36,4 @@ fn run_script() -> io::Result<()> {
     let mut script = String::new();
     io::stdin().read_to_string(&mut script)?;
     io::stdout().write_all(script::run(&script).as_bytes())
-}
-
-fn run_query(words: [&str; 3]) -> io::Result<()> {
-    let [location, kind, item] = words.map(script::number);
-    let mut archive = Vec::new();
-    io::stdin().read_to_end(&mut archive)?;
-    println!("{}", archive::archive_query(&archive, location, kind, item));
-    Ok(())
 }

@@ -9,6 +9,7 @@ use std::time::{Duration, Instant};
 use crate::archive::archive_query;
 use crate::graph::{Filter, Graph, Part, Refusal};
 use crate::names;
+use crate::routes::ROUTE_BYTES;
 
 /// Short rounds, so that some of them pass without a break by the system.
 const ROUNDS: usize = 100;
@@ -20,7 +21,7 @@ const COPIES: usize = 8;
 
 const HIDDEN: i64 = -101;
 const ASKER: u32 = 2000;
-/// Held in region 15, five connections away from the asker.
+/// Held in region 15, five connections away from the asker; where there are 64 regions, in region 63.
 const SEEN_ITEM: u32 = 511;
 /// Held in region 15, and passed by every connection but those to region 15.
 const HIDDEN_ITEM: u32 = 504;
@@ -38,6 +39,7 @@ pub fn run(examples: &Path) -> io::Result<()> {
     queries("listed", &listed, HIDDEN_ITEM);
     changes(&listed);
     archives(&std::fs::read(examples.join("g.archive"))?, &std::fs::read(examples.join("longest.archive"))?);
+    long_route(&row_graph());
     lookups(&std::fs::read(examples.join("g.names"))?, &sheet());
     Ok(())
 }
@@ -67,16 +69,26 @@ fn full_graph(filter: impl Fn(u32) -> Filter) -> Graph {
     graph
 }
 
+/// 64 regions with a bundle each; 48 connections, from region 15 to region 63 in a row, that pass all packages and services.
+fn row_graph() -> Graph {
+    let mut graph = Graph::default();
+    for i in 0..64 {
+        accepted(graph.add_region(i));
+        accepted(graph.install(i, ASKER + i, &provided(i), &provided(i)));
+    }
+    (15..63).for_each(|r| accepted(graph.connect(r, r + 1, &ALL)));
+    graph
+}
+
 fn accepted(done: Result<(), Refusal>) {
     done.expect("the call is accepted");
 }
 
 fn queries(filters: &str, graph: &Graph, hidden: u32) {
-    let mut bytes = [0; 16];
+    let mut bytes = [0; ROUTE_BYTES];
     for (name, item) in [("seen", SEEN_ITEM), ("hidden", hidden)] {
         best(&format!("route_{name}_{filters}"), || {
-            let count = graph.route(black_box(ASKER), 1, black_box(item), &mut bytes);
-            answer(count.map(|c| c.map_or(HIDDEN, |c| c as i64)))
+            counted(graph.route(black_box(ASKER), 1, black_box(item), &mut bytes))
         });
     }
     let mut out = [0; LIST as usize];
@@ -93,6 +105,12 @@ fn queries(filters: &str, graph: &Graph, hidden: u32) {
     best(&format!("event_1000_{filters}"), || {
         answer(graph.service_event(black_box(&listeners), SEEN_ITEM, &mut out).map(|c| c as i64))
     });
+}
+
+/// The route of the bundle in region 15 to an item in region 63.
+fn long_route(graph: &Graph) {
+    let mut bytes = [0; ROUTE_BYTES];
+    best("route_48", || counted(graph.route(black_box(ASKER + 15), 1, black_box(SEEN_ITEM), &mut bytes)));
 }
 
 fn changes(graph: &Graph) {
@@ -151,10 +169,15 @@ fn lookups(g: &[u8], sheet: &[u8]) {
 
 /// Where a name starts and how long it is, in one number, or the refusal below zero.
 fn name_in(sheet: &[u8], kind: u32, number: u32) -> i64 {
-    answer(names::look_up(sheet, black_box(kind), black_box(number)).map(|name| {
-        let start = name.as_ptr() as usize - sheet.as_ptr() as usize;
-        (start * 100 + name.len()) as i64
-    }))
+    answer(
+        names::look_up(sheet, black_box(kind), black_box(number))
+            .map(|name| (names::start(sheet, name) * 100 + name.len()) as i64),
+    )
+}
+
+/// The count of connections of a route.
+fn counted(route: Result<Option<usize>, Refusal>) -> i64 {
+    answer(route.map(|count| count.map_or(HIDDEN, |c| c as i64)))
 }
 
 fn answer(given: Result<i64, Refusal>) -> i64 {

@@ -29,6 +29,11 @@ pub fn look_up(sheet: &[u8], kind: u32, number: u32) -> Result<&[u8], Refusal> {
     found.ok_or(Refusal::NoEntry)
 }
 
+/// Where a part of a sheet starts in it.
+pub fn start(sheet: &[u8], part: &[u8]) -> usize {
+    part.as_ptr() as usize - sheet.as_ptr() as usize
+}
+
 /// The bytes after the version and the length, where these two are right.
 fn entries(sheet: &[u8]) -> Option<&[u8]> {
     let (&version, rest) = sheet.split_first()?;

@@ -4,7 +4,7 @@ use std::collections::HashMap;
 
 use crate::graph::{Graph, Kind, Refusal, RegionSet, REGIONS};
 
-pub const ROUTE_BYTES: usize = 16;
+pub const ROUTE_BYTES: usize = 64;
 
 /// From so many candidates on, a find gathers the holders of every item first.
 const GATHER_FROM: usize = 16;

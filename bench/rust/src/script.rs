@@ -2,21 +2,57 @@
 
 use std::fmt::Write;
 
+use crate::archive::archive_query;
 use crate::graph::{Filter, Graph, Part, Refusal};
+use crate::names;
 
 /// What an output list and an output buffer hold before a query, as the script language says.
 const LIST_FILL: u32 = 0xDEAD_0000;
 const BYTE_FILL: u8 = 0xA5;
 
+/// What stands between two lines: the graph, the archive and the name sheet.
+#[derive(Default)]
+struct State {
+    graph: Graph,
+    archive: Vec<u8>,
+    sheet: Vec<u8>,
+}
+
 pub fn run(script: &str) -> String {
-    let mut graph = Graph::default();
+    let mut state = State::default();
     let mut answers = String::new();
     for line in script.lines().filter(|l| !l.is_empty() && !l.starts_with('#')) {
         let words: Vec<&str> = line.split(' ').collect();
-        let answer = change(&mut graph, &words).unwrap_or_else(|| query(&graph, &words));
+        let answer = keep(&mut state, &words)
+            .or_else(|| change(&mut state.graph, &words))
+            .or_else(|| judge(&state, &words))
+            .unwrap_or_else(|| query(&state.graph, &words));
         writeln!(answers, "{answer}").expect("a String takes every line");
     }
     answers
+}
+
+/// The answer to a line that keeps bytes, or `None` where it does not.
+fn keep(state: &mut State, words: &[&str]) -> Option<String> {
+    match words[0] {
+        "archive" => state.archive = bytes(words[1]),
+        "sheet" => state.sheet = bytes(words[1]),
+        _ => return None,
+    }
+    Some("0".into())
+}
+
+/// The answer to a line that asks the bytes that stand, or `None` where it does not.
+fn judge(state: &State, words: &[&str]) -> Option<String> {
+    let n = |i: usize| number(words[i]);
+    match words[0] {
+        "query" => Some(archive_query(&state.archive, n(1), n(2), n(3)).to_string()),
+        "lookup" => Some(match names::look_up(&state.sheet, n(1), n(2)) {
+            Ok(name) => format!("0 {} {}", names::start(&state.sheet, name), name.len()),
+            Err(refusal) => format!("{} 0 0", refusal as u32),
+        }),
+        _ => None,
+    }
 }
 
 /// The number of a changing call, or `None` where the line is a query.
@@ -24,6 +60,7 @@ fn change(graph: &mut Graph, words: &[&str]) -> Option<String> {
     let n = |i: usize| number(words[i]);
     let done = match words[0] {
         "start" => start(graph, words[1]),
+        "lent" => Graph::read(&bytes(words[1])).map(|read| *graph = read),
         "add" => graph.add_region(n(1)),
         "remove" => graph.remove_region(n(1)),
         "install" => graph.install(n(1), n(2), &list(words[3]), &list(words[4])),
@@ -84,7 +121,7 @@ fn shown(answer: Result<String, Refusal>, out: String) -> String {
     }
 }
 
-pub fn number(word: &str) -> u32 {
+fn number(word: &str) -> u32 {
     word.parse().unwrap_or_else(|_| panic!("not a number: {word}"))
 }
 

@@ -4,19 +4,32 @@ use mathlib.Core.List.{[], _∷_, _++_}
 use lib.ListN.{length}
 use Rattle.region_graph.specs.Model.{nothing}
 use Rattle.region_graph.specs.Refusals.{broken-layout}
-use Rattle.region_graph.specs.Calls.{run}
+use Rattle.region_graph.specs.Calls.{Call, run}
 use Rattle.region_routes.specs.Chosen.{chosen-by, chosen}
 use Rattle.text_lines.specs.Decimal.{decimal}
-use Rattle.region_archive.specs.Image.{image}
+use Rattle.region_archive.specs.Image.{version, image}
 use Rattle.region_listing.specs.Listing.{held, seen-from, header, listing-text, refused-word, refusal-text}
 use Rattle.demands.specs.JointTable.{graph-g, g-image, lines-of-g}
 
 pub image-of-g : image (run nothing graph-g) ≡ g-image
-unfolding image
+unfolding image version
 image-of-g = refl
 
 pub length-of-image : length g-image ≡ 84
 length-of-image = refl
+
+-- the last region of version 1, the first of version 2, and the last of all
+pub image-of-early : image (run nothing (Call.add-region 0 ∷ Call.add-region 15 ∷ [])) ≡ 1 ∷ 0 ∷ 0 ∷ 0 ∷ 5 ∷ 2 ∷ 0 ∷ 15 ∷ 0 ∷ 0 ∷ []
+unfolding image version
+image-of-early = refl
+
+pub image-of-next : image (run nothing (Call.add-region 16 ∷ [])) ≡ 2 ∷ 0 ∷ 0 ∷ 0 ∷ 4 ∷ 1 ∷ 16 ∷ 0 ∷ 0 ∷ []
+unfolding image version
+image-of-next = refl
+
+pub image-of-late : image (run nothing (Call.add-region 0 ∷ Call.add-region 63 ∷ [])) ≡ 2 ∷ 0 ∷ 0 ∷ 0 ∷ 5 ∷ 2 ∷ 0 ∷ 63 ∷ 0 ∷ 0 ∷ []
+unfolding image version
+image-of-late = refl
 
 pub printed-g : listing-text (run nothing graph-g) ≡ header ++ lines-of-g
 unfolding listing-text header seen-from held decimal chosen chosen-by

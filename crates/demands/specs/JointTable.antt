@@ -1,5 +1,5 @@
--- Document 01, "Graph G, and others": the joint table G1 to G10. A row is a list of calls from nothing and what is shown of the model that
--- they give.
+-- Document 01, "Graph G, and others": the joint table G1 to G10, with G10 as C-13 of document 02 has it. A row is a list of calls from nothing
+-- and what is shown of the model that they give.
 use mathlib.Core.Path.{_≡_}
 use mathlib.Core.List.{List, [], _∷_}
 use Prim.Native.Nat.{ℕ, suc}
@@ -113,7 +113,7 @@ rows =
       claims = [];
     }
     -- G10
-    ∷ record { calls = Call.add-region 15 ∷ Call.add-region 16 ∷ []; returned = 0 ∷ 1 ∷ []; claims = [] }
+    ∷ record { calls = Call.add-region 63 ∷ Call.add-region 64 ∷ []; returned = 0 ∷ 1 ∷ []; claims = [] }
     ∷ []
 
 -- graph G's image, all 84 bytes

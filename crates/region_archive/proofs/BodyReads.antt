@@ -15,10 +15,10 @@ use Rattle.region_graph.specs.declared.Changed.{Changed}
 use Rattle.region_graph.proofs.FlatModels.{flat-made}
 use Rattle.region_graph.specs.Decoded.{GoodRegions}
 use Rattle.big_endian.specs.Bytes.{big, counted}
-use Rattle.region_archive.specs.Image.{body}
+use Rattle.region_archive.specs.Image.{version, body}
 use Rattle.big_endian.specs.Parsing.{Parsed, Unparsed}
 use Rattle.region_archive.specs.RecordFields.{Elem, most-records, LegalElems, record-bytes, section-bytes, elements}
-use Rattle.region_archive.specs.Sections.{RegionsRead, SectionRead, BodyRead, whole, broken}
+use Rattle.region_archive.specs.Sections.{RegionsRead, SectionRead, LegalIn, BodyRead, whole, broken}
 use Rattle.region_archive.specs.declared.record_fields.Section.{Section}
 use Rattle.region_archive.specs.declared.record_fields.Section.the-variants as Section
 use Rattle.region_archive.specs.declared.sections.RegionsAt.{RegionsAt}
@@ -45,8 +45,8 @@ Stands k rs s at xs next = Parsed (LegalElems k rs) (counted (record-bytes k)) s
 abbrev Missing : Section → List ℕ → List ℕ → ℕ → Type 0
 Missing k rs s at = Unparsed (LegalElems k rs) (counted (record-bytes k)) s at
 
-pub no-regions : (s : List ℕ) (at : ℕ) → Unparsed GoodRegions (counted (big 1)) s at → Unparsed Legal body s at
-no-regions s at u m r h e = u (m .regions) (later m r) (h .regions-legal) (e ∙ split m r)
+pub no-regions : {v : ℕ} (s : List ℕ) (at : ℕ) → Unparsed GoodRegions (counted (big 1)) s at → Unparsed (LegalIn v) body s at
+no-regions s at u m r h e = u (m .regions) (later m r) (h .0 .regions-legal) (e ∙ split m r)
 
 module _ {s : List ℕ} {at : ℕ} where
   module _ {rs : List ℕ} {mid : ℕ} (p : Parsed GoodRegions (counted (big 1)) s at rs mid) where
@@ -57,30 +57,34 @@ module _ {s : List ℕ} {at : ℕ} where
     row-here : (k : Section) (m : Model) → Legal m → rs ≡ m .regions → LegalElems k rs (elements k m)
     row-here k m h e = subst (λ (l : List ℕ). LegalElems k l (elements k m)) (sym e) (legal-elements k m h)
 
-    no-bundles : Missing Section.Bundles rs s mid → Unparsed Legal body s at
+    -- the regions are those of another version
+    no-version : {v : ℕ} → (version rs ≡ v → ⊥) → Unparsed (LegalIn v) body s at
+    no-version u m r h e = u (ap version (past-regions m r (h .0) e .0) ∙ h .1)
+
+    no-bundles : {v : ℕ} → Missing Section.Bundles rs s mid → Unparsed (LegalIn v) body s at
     no-bundles u m r h e =
-        let d = past-regions m r h e in
-        u (m .bundles) (section-bytes Section.Connections m ++ r) (row-here Section.Bundles m h (d .0)) (d .1)
+        let d = past-regions m r (h .0) e in
+        u (m .bundles) (section-bytes Section.Connections m ++ r) (row-here Section.Bundles m (h .0) (d .0)) (d .1)
 
     module _ {bs : List Bundle} {to : ℕ} (q : Stands Section.Bundles rs s mid bs to) where
-      no-connections : Missing Section.Connections rs s to → Unparsed Legal body s at
+      no-connections : {v : ℕ} → Missing Section.Connections rs s to → Unparsed (LegalIn v) body s at
       no-connections u m r h e =
-          let d = past-regions m r h e in
+          let d = past-regions m r (h .0) e in
           let k = section-elements rs (p .is-good .each) Section.Bundles in
           let f =
           counted-same k (most-records Section.Bundles) bs (m .bundles) (drop to s) (section-bytes Section.Connections m ++ r) (q .is-good)
-          (row-here Section.Bundles m h (d .0)) (sym (q .shape) ∙ d .1) in
-          u (m .connections) r (row-here Section.Connections m h (d .0)) (f .1)
+          (row-here Section.Bundles m (h .0) (d .0)) (sym (q .shape) ∙ d .1) in
+          u (m .connections) r (row-here Section.Connections m (h .0) (d .0)) (f .1)
 
-      whole-body : {cs : List Connection} {end : ℕ} → Stands Section.Connections rs s to cs end
-          → Parsed Legal body s at (record { regions = rs; bundles = bs; connections = cs }) end
-      whole-body {cs} {end} t =
+      whole-body : {v : ℕ} → version rs ≡ v → {cs : List Connection} {end : ℕ} → Stands Section.Connections rs s to cs end
+          → Parsed (LegalIn v) body s at (record { regions = rs; bundles = bs; connections = cs }) end
+      whole-body w {cs} {end} t =
           let m : Model = record { regions = rs; bundles = bs; connections = cs } in
           let a = counted (big 1) rs in
           let b = section-bytes Section.Bundles m in
           let c = section-bytes Section.Connections m in
           record {
-            is-good = record { regions-legal = p .is-good; bundles-legal = q .is-good; connections-legal = t .is-good };
+            is-good = (record { regions-legal = p .is-good; bundles-legal = q .is-good; connections-legal = t .is-good }, w);
             shape =
                 p .shape ∙ ap (λ (l : List ℕ). a ++ l) (q .shape ∙ ap (λ (l : List ℕ). b ++ l) (t .shape)) ∙ sym (split m (drop end s));
             ends = omega (arith, p .ends, q .ends, t .ends, ap length (body-sections m), length-append a (b ++ c), length-append b c);
@@ -88,50 +92,54 @@ module _ {s : List ℕ} {at : ℕ} where
           }
 
 -- no body stands there, or one that ends before the bytes do
-module _ {s : List ℕ} {at : ℕ} {r : Changed} (refused : (r .number ≡ broken-layout) × Empty (r .graph)) where
-  pub no-body : Unparsed Legal body s at → BodyRead s at r
+module _ {v : ℕ} {s : List ℕ} {at : ℕ} {r : Changed} (refused : (r .number ≡ broken-layout) × Empty (r .graph)) where
+  pub no-body : Unparsed (LegalIn v) body s at → BodyRead v s at r
   no-body u = broken (λ m l e. u m [] l (e ∙ sym (append-nil (body m)))) (refused .0) (refused .1)
 
-  pub longer : {x : Model} {end : ℕ} → Parsed Legal body s at x end → (end ≡ length s → ⊥) → BodyRead s at r
+  pub longer : {x : Model} {end : ℕ} → Parsed (LegalIn v) body s at x end → (end ≡ length s → ⊥) → BodyRead v s at r
   longer {x} {end} p u = broken other (refused .0) (refused .1)
     where
-      other : (m : Model) → Legal m → drop at s ≡ body m → ⊥
+      other : (m : Model) → LegalIn v m → drop at s ≡ body m → ⊥
       other m l e =
-          let d = body-same x m (drop end s) [] (p .is-good) l (sym (p .shape) ∙ e ∙ sym (append-nil (body m))) in
+          let d = body-same x m (drop end s) [] (p .is-good .0) (l .0) (sym (p .shape) ∙ e ∙ sym (append-nil (body m))) in
           u (omega (arith, p .room, sym (length-drop end s) ∙ ap length (d .1)))
 
--- a body, and the flat lists of its model
-pub record Sections (s : List ℕ) (at : ℕ) (rl bl cl : List ℕ) (end : ℕ) : Type 0 where
+-- a body in a file of version v, and the flat lists of its model
+pub record Sections (v : ℕ) (s : List ℕ) (at : ℕ) (rl bl cl : List ℕ) (end : ℕ) : Type 0 where
   pub model : Model
-  pub parsed : Parsed Legal body s at model end
+  pub parsed : Parsed (LegalIn v) body s at model end
   pub flat : FlatModel rl bl cl model
 
--- the answers of the three calls: the regions stand there
-module _ {s : List ℕ} {at : ℕ} {list : List ℕ} {x : RegionsAt} (a : RegionsRead s at list x) (i : x .ok ≡ true) where
+-- the answers of the calls: the regions stand there
+module _ {v : ℕ} {s : List ℕ} {at : ℕ} {list : List ℕ} {x : RegionsAt} (a : RegionsRead s at list x) (i : x .ok ≡ true) where
+  pub version-differs : {k : ℕ} → k ≡ version (members (x .set)) → (k ≡ v → ⊥) → Unparsed (LegalIn v) body s at
+  version-differs e u = no-version (a .answer .found i) (λ d. u (e ∙ d))
+
   pub bundles-missing : {rows : List ℕ} {y : SectionAt} → SectionRead Section.Bundles (members (x .set)) s (x .next) rows y → y .ok ≡ false
-      → Unparsed Legal body s at
+      → Unparsed (LegalIn v) body s at
   bundles-missing b j = no-bundles (a .answer .found i) (b .answer .missing j)
 
   -- and the bundles do
   module _ {rows : List ℕ} {y : SectionAt} (b : SectionRead Section.Bundles (members (x .set)) s (x .next) rows y) (j : y .ok ≡ true)
       {others : List ℕ} {z : SectionAt} (c : SectionRead Section.Connections (members (x .set)) s (y .next) others z) where
-    pub connections-missing : z .ok ≡ false → Unparsed Legal body s at
+    pub connections-missing : z .ok ≡ false → Unparsed (LegalIn v) body s at
     connections-missing k = no-connections (a .answer .found i) (b .answer .found j .parsed) (c .answer .missing k)
 
-    pub three-sections : z .ok ≡ true → Sections s at (take (x .count) list) (take (y .count) rows) (take (z .count) others) (z .next)
-    three-sections k =
+    pub three-sections : {n : ℕ} → n ≡ version (members (x .set)) → n ≡ v → z .ok ≡ true
+        → Sections v s at (take (x .count) list) (take (y .count) rows) (take (z .count) others) (z .next)
+    three-sections d e k =
         let p = a .answer .found i in
         let q = b .answer .found j in
         let t = c .answer .found k in
         record {
           model = record { regions = members (x .set); bundles = q .value; connections = t .value };
-          parsed = whole-body p (q .parsed) (t .parsed);
+          parsed = whole-body p (q .parsed) (sym d ∙ e) (t .parsed);
           flat = record { regions-are = sym (a .listed i); bundles-are = q .put; connections-are = t .put };
         }
 
 -- the graph of these lists is the body's
-pub body-made : {s : List ℕ} {at : ℕ} {rl bl cl : List ℕ} {end : ℕ} → Sections s at rl bl cl end → end ≡ length s
-    → {r : Changed} → Made rl bl cl r → BodyRead s at r
-body-made {s} {at} {rl} {bl} {cl} t e d =
-    let g = flat-made rl bl cl (t .model) (t .parsed .is-good) (t .flat) d in
-    whole (t .model) (subst (λ (n : ℕ). Parsed Legal body s at (t .model) n) e (t .parsed)) (g .number) (g .valid) (g .means)
+pub body-made : {v : ℕ} {s : List ℕ} {at : ℕ} {rl bl cl : List ℕ} {end : ℕ} → Sections v s at rl bl cl end → end ≡ length s
+    → {r : Changed} → Made rl bl cl r → BodyRead v s at r
+body-made {v} {s} {at} {rl} {bl} {cl} t e d =
+    let g = flat-made rl bl cl (t .model) (t .parsed .is-good .0) (t .flat) d in
+    whole (t .model) (subst (λ (n : ℕ). Parsed (LegalIn v) body s at (t .model) n) e (t .parsed)) (g .number) (g .valid) (g .means)

@@ -1,6 +1,6 @@
 -- The front of a file, the whole of it, and what the reader and the query answer.
 use mathlib.Core.Path.{_≡_, refl, sym, ap, _∙_, subst}
-use mathlib.Core.Bool.{Bool, true}
+use mathlib.Core.Bool.{Bool, true, _&&_}
 use mathlib.Core.List.{List, [], _∷_, _++_, append-nil}
 use Prim.Native.Nat.{ℕ, _+_, _-_, _*_, _^_, _≤_, _<_}
 use native.Mathlib.Omega.{arith}
@@ -11,22 +11,22 @@ use lib.Seq.{drop-length}
 use Rattle.region_graph.specs.Refusals.{not-refused, not-an-archive, wrong-length, broken-layout}
 use Rattle.region_graph.specs.Lists.{pick}
 use Rattle.region_graph.specs.Model.{Model, Legal, nothing}
-use Rattle.region_graph.specs.Calls.{first-no, ask}
+use Rattle.region_graph.specs.Calls.{Question, first-no, ask}
 use Rattle.region_graph.specs.Record.{Valid, meaning}
 use Rattle.region_graph.specs.Promise.{Empty}
 use Rattle.region_graph.specs.declared.Graph.{Graph}
 use Rattle.region_graph.specs.declared.Changed.{Changed}
-use Rattle.region_graph.proofs.Lists.{and-fst, and-snd}
+use Rattle.region_graph.proofs.Lists.{and-fst}
 use Rattle.region_graph.proofs.Legal.{all-yes, first-no-stops, first-no-goes-on}
 use Rattle.big_endian.specs.Bytes.{big}
 use Rattle.region_archive.specs.Image.{version, body, image}
-use Rattle.region_archive.specs.File.{FileMeaning, means, means-none, is-image, read-model, opens, length-field, front-questions, read-number}
+use Rattle.region_archive.specs.File.{FileMeaning, means, means-none, is-image, read-model, read-number}
+use Rattle.region_archive.specs.File.{oldest, latest, opens, length-field, front-questions}
 use Rattle.big_endian.specs.Parsing.{Parsed}
 use Rattle.big_endian.proofs.Digits.{drop-byte, digits-none, digits-more, digits-all}
-use Rattle.big_endian.proofs.Delimits.{head-same, word-bytes}
+use Rattle.big_endian.proofs.Delimits.{word-bytes}
 use Rattle.region_archive.specs.Promise.{Reads, ReadsOver}
-use Rattle.region_archive.specs.Sections.{BodyRead, whole, broken}
-use Rattle.region_archive.proofs.CountedReads.{byte-stands}
+use Rattle.region_archive.specs.Sections.{LegalIn, BodyRead, whole, broken}
 use Rattle.region_archive.proofs.OneImage.{image-body, one-image, image-front}
 
 -- the length field, as the four bytes after the first
@@ -37,41 +37,51 @@ field-tail : (s : List ℕ) → length-field s ≡ four (drop 1 s)
 field-tail [] = refl
 field-tail (b ∷ s) = refl
 
-module _ (s : List ℕ) where
-  pub front-short : length s < 5 → not-an-archive ≡ first-no (front-questions s)
+-- the questions about the front, where versions from `low` to `high` are read
+module _ (low high : ℕ) (s : List ℕ) where
+  pub front-short : length s < 5 → not-an-archive ≡ first-no (front-questions low high s)
   front-short h = rw (lt-leb 5 (length s) h) refl
 
-  module _ (h : 5 ≤ length s) {n next : ℕ} (p : Parsed (λ m. m < 256 ^ 1) (big 1) s 0 n next) where
-    first-is : getD s 0 0 ≡ n
-    first-is = head-same (sym (drop-byte s 0 (omega arith)) ∙ byte-stands (p .is-good) p)
+  module _ (h : 5 ≤ length s) where
+    pub front-before : getD s 0 0 < low → not-an-archive ≡ first-no (front-questions low high s)
+    front-before u = rw (le-leb 5 (length s) h, lt-leb low (getD s 0 0) u) refl
 
-    pub front-other : (n ≡ 1 → ⊥) → not-an-archive ≡ first-no (front-questions s)
-    front-other u = rw (le-leb 5 (length s) h, ne-eqb (getD s 0 0) 1 (λ e. u (sym first-is ∙ e))) refl
+    module _ (from : low ≤ getD s 0 0) where
+      pub front-after : high < getD s 0 0 → not-an-archive ≡ first-no (front-questions low high s)
+      front-after u = rw (le-leb 5 (length s) h, le-leb low (getD s 0 0) from, lt-leb (getD s 0 0) high u) refl
 
-    module _ (one : n ≡ 1) {k end : ℕ} (q : Parsed (λ m. m < 256 ^ 4) (big 4) s 1 k end) where
-      length-is : length-field s ≡ k
-      length-is = field-tail s ∙ ap four (q .shape) ∙ word-bytes k (q .is-good)
+      module _ (to : getD s 0 0 ≤ high) {k end : ℕ} (q : Parsed (λ m. m < 256 ^ 4) (big 4) s 1 k end) where
+        length-is : length-field s ≡ k
+        length-is = field-tail s ∙ ap four (q .shape) ∙ word-bytes k (q .is-good)
 
-      pub front-misfit : (k ≡ length s - 5 → ⊥) → wrong-length ≡ first-no (front-questions s)
-      front-misfit u =
-          let other = ne-eqb (length-field s) (length s - 5) (λ e. u (sym length-is ∙ e)) in
-          rw (le-leb 5 (length s) h, eq-eqb (getD s 0 0) 1 (first-is ∙ one), other) refl
+        pub front-misfit : (k ≡ length s - 5 → ⊥) → wrong-length ≡ first-no (front-questions low high s)
+        front-misfit u =
+            let other = ne-eqb (length-field s) (length s - 5) (λ e. u (sym length-is ∙ e)) in
+            rw (le-leb 5 (length s) h, le-leb low (getD s 0 0) from, le-leb (getD s 0 0) high to, other) refl
 
-      pub front-fine : k ≡ length s - 5 → not-refused ≡ first-no (front-questions s)
-      front-fine e = rw (le-leb 5 (length s) h, eq-eqb (getD s 0 0) 1 (first-is ∙ one), eq-eqb (length-field s) (length s - 5) (length-is ∙ e)) refl
+        pub front-fine : k ≡ length s - 5 → not-refused ≡ first-no (front-questions low high s)
+        front-fine e =
+            let same = eq-eqb (length-field s) (length s - 5) (length-is ∙ e) in
+            rw (le-leb 5 (length s) h, le-leb low (getD s 0 0) from, le-leb (getD s 0 0) high to, same) refl
 
+-- what a read asks about the front, and the version of the file
+abbrev asked : List ℕ → List Question
+asked s = front-questions oldest latest s
+
+abbrev first-byte : List ℕ → ℕ
+first-byte s = getD s 0 0
+
+module _ (s : List ℕ) where
   -- a file that passes the questions about its front, and whose body ends where it does, is that body's image
-  module _ (bytes : (i : ℕ) → getD s i 0 < 256) (z : not-refused ≡ first-no (front-questions s)) where
-    passed : (opens s ≡ true) × (eqb (length-field s) (length s - 5) ≡ true)
+  module _ (bytes : (i : ℕ) → getD s i 0 < 256) (z : not-refused ≡ first-no (asked s)) where
+    passed : (opens oldest latest s ≡ true) × (eqb (length-field s) (length s - 5) ≡ true)
     passed =
-        let a = all-yes (front-questions s) (refl, (refl, tt)) (sym z) in
+        let a = all-yes (asked s) (refl, (refl, tt)) (sym z) in
         (a .0, a .1 .0)
 
     pub long-enough : 5 ≤ length s
-    long-enough = leb-true 5 (length s) (and-fst (leb 5 (length s)) (eqb (getD s 0 0) version) (passed .0))
-
-    first-one : getD s 0 0 ≡ 1
-    first-one = eqb-true (getD s 0 0) 1 (and-snd (leb 5 (length s)) (eqb (getD s 0 0) version) (passed .0))
+    long-enough =
+        leb-true 5 (length s) (and-fst (leb 5 (length s)) (leb oldest (first-byte s) && leb (first-byte s) latest) (passed .0))
 
     field-stands : Parsed (λ m. m < 256 ^ 4) (big 4) s 1 (length-field s) 5
     field-stands =
@@ -83,11 +93,12 @@ module _ (s : List ℕ) where
         let e : (((0 * 256 + getD s 1 0) * 256 + getD s 2 0) * 256 + getD s 3 0) * 256 + getD s 4 0 ≡ length-field s = omega arith in
         subst (λ (n : ℕ). Parsed (λ m. m < 256 ^ 4) (big 4) s 1 n 5) e (digits-all d refl h)
 
-    pub image-is : (m : Model) {end : ℕ} → Parsed Legal body s 5 m end → end ≡ length s → image m ≡ s
+    pub image-is : (m : Model) {end : ℕ} → Parsed (LegalIn (first-byte s)) body s 5 m end → end ≡ length s → image m ≡ s
     unfolding image
     image-is m {end} p e =
-        sym (drop-byte s 0 (omega (arith, long-enough)) ∙ ap (λ (n : ℕ). n ∷ drop 1 s) first-one
-        ∙ ap (λ (l : List ℕ). 1 ∷ l) (field-stands .shape ∙ (λ i. big 4 (size i) ++ rest i)))
+        let front : first-byte s ≡ version (m .regions) = sym (p .is-good .1) in
+        sym (drop-byte s 0 (omega (arith, long-enough)) ∙ ap (λ (n : ℕ). n ∷ drop 1 s) front
+        ∙ ap (λ (l : List ℕ). version (m .regions) ∷ l) (field-stands .shape ∙ (λ i. big 4 (size i) ++ rest i)))
       where
         size : length-field s ≡ length (body m)
         size = omega (arith, eqb-true (length-field s) (length s - 5) (passed .1), p .ends, e)
@@ -95,26 +106,27 @@ module _ (s : List ℕ) where
         rest : drop 5 s ≡ body m
         rest = p .shape ∙ ap (λ (n : ℕ). body m ++ drop n s) e ∙ ap (λ (l : List ℕ). body m ++ l) (drop-length s) ∙ append-nil (body m)
 
-  -- no body to the end: no image
-  pub bodiless : ((m : Model) → Legal m → drop 5 s ≡ body m → ⊥) → (m : Model) → Legal m → image m ≡ s → ⊥
-  bodiless u m h e = u m h (ap (drop 5) (sym e) ∙ image-body m ∙ append-nil (body m))
+  -- no body of its version to the end: no image
+  pub bodiless : ((m : Model) → LegalIn (first-byte s) m → drop 5 s ≡ body m → ⊥) → (m : Model) → Legal m → image m ≡ s → ⊥
+  unfolding image
+  bodiless u m h e = u m (h, ap first-byte e) (ap (drop 5) (sym e) ∙ image-body m ∙ append-nil (body m))
 
 module _ {s : List ℕ} where
   -- the questions about the front come first
-  pub stopped : (f : FileMeaning s) {k : ℕ} → k ≡ first-no (front-questions s) → (k ≡ not-refused → ⊥) → k ≡ read-number f
-  stopped f {k} e u = sym (first-no-stops (front-questions s) (ask broken-layout (is-image f) ∷ []) (sym e) (ne-eqb k not-refused u))
+  pub stopped : (f : FileMeaning s) {k : ℕ} → k ≡ first-no (asked s) → (k ≡ not-refused → ⊥) → k ≡ read-number f
+  stopped f {k} e u = sym (first-no-stops (asked s) (ask broken-layout (is-image f) ∷ []) (sym e) (ne-eqb k not-refused u))
 
-  last-asked : (f : FileMeaning s) → not-refused ≡ first-no (front-questions s) → read-number f ≡ first-no (ask broken-layout (is-image f) ∷ [])
-  last-asked f e = first-no-goes-on (front-questions s) (ask broken-layout (is-image f) ∷ []) (all-yes (front-questions s) (refl, (refl, tt)) (sym e))
+  last-asked : (f : FileMeaning s) → not-refused ≡ first-no (asked s) → read-number f ≡ first-no (ask broken-layout (is-image f) ∷ [])
+  last-asked f e = first-no-goes-on (asked s) (ask broken-layout (is-image f) ∷ []) (all-yes (asked s) (refl, (refl, tt)) (sym e))
 
-  pub broken-file : (f : FileMeaning s) → not-refused ≡ first-no (front-questions s) → ((m : Model) → Legal m → image m ≡ s → ⊥)
+  pub broken-file : (f : FileMeaning s) → not-refused ≡ first-no (asked s) → ((m : Model) → Legal m → image m ≡ s → ⊥)
       → broken-layout ≡ read-number f
   broken-file (means m l e) z u = absurd (u m l e)
   broken-file (means-none n) z u = sym (last-asked (means-none n) z)
 
   -- an image is read with no refusal
-  pub accepted-number : (m : Model) (l : Legal m) (e : image m ≡ s) → not-refused ≡ first-no (front-questions s)
-  accepted-number m l e = sym (ap (λ (t : List ℕ). first-no (front-questions t)) (sym e) ∙ image-front m l)
+  pub accepted-number : (m : Model) (l : Legal m) (e : image m ≡ s) → not-refused ≡ first-no (asked s)
+  accepted-number m l e = sym (ap (λ (t : List ℕ). first-no (asked t)) (sym e) ∙ image-front m l)
 
   pub accepted : (f : FileMeaning s) (m : Model) → Legal m → image m ≡ s → (not-refused ≡ read-number f) × (m ≡ read-model f)
   accepted (means n k i) m l e = (sym (last-asked (means n k i) (accepted-number m l e)), one-image m n l k (e ∙ sym i))
@@ -134,11 +146,12 @@ module _ {s : List ℕ} where
   }
 
   -- what the body gave is what the file means
-  pub body-reads : (bytes : (i : ℕ) → getD s i 0 < 256) → not-refused ≡ first-no (front-questions s) → {r : Changed} → BodyRead s 5 r → Reads s r
+  pub body-reads : (bytes : (i : ℕ) → getD s i 0 < 256) → not-refused ≡ first-no (asked s) → {r : Changed} → BodyRead (first-byte s) s 5 r
+      → Reads s r
   body-reads bytes z {r} (whole m p n v e) = record {
     valid = v;
     says = λ f.
-        let a = accepted f m (p .is-good) (image-is s bytes z m p refl) in
+        let a = accepted f m (p .is-good .0) (image-is s bytes z m p refl) in
         record { number = n ∙ a .0; next = e ∙ a .1 };
   }
   body-reads bytes z {r} (broken u n v) = reads-refused (n, v) (λ e. omega arith) (λ f. broken-file f z (bodiless s u))

@@ -11,7 +11,7 @@ use Rattle.region_graph.specs.Model.{Model}
 use Rattle.region_graph.proofs.Lists.{concat-length}
 use Rattle.text_lines.specs.Written.{WrittenAt}
 use Rattle.big_endian.specs.Bytes.{big, counted}
-use Rattle.big_endian.proofs.Digits.{big-length}
+use Rattle.big_endian.proofs.Digits.{big-one, big-length}
 use Rattle.region_archive.specs.Image.{version, body, image}
 use Rattle.region_archive.specs.RecordFields.{section-bytes}
 use Rattle.region_archive.specs.Promise.{archived, write-outcome}
@@ -19,6 +19,7 @@ use Rattle.region_archive.specs.declared.record_fields.Section.the-varia
 use Rattle.region_archive.specs.declared.Written.{Written}
 use Rattle.region_archive.specs.declared.Written.the-variants as Written
 use Rattle.region_archive.proofs.Records.{body-sections}
+use Rattle.region_archive.proofs.Versions.{version-read}
 
 -- regions take one byte each, and one for their count
 pub regions-size : (rs : List ℕ) → length (counted (big 1) rs) ≡ 1 + length rs
@@ -39,14 +40,19 @@ unfolding image
 image-size m = omega (arith, length-append (big 4 (length (body m))) (body m))
 
 -- the image as the writer's five pieces
-abbrev pub pieces : Model → ℕ → List ℕ
-pieces m size =
-    big 1 version
+abbrev pub pieces : Model → ℕ → ℕ → List ℕ
+pieces m front size =
+    big 1 front
     ++ (big 4 size ++ (counted (big 1) (m .regions) ++ (section-bytes Section.Bundles m ++ section-bytes Section.Connections m)))
 
-pub image-pieces : (m : Model) → pieces m (length (body m)) ≡ image m
+pub image-pieces : (m : Model) {front size : ℕ} → front ≡ version (m .regions) → size ≡ length (body m) → pieces m front size ≡ image m
 unfolding image
-image-pieces m = ap (λ (l : List ℕ). version ∷ (big 4 (length (body m)) ++ l)) (sym (body-sections m))
+image-pieces m {front} {size} e f =
+    let v = version (m .regions) in
+    let size-bytes = big 4 (length (body m)) in
+    let sections = counted (big 1) (m .regions) ++ (section-bytes Section.Bundles m ++ section-bytes Section.Connections m) in
+    (λ i. pieces m (e i) (f i)) ∙ ap (λ (l : List ℕ). l ++ (size-bytes ++ sections)) (big-one v (omega (arith, version-read (m .regions) .1)))
+    ∙ ap (λ (l : List ℕ). v ∷ (size-bytes ++ l)) (sym (body-sections m))
 
 -- the image was written at the buffer's start
 pub wrote-image : (m : Model) {old new : List ℕ} {end : ℕ} → WrittenAt old new 0 (image m) end

@@ -10,6 +10,7 @@ pub mod RecordLaws
 pub mod ModelReaders
 pub mod Records
 pub mod Members
+pub mod Versions
 pub mod Images
 pub mod Taking
 pub mod Reachable

@@ -1,6 +1,6 @@
 -- The regions of a valid graph, met one number after the other in its set.
 use mathlib.Core.Path.{_≡_, refl, sym, ap, _∙_}
-use mathlib.Core.Bool.{true, false}
+use mathlib.Core.Bool.{Bool, true, false}
 use mathlib.Core.List.{List, [], _∷_, _++_}
 use Prim.Native.Nat.{ℕ, zero, suc, _+_, _≤_, _<_}
 use native.Mathlib.Omega.{arith}
@@ -26,6 +26,18 @@ count-at n zero i h = absurd (omega arith)
 count-at n (suc k) zero h = omega arith
 count-at n (suc k) (suc i) h = count-at (suc n) k i (omega arith) ∙ omega arith
 
+-- an element that is kept is one more than those kept before it
+kept-before : (p : ℕ → Bool) (l : List ℕ) (i n : ℕ) → keep p (take (i + 1) l) ≡ keep p (take i l) ++ (n ∷ [])
+    → length (keep p (take i l)) + 1 ≤ length (keep p l)
+kept-before p l i n e =
+    let rest = keep p (drop (i + 1) l) in
+    omega (
+      arith,
+      ap length e ∙ length-append (keep p (take i l)) (n ∷ []),
+      ap (λ (m : List ℕ). length (keep p m)) (take-append-drop (i + 1) l),
+      ap length (keep-append p (take (i + 1) l) (drop (i + 1) l)) ∙ length-append (keep p (take (i + 1) l)) rest,
+    )
+
 -- the members of a set below i
 abbrev pub met : ℕ → ℕ → List ℕ
 met x i = keep (has x) (take i (count-from 0 regions))
@@ -46,7 +58,7 @@ module _ (x i : ℕ) (h : i < regions) where
 
 module _ (g : Graph) (v : Valid g) {x : ℕ} (e : x ≡ set-of (λ r. member r (meaning g .regions))) where
   -- the members of a valid graph's set of regions are its regions
-  set-members : members x ≡ meaning g .regions
+  pub set-members : members x ≡ meaning g .regions
   unfolding meaning
   set-members = ap members (e ∙ sym (regions-stored g v))
 
@@ -54,19 +66,19 @@ module _ (g : Graph) (v : Valid g) {x : ℕ} (e : x ≡ set-of (λ r. member r (
   unfolding members
   met-all i h = ap (keep (has x)) (take-all i (count-from 0 regions) (rw count-length h)) ∙ set-members
 
-  -- a region is within the bytes of all
+  -- a region is one more than those below it
+  met-fewer : (i : ℕ) → i < regions → has x i ≡ true → length (met x i) + 1 ≤ length (members x)
+  unfolding members
+  met-fewer i h t = kept-before (has x) (count-from 0 regions) i i (met-took x i h t)
+
+  -- it is within the bytes of all
   pub met-byte : (i : ℕ) → i < regions → has x i ≡ true
       → length (concat-map (big 1) (met x i)) + 1 ≤ length (concat-map (big 1) (meaning g .regions))
-  unfolding members
   met-byte i h t =
-      let l = count-from 0 regions in
-      let rest = keep (has x) (drop (i + 1) l) in
       omega (
         arith,
         concat-length (big 1) 1 (big-length 1) (met x i),
         concat-length (big 1) 1 (big-length 1) (meaning g .regions),
-        ap length (met-took x i h t) ∙ length-append (met x i) (i ∷ []),
-        ap (λ (m : List ℕ). length (keep (has x) m)) (take-append-drop (i + 1) l),
-        ap length (keep-append (has x) (take (i + 1) l) (drop (i + 1) l)) ∙ length-append (met x (i + 1)) rest,
+        met-fewer i h t,
         ap length set-members,
       )

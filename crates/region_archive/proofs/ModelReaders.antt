@@ -14,7 +14,7 @@ use Rattle.region_graph.proofs.Lists.{all-map, member-all}
 use Rattle.big_endian.specs.Bytes.{big, counted}
 use Rattle.big_endian.proofs.Delimits.{Reader, read-number}
 use Rattle.big_endian.proofs.Readers.{read-each, concat-back, read-list, read-both, read-sized, read-as, read-where}
-use Rattle.region_archive.specs.Image.{version, part-bytes, bundle-fields, connection-fields, body}
+use Rattle.region_archive.specs.Image.{part-bytes, bundle-fields, connection-fields, body}
 
 -- a list of numbers
 read-numbers : Reader (All Word) (counted (big 4))
@@ -42,7 +42,7 @@ read-part = record { read = read; back = back }
 abbrev pub FitBundle : Bundle → Type 0
 FitBundle b = (b .location < 256 ^ 4) × ((b .region < 256 ^ 1) × (All Word (b .packages) × All Word (b .services)))
 
-pub read-bundle : Reader FitBundle (bundle-fields version (big 4) (big 4))
+pub read-bundle : Reader FitBundle (bundle-fields (big 4) (big 4))
 read-bundle =
     read-as (λ t. record { location = t .0; region = t .1 .0; packages = t .1 .1 .0; services = t .1 .1 .1 })
     (λ b. (b .location, (b .region, (b .packages, b .services)))) (λ b. refl)
@@ -53,7 +53,7 @@ FitConnection c =
     (c .source < 256 ^ 1)
     × ((c .target < 256 ^ 1) × (All Word (c .filter .bundles) × (FitPart (c .filter .packages) × FitPart (c .filter .services))))
 
-pub read-connection : Reader FitConnection (connection-fields version (big 4) (big 4))
+pub read-connection : Reader FitConnection (connection-fields (big 4) (big 4))
 read-connection =
     read-as (λ t. record { source = t .0; target = t .1 .0; filter = record { bundles = t .1 .1 .0; packages = t .1 .1 .1 .0; services = t .1 .1 .1 .1 } })
     (λ c. (c .source, (c .target, (c .filter .bundles, (c .filter .packages, c .filter .services))))) (λ c. refl)

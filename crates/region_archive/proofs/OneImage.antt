@@ -1,4 +1,4 @@
--- The one image of a legal model: it tells the model, it passes the questions about its front, and it is no longer than 14248 bytes.
+-- The one image of a legal model: it tells the model, it passes the questions about its front, and it is no longer than 14296 bytes.
 use mathlib.Core.Path.{_≡_, sym, ap, _∙_}
 use mathlib.Core.Bool.{true}
 use mathlib.Core.List.{List, [], _++_, append-nil}
@@ -16,8 +16,8 @@ use Rattle.region_archive.specs.Bounds.{part-bound, bundle-bound, connec
 use Rattle.big_endian.specs.Bytes.{big, counted}
 use Rattle.big_endian.proofs.Digits.{big-length}
 use Rattle.big_endian.proofs.Delimits.{Delimits, reader-same, word-bytes}
-use Rattle.region_archive.specs.Image.{part-bytes, body, image}
-use Rattle.region_archive.specs.File.{length-field, front-questions}
+use Rattle.region_archive.specs.Image.{part-bytes, version, body, image}
+use Rattle.region_archive.specs.File.{oldest, latest, length-field, front-questions}
 use Rattle.region_archive.specs.RecordFields.{Elem, most-records, LegalElem, elements, record-bytes, section-bytes}
 use Rattle.region_archive.specs.declared.record_fields.Section.{Section}
 use Rattle.region_archive.specs.declared.record_fields.Section.the-variants as Section
@@ -25,6 +25,7 @@ use Rattle.region_archive.proofs.RecordLaws.{open-part, part-length}
 use Rattle.region_archive.proofs.Records.{bundle-record, connection-record, legal-elements}
 use Rattle.region_archive.proofs.Images.{body-size, image-size}
 use Rattle.region_archive.proofs.ModelReaders.{read-body}
+use Rattle.region_archive.proofs.Versions.{version-read, early-few}
 
 -- bytes tell a legal model
 pub body-same : Delimits Legal body _≡_
@@ -81,14 +82,27 @@ section-most k m h =
     let sum = concat-most (LegalElem k (m .regions)) (record-bytes k) (record-limit k) (record-most k (m .regions)) (elements k m) (r .each) in
     omega (arith, sum, mul-le-mul-right (record-limit k) (r .few))
 
--- no image is longer than document 01 says
-pub image-bound : (m : Model) → Legal m → length (image m) ≤ 14248
-image-bound m h =
-    omega (arith, image-size m, body-size m, h .regions-legal .few, section-most Section.Bundles m h, section-most Section.Connections m h)
+-- besides its regions an image has at most 14232 bytes
+image-within : (m : Model) → Legal m → length (image m) ≤ length (m .regions) + 14232
+image-within m h = omega (arith, image-size m, body-size m, section-most Section.Bundles m h, section-most Section.Connections m h)
+
+-- no image is longer than document 02 says
+pub image-bound : (m : Model) → Legal m → length (image m) ≤ 14296
+image-bound m h = omega (arith, image-within m h, h .regions-legal .few)
+
+-- nor one of version 1 than document 01 says
+pub early-bound : (m : Model) → Legal m → version (m .regions) ≡ 1 → length (image m) ≤ 14248
+early-bound m h e = omega (arith, image-within m h, early-few (m .regions) (h .regions-legal .ascend) e)
 
 -- an image passes the questions about its front
-pub image-front : (m : Model) → Legal m → first-no (front-questions (image m)) ≡ not-refused
+pub image-front : (m : Model) → Legal m → first-no (front-questions oldest latest (image m)) ≡ not-refused
 unfolding image
 image-front m h =
     let size : length-field (image m) ≡ length (image m) - 5 = word-bytes (length (body m)) (omega (arith, image-bound m h)) ∙ omega arith in
-    rw (le-leb 5 (length (image m)) (omega arith), eq-eqb (length-field (image m)) (length (image m) - 5) size)
+    let v = version (m .regions) in
+    rw (
+      le-leb 5 (length (image m)) (omega arith),
+      le-leb oldest v (version-read (m .regions) .0),
+      le-leb v latest (version-read (m .regions) .1),
+      eq-eqb (length-field (image m)) (length (image m) - 5) size,
+    )

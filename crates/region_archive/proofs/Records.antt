@@ -18,7 +18,7 @@ use Rattle.big_endian.specs.Bytes.{big, counted, sized}
 use Rattle.big_endian.proofs.Delimits.{Delimits, reader-same}
 use Rattle.big_endian.proofs.Readers.{read-where, read-sized}
 use Rattle.big_endian.proofs.Rows.{Elements}
-use Rattle.region_archive.specs.Image.{version, part-bytes, bundle-fields, connection-fields, body}
+use Rattle.region_archive.specs.Image.{part-bytes, bundle-fields, connection-fields, body}
 use Rattle.region_archive.specs.RecordFields.{field-bytes, fields-bytes, first-width, Elem, fields-of, fields-in, ValuesAre}
 use Rattle.region_archive.specs.RecordFields.{record-bytes, section-bytes, elements, key, element-before, LegalElem, LegalElems}
 use Rattle.region_archive.specs.declared.record_fields.FieldValues.{FieldValues}
@@ -28,17 +28,17 @@ use Rattle.region_archive.proofs.ModelReaders.{read-bundle, read-connec
 use Rattle.region_archive.proofs.RecordLaws.{same-bytes}
 
 -- a bundle's record is the length of its four fields and the fields
-pub bundle-record : (b : Bundle) → record-bytes Section.Bundles b ≡ sized 2 (bundle-fields version (big 4) (big 4)) b
+pub bundle-record : (b : Bundle) → record-bytes Section.Bundles b ≡ sized 2 (bundle-fields (big 4) (big 4)) b
 bundle-record b = ap (λ (l : List ℕ). big 2 (length l) ++ l) fields
   where
-    fields : fields-bytes Section.Bundles (fields-of Section.Bundles b) ≡ bundle-fields version (big 4) (big 4) b
+    fields : fields-bytes Section.Bundles (fields-of Section.Bundles b) ≡ bundle-fields (big 4) (big 4) b
     fields = simp append-assoc
 
 -- a connection's record is the length of its five fields and the fields
-pub connection-record : (c : Connection) → record-bytes Section.Connections c ≡ sized 2 (connection-fields version (big 4) (big 4)) c
+pub connection-record : (c : Connection) → record-bytes Section.Connections c ≡ sized 2 (connection-fields (big 4) (big 4)) c
 connection-record c = ap (λ (l : List ℕ). big 2 (length l) ++ l) fields
   where
-    fields : fields-bytes Section.Connections (fields-of Section.Connections c) ≡ connection-fields version (big 4) (big 4) c
+    fields : fields-bytes Section.Connections (fields-of Section.Connections c) ≡ connection-fields (big 4) (big 4) c
     fields = simp append-assoc
 
 -- the elements of a section: a legal element's record tells it apart, and its key is its place in the order
@@ -46,10 +46,10 @@ module _ (rs : List ℕ) (small : All (λ r. r < regions) rs) where
   pub element-same : (s : Section) → Delimits (LegalElem s rs) (record-bytes s) _≡_
   element-same Section.Bundles =
       subst (λ (f : Bundle → List ℕ). Delimits (LegalBundle rs) f _≡_) (λ i b. sym (bundle-record b) i)
-      (reader-same (LegalBundle rs) (sized 2 (bundle-fields version (big 4) (big 4))) (read-where (fit-bundle rs small) (read-sized 2 read-bundle)))
+      (reader-same (LegalBundle rs) (sized 2 (bundle-fields (big 4) (big 4))) (read-where (fit-bundle rs small) (read-sized 2 read-bundle)))
   element-same Section.Connections =
       subst (λ (f : Connection → List ℕ). Delimits (LegalConnection rs) f _≡_) (λ i c. sym (connection-record c) i)
-      (reader-same (LegalConnection rs) (sized 2 (connection-fields version (big 4) (big 4)))
+      (reader-same (LegalConnection rs) (sized 2 (connection-fields (big 4) (big 4)))
       (read-where (fit-connection rs small) (read-sized 2 read-connection)))
 
   pub element-keyed : (s : Section) (x y : Elem s) → LegalElem s rs x → LegalElem s rs y → element-before s x y ≡ ltb (key s x) (key s y)

@@ -1,4 +1,4 @@
--- Document 01, "The archive" and questions 15 to 17: what a file means, and the number that it is read with.
+-- Document 01, "The archive" and questions 15 to 17, and C-13 of document 02: what a file means, and the number that it is read with.
 use mathlib.Core.Path.{_≡_}
 use mathlib.Core.Bool.{Bool, true, false, _&&_}
 use mathlib.Core.List.{List, [], _∷_, _++_}
@@ -8,7 +8,7 @@ use lib.ListN.{length, getD}
 use Rattle.region_graph.specs.Refusals.{not-an-archive, wrong-length, broken-layout}
 use Rattle.region_graph.specs.Model.{Model, Legal, nothing}
 use Rattle.region_graph.specs.Calls.{Question, ask, first-no}
-use Rattle.region_archive.specs.Image.{version, image}
+use Rattle.region_archive.specs.Image.{image}
 
 -- a file is the image of a legal model, or of none
 pub data FileMeaning (bytes : List ℕ) : Type 0 where
@@ -24,23 +24,30 @@ abbrev pub read-model : {bytes : List ℕ} → FileMeaning bytes → Model
 read-model (means m l e) = m
 read-model (means-none n) = nothing
 
--- at least 5 bytes, the first being the version
-abbrev pub opens : List ℕ → Bool
-opens s = leb 5 (length s) && eqb (getD s 0 0) version
+-- the versions that are read: these two and those between
+abbrev pub oldest : ℕ
+oldest = 1
+
+abbrev pub latest : ℕ
+latest = 2
+
+-- at least 5 bytes, the first being a version from `low` to `high`
+abbrev pub opens : ℕ → ℕ → List ℕ → Bool
+opens low high s = leb 5 (length s) && (leb low (getD s 0 0) && leb (getD s 0 0) high)
 
 -- bytes 1 to 4, as a number
 abbrev pub length-field : List ℕ → ℕ
 length-field s = getD s 1 0 * 16777216 + getD s 2 0 * 65536 + getD s 3 0 * 256 + getD s 4 0
 
 -- the questions about the front of a file, and about all of it
-abbrev pub front-questions : List ℕ → List Question
-front-questions s =
-    ask not-an-archive (opens s)
+abbrev pub front-questions : ℕ → ℕ → List ℕ → List Question
+front-questions low high s =
+    ask not-an-archive (opens low high s)
     ∷ ask wrong-length (eqb (length-field s) (length s - 5))
     ∷ []
 
 abbrev pub read-questions : {s : List ℕ} → FileMeaning s → List Question
-read-questions {s} f = front-questions s ++ ask broken-layout (is-image f) ∷ []
+read-questions {s} f = front-questions oldest latest s ++ ask broken-layout (is-image f) ∷ []
 
 -- the number that a read returns: 0 when the file is accepted
 abbrev pub read-number : {s : List ℕ} → FileMeaning s → ℕ

@@ -13,7 +13,7 @@ use Rattle.region_graph.specs.declared.Changed.{Changed}
 use Rattle.region_graph.specs.Decoded.{GoodRegions}
 use Rattle.region_graph.specs.Flat.{Fields, FlatPart, Flat}
 use Rattle.big_endian.specs.Bytes.{big, counted}
-use Rattle.region_archive.specs.Image.{part-bytes, body}
+use Rattle.region_archive.specs.Image.{part-bytes, version, body}
 use Rattle.big_endian.specs.Parsing.{Parsed, Answer, AnswerInto}
 use Rattle.region_archive.specs.RecordFields.{SameTo, GoodTo, PartGood, FieldGood, field-bytes, FieldSame, FlatField, FlatElem, record-bytes, most-in, row-width, LegalElems}
 use Rattle.region_archive.specs.declared.record_fields.Section.{Section}
@@ -62,7 +62,12 @@ pub record SectionRead (k : Section) (rs : List ℕ) (bytes : List ℕ) (at : �
   pub room : r .count ≤ length rows
   pub answer : AnswerInto (LegalElems k rs) (counted (record-bytes k)) bytes at (r .ok) (Flat (row-width k) (FlatElem k) (take (r .count) rows)) (r .next)
 
--- a body was read at a place, to the end: the graph of the model whose body it is, or a refusal and the empty graph where it is none's
-pub data BodyRead (s : List ℕ) (at : ℕ) (r : Changed) : Type 0 where
-  whole : (m : Model) → Parsed Legal body s at m (length s) → r .number ≡ not-refused → Valid (r .graph) → meaning (r .graph) ≡ m → BodyRead s at r
-  broken : ((m : Model) → Legal m → drop at s ≡ body m → ⊥) → r .number ≡ broken-layout → Empty (r .graph) → BodyRead s at r
+-- a legal model whose image has the version v
+abbrev pub LegalIn : ℕ → Model → Type 0
+LegalIn v m = Legal m × (version (m .regions) ≡ v)
+
+-- a body was read at a place, to the end, in a file of version v: the graph of the model whose body it is, or a refusal and the empty
+-- graph where it is none's
+pub data BodyRead (v : ℕ) (s : List ℕ) (at : ℕ) (r : Changed) : Type 0 where
+  whole : (m : Model) → Parsed (LegalIn v) body s at m (length s) → r .number ≡ not-refused → Valid (r .graph) → meaning (r .graph) ≡ m → BodyRead v s at r
+  broken : ((m : Model) → LegalIn v m → drop at s ≡ body m → ⊥) → r .number ≡ broken-layout → Empty (r .graph) → BodyRead v s at r

@@ -9,10 +9,12 @@ ghost use Rattle.region_archive.specs.File.{«front-questions»};
 ghost use Rattle.region_archive.specs.Promise.{Reads, ReadsOver};
 ghost use Rattle.region_archive.specs.Sections.{BodyRead};
 use crate::FRONT;
-use crate::VERSION;
 use crate::record_fields::Section;
 use crate::sections::regions_at;
 use crate::sections::section_at;
+use crate::version::LATEST;
+use crate::version::OLDEST;
+use crate::version::version;
 use big_endian::number_at;
 use region_graph::Changed;
 use region_graph::Graph;
@@ -26,15 +28,18 @@ use region_graph::size::MOST_BUNDLES;
 use region_graph::size::MOST_CONNECTIONS;
 use region_graph::size::REGIONS;
 
-// The number that the version and the length field give.
-fn front(bytes: &[u8]) -> u32
-    ensures { λ r. ⌜ r ≡ first-no (front-questions (now (bytes .entry))) ⌝ }
+// The number that the version and the length field give, where versions from an oldest to a latest are read.
+fn front(bytes: &[u8], oldest: usize, latest: usize) -> u32
+    ensures { λ r. ⌜ r ≡ first-no (front-questions oldest latest (now (bytes .entry))) ⌝ }
 {
     if bytes.len() < FRONT {
         return NOT_AN_ARCHIVE;
     }
-    let first = number_at(bytes, 0, 1);
-    if first.number as usize != VERSION {
+    let first = bytes[0] as usize;
+    if first < oldest {
+        return NOT_AN_ARCHIVE;
+    }
+    if latest < first {
         return NOT_AN_ARCHIVE;
     }
     let size = number_at(bytes, 1, 4);
@@ -55,10 +60,10 @@ fn refused(number: u32) -> Changed
     }
 }
 
-// The graph of the body that stands from a place to the end, or a refusal's number and the empty graph.
-fn body_at(bytes: &[u8], at: usize) -> Changed
+// The graph of the body that stands from a place to the end in a file of a version, or a refusal's number and the empty graph.
+fn body_at(bytes: &[u8], at: usize, first: usize) -> Changed
     requires { ⌜ at ≤ length (now bytes) ⌝ }
-    ensures { λ r. ⌜ BodyRead (now (bytes .entry)) at r ⌝ }
+    ensures { λ r. ⌜ BodyRead first (now (bytes .entry)) at r ⌝ }
 {
     let mut list = [0u32; REGIONS];
     let mut bundles = [0u32; MOST_BUNDLES * BUNDLE_WIDTH];
@@ -68,6 +73,9 @@ fn body_at(bytes: &[u8], at: usize) -> Changed
         return refused(BROKEN_LAYOUT);
     }
     let set = regions.set;
+    if version(set) != first {
+        return refused(BROKEN_LAYOUT);
+    }
     let b = section_at(bytes, regions.next, Section::Bundles, set, &mut bundles);
     if !b.ok {
         return refused(BROKEN_LAYOUT);
@@ -89,11 +97,12 @@ fn body_at(bytes: &[u8], at: usize) -> Changed
 pub fn read(bytes: &[u8]) -> Changed
     ensures { λ r. ⌜ Reads (now (bytes .entry)) r ⌝ }
 {
-    let number = front(bytes);
+    let number = front(bytes, OLDEST, LATEST);
     if number != NOT_REFUSED {
         return refused(number);
     }
-    body_at(bytes, FRONT)
+    let first = bytes[0] as usize;
+    body_at(bytes, FRONT, first)
 }
 
 // The graph whose image the bytes are, or a refusal's number and the graph that was at hand.

@@ -11,7 +11,6 @@ ghost use Rattle.region_archive.specs.Image.{«part-bytes»};
 ghost use Rattle.region_archive.specs.RecordFields.{NumbersFit, PartFits, ValuesFit, «fields-in», «field-bytes», «fields-bytes», «field-count», «section-bytes»};
 ghost use Rattle.region_archive.specs.Promise.{archived, «write-outcome»};
 use crate::FRONT;
-use crate::VERSION;
 use crate::Written;
 use crate::numbers::put_number;
 use crate::record_fields::FieldValues;
@@ -21,6 +20,7 @@ use crate::record_fields::connection_values;
 use crate::record_fields::count;
 use crate::record_fields::field_count;
 use crate::record_fields::first_width;
+use crate::version::version;
 use region_graph::Graph;
 use region_graph::Numbers;
 use region_graph::refusals::NO_PLACE;
@@ -250,7 +250,7 @@ pub fn write(graph: Graph, buffer: &mut [u8]) -> Written
     if buffer.len() < size + FRONT {
         return Written::Refused(NO_PLACE);
     }
-    let a = put_number(buffer, 0, 1, VERSION);
+    let a = put_number(buffer, 0, 1, version(graph.region_set()));
     let b = put_number(buffer, a, 4, size);
     let c = put_regions(buffer, b, graph);
     let d = put_section(buffer, c, graph, Section::Bundles);

@@ -5,6 +5,7 @@ use mathlib.Core.Bool.{Bool, true, false, not, _&&_, _||_}
 use Prim.Native.Nat.{ℕ, zero, suc, _+_, _-_, _*_, _/_, _%_, _^_, _≤_, _<_, zero-le, suc-le-suc, min, max}
 use native.Mathlib.Nat.{mod-lt, pow-suc, div-lt-iff-lt-mul, zero-lt-suc, le-of-suc-le-suc, mul-div-cancel, mul-mod-left, not-suc-le-zero}
 use native.Mathlib.Nat.{one-mul, div-one, pow-succ', div-div-eq-div-mul, eq-or-lt-of-le, lt-of-lt-of-le, lt-of-le-of-lt}
+use native.Mathlib.Decide.{ℕ-discrete}
 use native.Mathlib.Omega.{arith}
 use lib.Dec.{eqb, ltb, lit≤}
 use lib.Arith.{digits-div, digits-mod, lt-one}
@@ -134,6 +135,42 @@ low-first (suc w) x n h = go (x % 2) n refl h (λ m i. low-first w (x / 2) m i)
     go zero (suc n) e i ih = suc-le-suc (ih n i)
     go (suc r) n e i ih = zero-le
 
+-- a number from 2 ^ k on has a digit set from k on
+pub high-in : (k w x : ℕ) → 2 ^ k ≤ x → x < 2 ^ w → (n : ℕ) × (k ≤ n) × (bit x n ≡ 1)
+unfolding bit
+high-in zero w x h l = (trailingZeros w x, zero-le, low-in w x h l)
+high-in (suc k) w x h l =
+    let i = high-in k w (x / 2) (omega (arith, pow-suc 2 k)) (omega arith) in (suc (i .0), suc-le-suc (i .1), i .2)
+
+-- one less has the lowest set digit no more
+low-out : (w x : ℕ) → 0 < x → x < 2 ^ w → bit (x - 1) (trailingZeros w x) ≡ 0
+unfolding bit trailingZeros
+low-out zero x h k = omega arith
+low-out (suc w) x h k = go (x % 2) refl (λ (e : x % 2 ≡ 0). low-out w (x / 2) (omega arith) (half-lt x w k))
+  where
+    go : (r : ℕ) → x % 2 ≡ r → (x % 2 ≡ 0 → bit (x / 2 - 1) (trailingZeros w (x / 2)) ≡ 0) → bit (x - 1) (under r (trailingZeros w (x / 2))) ≡ 0
+    go zero e ih =
+        let half : (x - 1) / 2 ≡ x / 2 - 1 = omega arith in
+        ap (λ (y : ℕ). bit y (trailingZeros w (x / 2))) half ∙ ih e
+    go (suc r) e ih = omega arith
+
+-- and has each other one
+low-others : (w x n : ℕ) → x < 2 ^ w → (n ≡ trailingZeros w x → ⊥) → bit x n ≡ 1 → bit (x - 1) n ≡ 1
+unfolding bit trailingZeros
+low-others zero x n k u h = absurd (omega (arith, h, bit-zero n, ap (λ (m : ℕ). bit m n) (lt-one k)))
+low-others (suc w) x n k u h = go (x % 2) n refl u h (λ m v i. low-others w (x / 2) m (half-lt x w k) v i)
+  where
+    go : (r n : ℕ) → x % 2 ≡ r → (n ≡ under r (trailingZeros w (x / 2)) → ⊥) → bit x n ≡ 1
+        → ((m : ℕ) → (m ≡ trailingZeros w (x / 2) → ⊥) → bit (x / 2) m ≡ 1 → bit (x / 2 - 1) m ≡ 1) → bit (x - 1) n ≡ 1
+    go zero zero e u h ih = absurd (omega arith)
+    go zero (suc n) e u h ih =
+        let half : (x - 1) / 2 ≡ x / 2 - 1 = omega arith in
+        ap (λ (y : ℕ). bit y n) half ∙ ih n (λ q. u (ap suc q)) h
+    go (suc r) zero e u h ih = absurd (u refl)
+    go (suc r) (suc n) e u h ih =
+        let half : (x - 1) / 2 ≡ x / 2 = omega arith in
+        ap (λ (y : ℕ). bit y n) half ∙ h
+
 -- ---- a number is its digits
 
 -- two numbers of k digits with the same digits are the same
@@ -146,6 +183,35 @@ bit-ext (suc k) x y h l f =
       f zero (suc-le-suc zero-le),
       bit-ext k (x / 2) (y / 2) (half-lt x k h) (half-lt y k l) (λ n i. f (suc n) (suc-le-suc i)),
     )
+
+-- and with one less takes the lowest set digit away
+pub lowest-off : (w x : ℕ) → 0 < x → x < 2 ^ w → bitAnd x (x - 1) ≡ bitAnd x (2 ^ w - 1 - 2 ^ trailingZeros w x)
+lowest-off w x h k =
+    bit-ext w (bitAnd x (x - 1)) (bitAnd x turned) (lt-of-le-of-lt (and-le-l x (x - 1)) k) (lt-of-le-of-lt (and-le-l x turned) k)
+    (λ n l. bit-and x (x - 1) n ∙ go n l (ℕ-discrete n low) ∙ sym (bit-and x turned n))
+  where
+    low : ℕ
+    low = trailingZeros w x
+
+    turned : ℕ
+    turned = 2 ^ w - 1 - 2 ^ low
+
+    low-lt-w : low < w
+    low-lt-w = in-lt w x low k (low-in w x h k)
+
+    digit : (n : ℕ) → n < w → bit turned n ≡ 1 - bit (2 ^ low) n
+    digit n l = bit-not w (2 ^ low) n (pow-lt low-lt-w) l
+
+    kept : (n b : ℕ) → bit x n ≡ b → (n ≡ low → ⊥) → min (bit x n) (bit (x - 1) n) ≡ bit x n
+    kept n zero e u = omega arith
+    kept n (suc b) e u = omega (arith, low-others w x n k u (omega (arith, bit-le x n)), bit-le x n)
+
+    go : (n : ℕ) → n < w → Dec (n ≡ low) → min (bit x n) (bit (x - 1) n) ≡ min (bit x n) (bit turned n)
+    go n l (yes e) =
+        let a : bit (x - 1) n ≡ 0 = ap (bit (x - 1)) e ∙ low-out w x h k in
+        let b : bit (2 ^ low) n ≡ 1 = ap (bit (2 ^ low)) e ∙ bit-one low in
+        omega (arith, digit n l)
+    go n l (no u) = omega (arith, kept n (bit x n) refl u, digit n l, bit-other low n u, bit-le x n)
 
 -- ---- sets
 

@@ -5,7 +5,7 @@ use Prim.Native.Nat.{ℕ}
 abbrev pub not-refused : ℕ
 not-refused = 0
 
--- a region number is above 15
+-- a region number is above 63
 abbrev pub not-a-region : ℕ
 not-a-region = 1
 
@@ -51,7 +51,7 @@ not-a-kind = 13
 abbrev pub no-place : ℕ
 no-place = 14
 
--- fewer than 5 bytes, or a first byte that is not the version
+-- fewer than 5 bytes, or a first byte that is no version
 abbrev pub not-an-archive : ℕ
 not-an-archive = 15
 

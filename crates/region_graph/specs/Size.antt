@@ -1,9 +1,9 @@
--- The limits of document 01. The constants of src/size.rt go with them.
+-- The limits of document 01, and of C-13 of document 02 for regions. The constants of src/size.rt go with them.
 use Prim.Native.Nat.{ℕ}
 
 -- region numbers are below this
 abbrev pub regions : ℕ
-regions = 16
+regions = 64
 
 abbrev pub most-bundles : ℕ
 most-bundles = 64

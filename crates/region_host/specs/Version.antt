@@ -1,10 +1,10 @@
--- What a host asks before it lends a record: which interface the library has, and how many bytes the record.
+-- What a host asks before any other call: which interface the library has, and how many bytes the record.
 use Prim.Native.Nat.{ℕ, _+_, _*_}
 use Rattle.region_graph.specs.Size.{most-bundles, most-connections, most-provided, most-listed}
 
 -- raised whenever a host must be compiled anew; WIMBORU_VERSION of include/wimboru.h goes with it
 abbrev pub interface-version : ℕ
-interface-version = 1
+interface-version = 2
 
 -- bytes of a location, a region or an item
 abbrev pub number-size : ℕ

@@ -1,4 +1,4 @@
-// What a host asks before it lends a record: the version of the interface, and the size of the record.
+// What a host asks before any other call: the version of the interface, and the size of the record.
 ghost use mathlib.Core.Path.{_≡_};
 ghost use Rattle.region_host.specs.Version.{«interface-version», «record-size»};
 use region_graph::size::MOST_BUNDLES;
@@ -7,7 +7,7 @@ use region_graph::size::MOST_LISTED;
 use region_graph::size::MOST_PROVIDED;
 
 // Raised whenever a host must be compiled anew; WIMBORU_VERSION of include/wimboru.h goes with it.
-const VERSION: u32 = 1;
+const VERSION: u32 = 2;
 
 // Bytes of a number, of a count or the set of regions, of a bundle, of a connection and of the record.
 const NUMBER: usize = 4;

@@ -6,9 +6,8 @@ ghost use Rattle.region_listing.specs.Counts.{CountsFit, CountedOnce, Co
 use crate::collection::collect;
 use region_graph::Graph;
 use region_graph::Item;
-use region_graph::region_set::difference;
 use region_graph::region_set::lowest;
-use region_graph::region_set::singleton;
+use region_graph::region_set::without_lowest;
 use region_graph::size::REGIONS;
 use region_routes::Kind;
 use region_routes::kind_number;
@@ -23,7 +22,7 @@ fn count_members(counts: [u32; REGIONS], set: u64) -> [u32; REGIONS]
     let mut left = set;
     while left != 0 {
         let n = lowest(left);
-        left = difference(left, singleton(n));
+        left = without_lowest(left);
         let at = n as usize;
         next[at] = next[at] + 1;
     }

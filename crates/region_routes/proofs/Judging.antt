@@ -48,7 +48,7 @@ set-in p n h = go (p n) refl
 in-set : (p : ℕ → Bool) (n : ℕ) → n < regions → p n ≡ true → In (set-of p) n
 in-set p n l e = bit-set-below regions p n l ∙ ap (λ (t : Bool). pick t 1 0) e
 
--- the region in which a location is installed is one of the sixteen
+-- the region in which a location is installed is below the count of regions
 place-inside : (rs : List ℕ) → All (λ r. r < regions) rs → (bs : List Bundle) → All (LegalBundle rs) bs → (l r : ℕ) → place-of bs l ≡ Within r → r < regions
 place-inside rs h [] a l r e = let z : _≡_ {A = ℕ} 0 1 = cc in absurd (omega arith)
 place-inside rs h (b ∷ bs) a l r e = go (at-location l b) (place-inside rs h bs (a .1) l r) e
@@ -60,7 +60,7 @@ place-inside rs h (b ∷ bs) a l r e = go (at-location l b) (place-inside rs h b
 pub region-inside : (m : Model) → Legal m → (l : ℕ) {r : ℕ} → place-of (m .bundles) l ≡ Within r → r < regions
 region-inside m h l {r} e = place-inside (m .regions) (h .regions-legal .each) (m .bundles) (h .bundles-legal .each) l r e
 
--- the region of a held item is one of the sixteen
+-- so is the region of a held item
 held-inside : (rs : List ℕ) → All (λ r. r < regions) rs → (i : Item) (r : ℕ) (bs : List Bundle) → All (LegalBundle rs) bs
     → exists (λ b. eqb (b .region) r && provides i b) bs ≡ true → r < regions
 held-inside rs h i r [] a e = false-true e

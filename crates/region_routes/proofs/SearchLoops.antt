@@ -39,9 +39,9 @@ pub lowest-in : {left r : ℕ} → left < 2 ^ 64 → 0 < left → r ≡ trailing
 lowest-in {left} word pos e = subst (In left) (sym e) (low-in 64 left pos word)
 
 -- what the functions of the turn answer
-pub taken : {left r alone rest : ℕ} → SetOfRegions left → left < 2 ^ 64 → 0 < left → r ≡ trailingZeros 64 left → alone ≡ singleton r
-    → rest ≡ bitAnd left (2 ^ 64 - 1 - alone) → Taken left r rest
-taken {left} {r} {alone} {rest} small word pos e o d = record {
+pub taken : {left r rest : ℕ} → SetOfRegions left → left < 2 ^ 64 → 0 < left → r ≡ trailingZeros 64 left
+    → rest ≡ bitAnd left (2 ^ 64 - 1 - singleton (trailingZeros 64 left)) → Taken left r rest
+taken {left} {r} {rest} small word pos e f = record {
   inside = inside;
   low = low;
   gone = gone;
@@ -50,6 +50,12 @@ taken {left} {r} {alone} {rest} small word pos e o d = record {
   less = less (eq-or-lt-of-le (and-le-l left (2 ^ 64 - 1 - alone)));
 }
   where
+    alone : ℕ
+    alone = singleton r
+
+    d : rest ≡ bitAnd left (2 ^ 64 - 1 - alone)
+    d = f ∙ ap (λ (n : ℕ). bitAnd left (2 ^ 64 - 1 - singleton n)) (sym e)
+
     inside : In left r
     inside = lowest-in word pos e
 
@@ -57,7 +63,7 @@ taken {left} {r} {alone} {rest} small word pos e o d = record {
     low = small r inside
 
     alone-is : alone ≡ 2 ^ r
-    alone-is = o ∙ ap (λ b. pick b (2 ^ r) 0) (lt-ltb r regions low)
+    alone-is = ap (λ b. pick b (2 ^ r) 0) (lt-ltb r regions low)
 
     alone-fits : alone < 2 ^ 64
     alone-fits = fits (subst (λ (x : ℕ). x < 2 ^ regions) (sym alone-is) (pow-lt low))

@@ -81,9 +81,12 @@ has-in x n = go (ltb n regions)
     go true e = eqb-true (bit x n) 1 e
     go false e = let z : _≡_ {A = ℕ} 0 1 = cc in absurd (omega arith)
 
+pub in-has : (x n : ℕ) → n < regions → In x n → has x n ≡ true
+in-has x n l h = ap₂ _&&_ (lt-ltb n regions l) (eq-eqb (bit x n) 1 h)
+
 pub has-not : (x n : ℕ) → n < regions → has x n ≡ false → In x n → ⊥
 has-not x n l e h =
-    let t : has x n ≡ true = ap₂ _&&_ (lt-ltb n regions l) (eq-eqb (bit x n) 1 h) in
+    let t = in-has x n l h in
     let z : _≡_ {A = ℕ} 0 1 = cc in omega arith
 
 -- a set with a member is not empty

@@ -16,10 +16,9 @@ use region_graph::Place;
 use region_graph::refusals::NO_PLACE;
 use region_graph::refusals::NOT_A_KIND;
 use region_graph::refusals::NOT_INSTALLED;
-use region_graph::region_set::difference;
 use region_graph::region_set::has;
 use region_graph::region_set::lowest;
-use region_graph::region_set::singleton;
+use region_graph::region_set::without_lowest;
 use region_graph::size::REGIONS;
 
 // The smallest region of a set to which a connection from a region leads.
@@ -34,7 +33,7 @@ fn next_to(pred: &[u64], set: u64, region: u32) -> u32
         if has(pred[at], region) {
             return n;
         }
-        left = difference(left, singleton(n));
+        left = without_lowest(left);
     }
     0
 }

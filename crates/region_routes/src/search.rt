@@ -19,7 +19,7 @@ use region_graph::Item;
 use region_graph::region_set::difference;
 use region_graph::region_set::has;
 use region_graph::region_set::lowest;
-use region_graph::region_set::singleton;
+use region_graph::region_set::without_lowest;
 use region_graph::size::REGIONS;
 
 // The layers sets[0] to sets[deep], and all regions in them.
@@ -38,7 +38,7 @@ fn layer(pred: &[u64], prev: u64, reached: u64) -> u64
     let mut left = prev;
     while left != 0 {
         let n = lowest(left);
-        left = difference(left, singleton(n));
+        left = without_lowest(left);
         let at = n as usize;
         next = next | pred[at];
     }

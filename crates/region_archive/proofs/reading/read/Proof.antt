@@ -1,4 +1,7 @@
 use mathlib.Core.Path.{sym, _∙_}
+use Prim.Native.Nat.{_≤_}
+use native.Mathlib.Omega.{arith}
+use lib.ListN.{length}
 use borrow.Author.Needs.{needs}
 use Rattle.region_archive.proofs.FileReads.{stopped, reads-refused, long-enough, body-reads}
 use Rattle.region_archive.proofs.reading.read.Statement.{statement}
@@ -9,15 +12,20 @@ returns c =
     let stop = c .before .if1 .taken in
     reads-refused (c .refused .ensures) stop (λ f. stopped f (c .before .before .front .ensures) stop)
 
-body-at-requires : tie.Need-body-at-requires
-body-at-requires c κs =
-    let s = c .before .before in
-    long-enough (s .before .args .bytes .now) (λ i. s .shared-slice-known .given i .fits) (sym (c .if1 .left) ∙ c .before .front .ensures)
+-- there are five bytes where the version is read
+long : (c : tie.After-shared-slice-known2) → 5 ≤ length (c .before .before .before .before .args .bytes .now)
+long c =
+    let s = c .before .before .before in
+    long-enough (s .before .args .bytes .now) (λ i. s .shared-slice-known .given i .fits) (sym (c .before .if1 .left) ∙ c .before .before .front .ensures)
 
 returns-2 : tie.Need-returns-2
 returns-2 c =
-    let f = c .before .before in
-    body-reads (λ i. f .before .shared-slice-known .given i .fits) (sym (c .before .if1 .left) ∙ f .front .ensures) (c .body-at .ensures)
+    let f = c .before .before .before in
+    body-reads (λ i. f .before .shared-slice-known .given i .fits) (sym (c .before .before .if1 .left) ∙ f .front .ensures) (c .body-at .ensures)
 
 pub read-spec : {M : Type 1} → statement M
-read-spec = tie.close (tie.spec (λ c κs. search needs) (λ c κs. search needs) returns body-at-requires returns-2)
+read-spec =
+    tie.close
+    (tie.spec
+    (λ c κs. search needs) (λ c κs. search needs) returns (λ c. omega (arith, long c))
+    (λ c. search (needs, c .shared-slice-known2 .given 0)) (λ c κs. long c) returns-2)

@@ -7,10 +7,11 @@ use Rattle.region_graph.specs.Model.{Model}
 use Rattle.region_graph.specs.Record.{meaning}
 use Rattle.text_lines.proofs.Writes.{wrote-is, wrote-then, wrote-length}
 use Rattle.big_endian.specs.Bytes.{big, counted}
-use Rattle.region_archive.specs.Image.{body}
+use Rattle.region_archive.specs.Image.{version, body}
 use Rattle.region_archive.specs.RecordFields.{section-bytes}
 use Rattle.region_archive.specs.declared.record_fields.Section.the-variants as Section
-use Rattle.region_archive.proofs.Images.{body-size, image-size, pieces, image-pieces, regions-size, wrote-image, no-image}
+use Rattle.region_archive.proofs.Images.{body-size, image-size, image-pieces, regions-size, wrote-image, no-image}
+use Rattle.region_archive.proofs.Members.{set-members}
 use Rattle.region_archive.proofs.Writes.{wrote-leaves}
 use Rattle.region_archive.proofs.writing.write.Statement.{statement}
 use Rattle.region_archive.proofs.writing.write.Tie as tie
@@ -42,7 +43,13 @@ size-is c =
     omega (arith, body-size (model c), c .before .before .region-count .ensures .0, c .before .section-size .ensures .0, c .section-size2 .ensures .0)
 
 abbrev sized : tie.After-slice-known2 → tie.Else1
-sized c = c .before .before .before .before
+sized c = c .before .before .before .before .before .before
+
+-- the version that is written is the model's
+version-is : (c : tie.After-version) → c .version .result ≡ version (model (c .before .before .before .before) .regions)
+version-is c =
+    let a = c .before .before .before .before .before .before .before .before in
+    c .version .ensures ∙ ap version (set-members (a .args .graph) (a .pre) (c .before .region-set .ensures))
 
 -- the lengths of the sections, and that the buffer has places for all
 abbrev regions-length : tie.Else1 → ℕ
@@ -119,7 +126,7 @@ returns-2 c =
     let v = version-put d in
     let s = sized v .before in
     wrote-image (model s)
-    (wrote-is (ap (pieces (model s)) (size-is s) ∙ image-pieces (model s))
+    (wrote-is (image-pieces (model s) (version-is (v .before .before .before)) (size-is s))
     (wrote-then (v .before .before .put-number .ensures)
     (wrote-then (d .before .before .put-number2 .ensures)
     (wrote-then (b .before .before .put-regions .ensures)
@@ -135,7 +142,8 @@ write-spec =
     (λ c. omega (arith, few c))
     (λ c. omega (arith, few c))
     returns
-    (λ c κs. omega (arith, c .before .if1 .left))
+    (λ c κs. search needs) (λ c κs. search needs)
+    (λ c κs. omega (arith, c .before .before .before .if1 .left))
     (λ c κs.
     let v = c .before in
     wrote-leaves (v .before .before .put-number .ensures) 4 (omega (arith, fits (sized v))))

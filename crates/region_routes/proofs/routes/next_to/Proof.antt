@@ -25,14 +25,14 @@ low : (c : tie.After-lowest Inv-loop μ-loop) → c .lowest .result < regions
 low c = c .before .before .before .before .pre .1 .small _ (c .before .before .loop .inv .within _ (inside c))
 
 -- what a turn takes out of `left`
-turn : (c : tie.After-difference Inv-loop μ-loop)
-    → Taken (c .before .before .before .before .before .before .before .loop .left) (c .before .before .before .before .before .lowest .result)
-    (c .difference .result)
+turn : (c : tie.After-without-lowest Inv-loop μ-loop)
+    → Taken (c .before .before .before .before .before .before .loop .left) (c .before .before .before .before .lowest .result)
+    (c .without-lowest .result)
 turn c =
-    let a = c .before .before .before .before .before .before .before in
+    let a = c .before .before .before .before .before .before in
     taken (λ n h. a .before .before .pre .1 .small n (a .loop .inv .within n h)) (a .loop .inv .word)
-    (above-none _ (c .before .before .before .before .before .before .loop-test .taken))
-    (c .before .before .before .before .before .lowest .ensures) (c .before .singleton .ensures) (c .difference .ensures)
+    (above-none _ (c .before .before .before .before .before .loop-test .taken))
+    (c .before .before .before .before .lowest .ensures) (c .without-lowest .ensures)
 
 returns : tie.Need-returns Inv-loop μ-loop
 returns c =
@@ -41,9 +41,8 @@ returns c =
 
 loop-again : tie.Need-loop-again Inv-loop μ-loop
 loop-again c =
-    let a = c .before .before .before .before .before .before .before in
-    next-later (a .loop .inv) (turn c) (has-not _ _ (a .before .before .pre .1 .inside) (sym (c .before .before .before .has .ensures)
-    ∙ c .before .before .if1 .left))
+    let a = c .before .before .before .before .before .before in
+    next-later (a .loop .inv) (turn c) (has-not _ _ (a .before .before .pre .1 .inside) (sym (c .before .before .has .ensures) ∙ c .before .if1 .left))
 
 pub next-to-spec : {M : Type 1} → statement M
 next-to-spec =
@@ -56,7 +55,7 @@ next-to-spec =
     (λ c. omega (arith, low (c .before), c .before .before .before .before .before .pre .0))
     (λ c κs. tt)
     returns
-    (λ c κs. tt) (λ c κs. tt)
+    (λ c κs. tt)
     (λ c. turn c .less)
     loop-again
     (λ c. absurd (next-found (c .before .before .before .pre .1) (rw (c .loop-test .left) at (c .before .loop .inv)))))

@@ -2,7 +2,8 @@ use borrow.Author.Needs.{needs}
 use mathlib.Core.Path.{_≡_, sym, ap, _∙_}
 use mathlib.Core.List.{List}
 use mathlib.Core.Option.{Option}
-use Prim.Native.Nat.{ℕ, _<_}
+use Prim.Native.Nat.{ℕ, _<_, _≤_}
+use native.Mathlib.Omega.{arith}
 use lib.ListN.{length}
 use borrow.Author.Tests.{not-true, not-false}
 use Rattle.region_graph.specs.Size.{regions}
@@ -40,12 +41,16 @@ model c = meaning (start c .args .graph)
 abbrev wanted : tie.Else2 → Item
 wanted c = item (start c .args .kind) (start c .args .number)
 
+-- the buffer has a place for each region
+room : (c : tie.Else2) → regions ≤ length (start c .args .out .now)
+room c = omega (arith, c .if2 .left)
+
 answers : (c : tie.Else2) {a : Outcome Routed} → (let s = start c .args in
     a ≡ shown (chosen (model c) (wanted c) (region (c .before .before))) (s .out .now)
     → a ≡ route-outcome (model c) (s .location) (s .kind) (s .number) (s .out .now))
 answers c e =
     let s = start c .args in
-    route-answers (model c) (s .location) (s .kind) (s .number) (s .out .now) (place (c .before .before)) (c .before .if1 .left) (c .if2 .left) e
+    route-answers (model c) (s .location) (s .kind) (s .number) (s .out .now) (place (c .before .before)) (c .before .if1 .left) (room c) e
 
 returns : tie.Need-returns
 returns c =
@@ -61,7 +66,8 @@ returns-2 c =
 returns-3 : tie.Need-returns-3
 returns-3 c =
     let s = c .before .before .before .before .before .before .before .args in
-    route-no-place (meaning (s .graph)) (s .location) (s .kind) (s .number) (s .out .now) (place (c .before .before)) (c .before .if1 .left) (c .if2 .taken)
+    route-no-place (meaning (s .graph)) (s .location) (s .kind) (s .number) (s .out .now) (place (c .before .before)) (c .before .if1 .left)
+    (omega (arith, c .if2 .taken))
 
 returns-4 : tie.Need-returns-4
 returns-4 c =
@@ -84,7 +90,7 @@ walk-requires c κs =
     let f = c .before .before .before .before .before .before .before in
     let q = f .before in
     let e = f .search-for .ensures in (
-      (ap length (e .0) ∙ predecessors-sets (model q) (wanted q) .long, q .if2 .left),
+      (ap length (e .0) ∙ predecessors-sets (model q) (wanted q) .long, room q),
       rw (e .0) (walkable (model q) (wanted q) (start q .pre .good) (e .1) (region (q .before .before)) (inside (q .before .before))
           (c .before .before .distance .ensures)),
     )

@@ -13,23 +13,23 @@ abbrev μ-loop : tie.MeasureT-loop
 μ-loop pred prev reached next₀ left₀ next left = left
 
 -- what a turn takes out of `left`
-turn : (c : tie.After-difference Inv-loop μ-loop)
-    → Taken (c .before .before .before .before .loop .left) (c .before .before .lowest .result) (c .difference .result)
+turn : (c : tie.After-without-lowest Inv-loop μ-loop)
+    → Taken (c .before .before .before .loop .left) (c .before .lowest .result) (c .without-lowest .result)
 turn c =
-    let a = c .before .before .before .before in
-    taken (λ n h. a .before .before .pre .1 n (a .loop .inv .within n h)) (a .loop .inv .word) (above-none _ (c .before .before .before .loop-test .taken))
-    (c .before .before .lowest .ensures) (c .before .singleton .ensures) (c .difference .ensures)
+    let a = c .before .before .before in
+    taken (λ n h. a .before .before .pre .1 n (a .loop .inv .within n h)) (a .loop .inv .word) (above-none _ (c .before .before .loop-test .taken))
+    (c .before .lowest .ensures) (c .without-lowest .ensures)
 
 pub layer-spec : {M : Type 1} → statement M
 layer-spec =
     tie.close
     (tie.spec Inv-loop μ-loop
     (λ c. layer-start (search needs))
-    (λ c κs. tt) (λ c κs. tt) (λ c κs. tt)
+    (λ c κs. tt) (λ c κs. tt)
     (λ c. omega (arith, turn c .low))
     (λ c. omega (arith, turn c .low))
-    (λ c. omega (arith, turn (c .before) .low, c .before .before .before .before .before .before .before .pre .0 .long))
+    (λ c. omega (arith, turn (c .before) .low, c .before .before .before .before .before .before .pre .0 .long))
     (λ c. turn (c .before) .less)
-    (λ c. let a = c .before .before .before .before .before in layer-next (a .before .before .pre .0 .small) (turn (c .before)) (a .loop .inv))
+    (λ c. let a = c .before .before .before .before in layer-next (a .before .before .pre .0 .small) (turn (c .before)) (a .loop .inv))
     (λ c κs. tt)
-    (λ c. layer-end (search needs) (c .difference2 .ensures) (rw (c .before .loop-test .left) at (c .before .before .loop .inv))))
+    (λ c. layer-end (search needs) (c .difference .ensures) (rw (c .before .loop-test .left) at (c .before .before .loop .inv))))

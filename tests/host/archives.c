@@ -161,31 +161,50 @@ static void counted_regions(void)
     }
 }
 
+/* An archive query, and its answer. */
+struct asked {
+    uint32_t location;
+    uint32_t kind;
+    uint32_t item;
+    uint32_t answer;
+};
+
+static void query(struct image file, const struct asked *asked, size_t count)
+{
+    for (size_t i = 0; i < count; i++) {
+        CHECK(archive_query(file.bytes, file.length, asked[i].location, asked[i].kind, asked[i].item) == asked[i].answer);
+    }
+}
+
 static void query_g(void)
 {
-    struct image g = load("g.archive");
-    CHECK(archive_query(g.bytes, g.length, 10, REGION_KIND_PACKAGE, 1) == REGION_SEEN);
-    CHECK(archive_query(g.bytes, g.length, 10, REGION_KIND_PACKAGE, 3) == REGION_HIDDEN);
-    CHECK(archive_query(g.bytes, g.length, 20, REGION_KIND_PACKAGE, 3) == REGION_SEEN);
-    CHECK(archive_query(g.bytes, g.length, 20, REGION_KIND_BUNDLE, 30) == REGION_HIDDEN);
-    CHECK(archive_query(g.bytes, g.length, 10, REGION_KIND_BUNDLE, 10) == REGION_SEEN);
-    CHECK(archive_query(g.bytes, g.length, 11, REGION_KIND_PACKAGE, 1) == REGION_NOT_INSTALLED);
-    CHECK(archive_query(g.bytes, g.length, 10, 3, 1) == REGION_NOT_A_KIND);
-    CHECK(archive_query(g.bytes, g.length, 11, 3, 1) == REGION_NOT_INSTALLED);
-    CHECK(archive_query(g.bytes, g.length, 10, UINT32_MAX, 1) == REGION_NOT_A_KIND);
+    static const struct asked asked[] = {
+        {10, REGION_KIND_PACKAGE, 1, REGION_SEEN},
+        {10, REGION_KIND_PACKAGE, 3, REGION_HIDDEN},
+        {20, REGION_KIND_PACKAGE, 3, REGION_SEEN},
+        {20, REGION_KIND_BUNDLE, 30, REGION_HIDDEN},
+        {10, REGION_KIND_BUNDLE, 10, REGION_SEEN},
+        {11, REGION_KIND_PACKAGE, 1, REGION_NOT_INSTALLED},
+        {10, 3, 1, REGION_NOT_A_KIND},
+        {11, 3, 1, REGION_NOT_INSTALLED},
+        {10, UINT32_MAX, 1, REGION_NOT_A_KIND},
+    };
+    query(load("g.archive"), asked, sizeof asked / sizeof asked[0]);
 }
 
 static void query_plates(void)
 {
-    struct image plates = load("plates.archive");
-    CHECK(archive_query(plates.bytes, plates.length, 10, REGION_KIND_PACKAGE, 2) == REGION_SEEN);
-    CHECK(archive_query(plates.bytes, plates.length, 10, REGION_KIND_PACKAGE, 3) == REGION_HIDDEN);
-    CHECK(archive_query(plates.bytes, plates.length, 10, REGION_KIND_SERVICE, 5) == REGION_HIDDEN);
-    CHECK(archive_query(plates.bytes, plates.length, 20, REGION_KIND_SERVICE, 5) == REGION_SEEN);
-    CHECK(archive_query(plates.bytes, plates.length, 20, REGION_KIND_BUNDLE, 30) == REGION_SEEN);
-    CHECK(archive_query(plates.bytes, plates.length, 30, REGION_KIND_BUNDLE, 20) == REGION_HIDDEN);
-    CHECK(archive_query(plates.bytes, plates.length, 11, 3, 1) == REGION_NOT_INSTALLED);
-    CHECK(archive_query(plates.bytes, plates.length, 30, 3, 1) == REGION_NOT_A_KIND);
+    static const struct asked asked[] = {
+        {10, REGION_KIND_PACKAGE, 2, REGION_SEEN},
+        {10, REGION_KIND_PACKAGE, 3, REGION_HIDDEN},
+        {10, REGION_KIND_SERVICE, 5, REGION_HIDDEN},
+        {20, REGION_KIND_SERVICE, 5, REGION_SEEN},
+        {20, REGION_KIND_BUNDLE, 30, REGION_SEEN},
+        {30, REGION_KIND_BUNDLE, 20, REGION_HIDDEN},
+        {11, 3, 1, REGION_NOT_INSTALLED},
+        {30, 3, 1, REGION_NOT_A_KIND},
+    };
+    query(load("plates.archive"), asked, sizeof asked / sizeof asked[0]);
 }
 
 /* The longest image of a version: its bundles and connections are those of the other, with other region numbers. */

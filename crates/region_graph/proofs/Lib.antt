@@ -1,4 +1,3 @@
-pub mod ConstantTable
 pub mod Lists
 pub mod Ascending
 pub mod Bits

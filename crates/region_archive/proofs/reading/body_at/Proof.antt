@@ -19,6 +19,22 @@ version c = c .before .before .before .before .before
 abbrev bundles : tie.Else4 → tie.Else3
 bundles c = c .before .before .before .before .before
 
+-- the three sections stand there, and the version is that of their model
+sections : (c : tie.Else4) → (let cs = c .before .before .before .section-at2 in
+    let bs = bundles c .before .before .before .section-at in
+    let x = regions (version (bundles c)) .before .before .before in
+    let rs = x .regions-at in
+    let a = x .before .before .before .args in
+    Sections (a .first) (a .bytes .now) (a .at) (take (rs .result .count) (rs .last .1 .1 .0)) (take (bs .result .count) (bs .last .1 .1 .1 .1 .0))
+    (take (cs .result .count) (cs .last .1 .1 .1 .1 .0)) (cs .result .next))
+sections c =
+    let y = bundles c in
+    let v = version y in
+    let x = regions v in
+    three-sections (x .before .before .before .regions-at .ensures) (not-false _ (x .if1 .left)) (y .before .before .before .section-at .ensures)
+    (not-false _ (y .if3 .left)) (c .before .before .before .section-at2 .ensures) (v .before .version .ensures) (omega (arith, v .if2 .left))
+    (not-false _ (c .if4 .left))
+
 returns : tie.Need-returns
 returns c =
     let a = c .before .before .before .before .before .before .before .args in
@@ -46,22 +62,6 @@ returns-4 c =
     no-body (c .refused4 .ensures)
     (connections-missing (x .before .before .before .regions-at .ensures) (not-false _ (x .if1 .left)) (y .before .before .before .section-at .ensures)
     (not-false _ (y .if3 .left)) (c .before .before .before .before .section-at2 .ensures) (not-true _ (c .before .if4 .taken)))
-
--- the three sections stand there, and the version is that of their model
-sections : (c : tie.Else4) → (let cs = c .before .before .before .section-at2 in
-    let bs = bundles c .before .before .before .section-at in
-    let x = regions (version (bundles c)) .before .before .before in
-    let rs = x .regions-at in
-    let a = x .before .before .before .args in
-    Sections (a .first) (a .bytes .now) (a .at) (take (rs .result .count) (rs .last .1 .1 .0)) (take (bs .result .count) (bs .last .1 .1 .1 .1 .0))
-    (take (cs .result .count) (cs .last .1 .1 .1 .1 .0)) (cs .result .next))
-sections c =
-    let y = bundles c in
-    let v = version y in
-    let x = regions v in
-    three-sections (x .before .before .before .regions-at .ensures) (not-false _ (x .if1 .left)) (y .before .before .before .section-at .ensures)
-    (not-false _ (y .if3 .left)) (c .before .before .before .section-at2 .ensures) (v .before .version .ensures) (omega (arith, v .if2 .left))
-    (not-false _ (c .if4 .left))
 
 slice-aggregate-of-flat : tie.Need-slice-aggregate-of-flat
 slice-aggregate-of-flat c =

@@ -26,7 +26,7 @@ returns-2 c =
     let low = trailingZeros 64 x in
     let word : x < 2 ^ 64 = search needs in
     let alone : 2 ^ low ≡ singleton low = sym (ap (λ b. pick b (2 ^ low) 0) (lt-ltb low regions (in-lt 64 x low word (low-in 64 x (pos c) word)))) in
-    lowest-off 64 x (pos c) word ∙ ap (λ (y : ℕ). bitAnd x (2 ^ 64 - 1 - y)) alone
+    search (needs, lowest-off 64 x (pos c) word ∙ ap (λ (y : ℕ). bitAnd x (2 ^ 64 - 1 - y)) alone)
 
 pub without-lowest-spec : {M : Type 1} → statement M
 without-lowest-spec = tie.close (tie.spec returns (λ c. omega (arith, pos c)) returns-2)

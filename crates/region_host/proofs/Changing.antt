@@ -28,12 +28,12 @@ use types.Run.{free1, free0}
 use types.Part.{whole, sub, look-in}
 use types.SemTy.{Body as Lent}
 use sound.WpLaws.{FmC, fmOf}
-use denote.RattleType.{Denots, Valss, mirs, owns}
+use denote.RattleType.{Denots, mirs, owns}
 use denote.Laws.{Is, shows, Typed, all-typed}
 use denote.Memory.{mem, pointee}
 use denote.Plain.{uint-makes}
 use denote.Builtin.{u32}
-use denote.Ref.{RefT, MutRef, now, ptr-vals, mut-tells}
+use denote.Ref.{MutRef, now, ptr-vals, mut-tells}
 use denote.Signature.{Slot, plain, mutRefTo, typesAt}
 use denote.Steps.{opens, closes, owned, peeks}
 use denote.Struct.Steps.{spelt}
@@ -113,17 +113,8 @@ module _ {T : Lendable} (C : Answering T) where
     module _ {M : Type 1} (𝓤 : URA M) (H : Heap 𝓤) (A : Atoms 𝓤) (W : Given 𝓤 H A) (asked : Clauses 𝓤 callee)
         (κ : Lft) (κs : Lfts m) (q : Share) (qs : Shares m) (b o : ℕ) (γ : GName) (h : T .type .Denot) (a : Denots (typesAt ss (κ, κs)))
         (g : asked κs (h, X.args κ κs ks a) .ghost) where
-      open Passed (passed ks κ κs a) using (ts, τs, vss, vs, Own, a′)
-      open Asking (asking 𝓤 H A callee asked κs qs (h, a′) g) using (Toks, Asks, Ensured, Ends)
-
-      abbrev x : RefT (T .type .Denot) × Denots ts
-      x = (record { ptr = (b, o); name = γ; now = h }, a)
-
-      abbrev z : Args (callee .signature) κs
-      z = (h, a′)
-
-      abbrev at : List Val × Valss ts
-      at = (vptr b o ∷ [], vss)
+      open Passed (passed [] ks κ κs b o γ h a) using (ts, τs, vss, vs, Own, x, at, z)
+      open Asking (asking 𝓤 H A callee asked κs qs z g) using (Toks, Asks, Ensured, Ends)
 
       abbrev y : walkOf 𝓤 H A ended stayed (clauses 𝓤 asked) .Ghost
       y = (((κ, κs), (q, qs), tt, x, at), g)
@@ -142,7 +133,8 @@ module _ {T : Lendable} (C : Answering T) where
 
       said : (c : C .type .Denot) → ent 𝓤 (Ensured c) (Says 𝓤 asked κs z g (C .make (C .next c) (C .number c)))
       said c = subst (λ (d : C .type .Denot). ent 𝓤 (Ensured c) (Says 𝓤 asked κs z g d)) (sym (C .whole c))
-          (exE 𝓤 _ (λ ws. via 𝓤 (Ends c ws) (snd∗ 𝓤 (sem 𝓤 H A (said-last callee κs z ws)) (Ends c ws)) (X.at-one 𝓤 κs ks a′ (λ us. Ends c (tt, us)) (ws .1))))
+          (exE 𝓤 _ (λ ws. via 𝓤 (Ends c ws) (snd∗ 𝓤 (sem 𝓤 H A (said-last callee κs z ws)) (Ends c ws))
+          (X.at-one 𝓤 κs ks (z .1) (λ us. Ends c (tt, us)) (ws .1))))
 
       -- what is had of the lent record at exit
       abbrev Obs : C .type .Denot → Fml

@@ -1,5 +1,6 @@
 -- Laws by subject, each over what stands above it.
 pub mod Parameters
+pub mod Buffers
 pub mod Lendable
 pub mod Records
 pub mod Calling

@@ -4,6 +4,7 @@ pub use mathlib.Core.List.{[], _∷_}
 pub use mir.Syntax.{w8, w32}
 pub use denote.Builtin.{u8, u32}
 pub use Rattle.region_host.proofs.Parameters.{number, flag, words}
+pub use Rattle.region_host.proofs.Buffers.{buffer}
 pub use Rattle.region_host.proofs.Records.{graph, changed}
 pub use borrow.Author.Needs.{needs}
 pub use Rattle.region_host.specs.CNumbers.{routed-value, kept-value, written-value}

@@ -2,7 +2,7 @@
 use Rattle.region_host.proofs.queries.service_event_by_value as g
 use Rattle.region_host.proofs.queries.service_event_by_value.Symbol as g-def
 use Rattle.region_host.proofs.queries.service_event_by_value.Met as g-thm
-use Rattle.region_host.proofs.Names.{refl, [], _∷_, w32, u32, number, words, graph}
+use Rattle.region_host.proofs.Names.{refl, [], _∷_, w32, u32, number, words, buffer, graph}
 use Rattle.region_host.proofs.Filling.{spec}
 use Rattle.region_host.proofs.queries.region_service_event.Key as key
 use Rattle.region_host.proofs.queries.region_service_event.Statement as stated
@@ -11,6 +11,6 @@ use Rattle.region_host.proofs.queries.region_service_event.Code as code
 pub region-service-event-spec : {M : Type 1} → stated.statement M
 unfolding code.routine
 region-service-event-spec 𝓤 H 𝓜 𝓖 𝓡 =
-    spec graph w32 1 (words 1 tt u32 ∷ number w32 ∷ []) 𝓤 H 𝓜 𝓖 𝓡 (g.clauses 𝓤 H (𝓖 .A) (𝓜 .mem) (𝓡 .run))
+    spec graph 2 (buffer w32 0 tt ∷ []) (words 1 tt u32 ∷ number w32 ∷ []) 𝓤 H 𝓜 𝓖 𝓡 (g.clauses 𝓤 H (𝓖 .A) (𝓜 .mem) (𝓡 .run))
     code.env key.name code.function (code.unfolded 𝓤 H 𝓜 𝓡)
     g-def.name (λ κs. (refl, refl)) g-def.routine code.calls-region-host·queries·service-event-by-value (g-thm.met 𝓤 H 𝓜 𝓖 𝓡)

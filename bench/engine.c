@@ -1,5 +1,5 @@
 /* Measures the engine's calls over the C interface. Prints a line for each: name, nanoseconds of one call, and what the call
-   answered. bench/README.md says what is measured; the programs of the other implementations measure the same. With a second
+   answered. bench/README.md says what is measured, and what the programs of the other implementations measure too. With a second
    argument it prints for each call its name and the bytes that memcpy copied in it. */
 #define _POSIX_C_SOURCE 200809L
 #include <stdio.h>
@@ -27,6 +27,10 @@ static const uint32_t SEEN_ITEM = 511;
 /* Held in region 15, and passed by every connection but those to region 15. */
 static const uint32_t HIDDEN_ITEM = 504;
 static const uint32_t UNHELD_ITEM = 1000;
+/* Has packages 504 to 511. */
+static const uint32_t EXPORTER = 2063;
+/* The first of a row of packages of it that are offered in both graphs. */
+static const uint32_t FIRST_OFFERED = 505;
 static const uint32_t listed[LISTED] = {504, 505, 506, 507, 508, 509, 510, 511};
 static const uint32_t listed_to_15[LISTED] = {505, 506, 507, 508, 509, 510, 511, 1000};
 
@@ -43,8 +47,10 @@ enum { ENTRIES = 1000, NAME = 20, ENTRY = 7 + NAME, SHEET = 5 + ENTRIES * ENTRY 
 static region_graph graph;
 static region_graph copies[COPIES];
 static uint32_t candidates[LIST];
+static uint32_t exporters[LIST];
 static uint32_t listeners[LIST];
 static uint32_t kept[LIST];
+static uint32_t kept_packages[LIST];
 static uint32_t provided[PROVIDED];
 static uint32_t hidden;
 static uint8_t bytes[REGION_LONGEST_IMAGE];
@@ -162,12 +168,23 @@ static int64_t name_in(const uint8_t *in, size_t length, uint32_t kind, uint32_t
     return name < 0 ? name : (int64_t)start * 100 + name;
 }
 
+/* A resolve of exporters with packages. */
+static int64_t resolve(const uint32_t *from, const uint32_t *packages, size_t count)
+{
+    return region_resolve_v3(&graph, kept, LIST, kept_packages, LIST, ASKER, from, count, packages, count);
+}
+
 /* clang-format off */
 static int64_t route_seen(void) { return region_route(&graph, bytes, sizeof bytes, ASKER, REGION_KIND_PACKAGE, SEEN_ITEM); }
 static int64_t route_hidden(void) { return region_route(&graph, bytes, sizeof bytes, ASKER, REGION_KIND_PACKAGE, hidden); }
-static int64_t find_1_seen(void) { return region_resolve(&graph, kept, LIST, ASKER, &SEEN_ITEM, 1); }
-static int64_t find_1_hidden(void) { return region_resolve(&graph, kept, LIST, ASKER, &hidden, 1); }
-static int64_t find_1000(void) { return region_resolve(&graph, kept, LIST, ASKER, candidates, LIST); }
+static int64_t find_1_seen(void) { return region_service_find(&graph, kept, LIST, ASKER, &SEEN_ITEM, 1); }
+static int64_t find_1_hidden(void) { return region_service_find(&graph, kept, LIST, ASKER, &hidden, 1); }
+static int64_t find_1000(void) { return region_service_find(&graph, kept, LIST, ASKER, candidates, LIST); }
+static int64_t resolve_1_seen(void) { return resolve(&EXPORTER, &SEEN_ITEM, 1); }
+static int64_t resolve_1_hidden(void) { return resolve(&EXPORTER, &hidden, 1); }
+static int64_t resolve_3(void) { return resolve(exporters + FIRST_OFFERED, candidates + FIRST_OFFERED, 3); }
+static int64_t resolve_4(void) { return resolve(exporters + FIRST_OFFERED, candidates + FIRST_OFFERED, 4); }
+static int64_t resolve_1000(void) { return resolve(exporters, candidates, LIST); }
 static int64_t event_1000(void) { return region_service_event(&graph, kept, LIST, listeners, LIST, SEEN_ITEM); }
 static int64_t route_48(void) { return region_route(&graph, bytes, sizeof bytes, ASKER + FIRST_OF_ROW, REGION_KIND_PACKAGE, SEEN_ITEM); }
 static uint32_t uninstall(region_graph *to) { return region_uninstall(to, ASKER + 32); }
@@ -271,6 +288,11 @@ static void queries(const char *filters, uint32_t hidden_item)
     best("find_1_seen", filters, find_1_seen);
     best("find_1_hidden", filters, find_1_hidden);
     best("find_1000", filters, find_1000);
+    best("resolve_1_seen", filters, resolve_1_seen);
+    best("resolve_1_hidden", filters, resolve_1_hidden);
+    best("resolve_3", filters, resolve_3);
+    best("resolve_4", filters, resolve_4);
+    best("resolve_1000", filters, resolve_1000);
     best("event_1000", filters, event_1000);
 }
 
@@ -294,6 +316,7 @@ int main(int count, char **arguments)
     make_sheet();
     for (uint32_t i = 0; i < LIST; i++) {
         candidates[i] = i % HELD;
+        exporters[i] = ASKER + candidates[i] / PROVIDED;
         listeners[i] = ASKER + i % REGION_MOST_BUNDLES;
     }
     full_graph(true);

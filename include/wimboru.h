@@ -11,8 +11,8 @@
  * Lists and buffers
  *   A list or a buffer is a pointer and the count of its elements. Where the count is 0 the pointer may be NULL. The pointer of
  *   a record, and that of a single number that is written, may not. Input lists are only read, and may overlap one another. A
- *   buffer or a number that is written may overlap neither an input list nor the record, and a record that is changed may overlap
- *   no input list. A flag is 0 or 1, as C's bool has it.
+ *   buffer or a number that is written may overlap nothing else: no input list, no record and no other output. A record that is
+ *   changed may overlap no input list. A flag is 0 or 1, as C's bool has it.
  *
  * Threads
  *   Calls keep nothing outside the record and the buffers. While a call changes a record, no other thread may use that record.
@@ -42,8 +42,9 @@ extern "C" {
 #endif
 
 /* The version of this interface. It is raised whenever a host must be compiled anew: where the record, a call's arguments, or the
-   length of a buffer that this header gives, changes. */
-#define WIMBORU_VERSION 2
+   length of a buffer that this header gives, changes. A call whose name ends in _v and a number has its arguments since that
+   version; a host that was compiled for others does not link. */
+#define WIMBORU_VERSION 3
 
 /* What a changing call returns: 0, or the number of the question that was answered no. A query returns the same numbers below
    zero, as in -REGION_NOT_INSTALLED. */
@@ -62,7 +63,7 @@ enum {
     REGION_FULL = 11,             /* there are 64 bundles, or 48 connections, already */
     REGION_NOT_INSTALLED = 12,    /* the bundle, or a listener, is not installed */
     REGION_NOT_A_KIND = 13,       /* the kind is above 2 */
-    REGION_NO_PLACE = 14,         /* the output buffer is too short */
+    REGION_NO_PLACE = 14,         /* an output buffer is too short */
     REGION_NOT_AN_ARCHIVE = 15,   /* there are fewer than 5 bytes, or the first is neither 1 nor 2 */
     REGION_WRONG_LENGTH = 16,     /* the length field is not the count of bytes after it */
     REGION_BROKEN_LAYOUT = 17,    /* the bytes after the length are not the layout of an archive of its version, to the end */
@@ -195,8 +196,8 @@ uint32_t region_read(region_graph *graph, const uint8_t *bytes, size_t length);
 
 /*
  * Queries. Each returns a count, 0 or more, or a number below zero: minus the number of the question that was answered no. What
- * it writes stands at the start of the output buffer, which comes right after the record; later places keep their values. Where
- * the answer is below zero every place keeps its value.
+ * it writes stands at the start of the output buffers, which come right after the record: two in region_resolve_v3, else one;
+ * later places keep their values. Where the answer is below zero every place keeps its value.
  */
 
 /* Writes the image of the graph, an archive, and returns its length. Its first byte is the version: 1 where no region number is
@@ -212,13 +213,23 @@ int64_t region_route(const region_graph *graph, uint8_t *out, size_t out_length,
 
 /* Finds: write the candidates that the bundle at a location sees, in the order given, repetitions kept, and return how many. A
    candidate that nobody holds is not seen. Refused with 12, 14; 14 where the buffer has fewer places than there are candidates.
-   The candidates are locations of bundles, packages (region_resolve) or services. */
+   The candidates are locations of bundles, or services. */
 int64_t region_bundle_find(const region_graph *graph, uint32_t *out, size_t out_count,
                            uint32_t location, const uint32_t *candidates, size_t candidate_count);
-int64_t region_resolve(const region_graph *graph, uint32_t *out, size_t out_count,
-                       uint32_t location, const uint32_t *candidates, size_t candidate_count);
 int64_t region_service_find(const region_graph *graph, uint32_t *out, size_t out_count,
                             uint32_t location, const uint32_t *candidates, size_t candidate_count);
+
+/* Resolve: a candidate is an exporter, the location of a bundle, with a package. The two parts of a candidate stand at equal
+   places of two lists; the shorter list counts the candidates, and what the longer one has behind them is not looked at. Writes,
+   in the order given, repetitions kept, the candidates whose exporter is installed and exports the package itself, where a route
+   for the package leads from the region of the bundle at the location to the exporter's; returns how many. Other exporters of the
+   package may stand on the way, and the bundle need not see the exporter as a bundle. The exporters go to one output list and the
+   packages to the other, at equal places. Refused with 12, 14; 14 where an output list has fewer places than there are
+   candidates, and then neither list is written. */
+int64_t region_resolve_v3(const region_graph *graph, uint32_t *out_exporters, size_t out_exporter_count,
+                          uint32_t *out_packages, size_t out_package_count, uint32_t location,
+                          const uint32_t *exporters, size_t exporter_count,
+                          const uint32_t *packages, size_t package_count);
 
 /* Events: write the listeners (locations of bundles) that see a bundle or a service, in the order given, repetitions kept, and
    return how many. An item that nobody holds reaches no listener. Refused with 12 where a listener is not installed, with 14

@@ -41,13 +41,19 @@ final class Measure {
 
     public static void main(String[] arguments) throws Exception {
         World all = fullGraph(target -> "- * *");
-        find("find_1_seen_all", all, packages(all, List.of(SEEN_ITEM)));
+        one("seen_all", all, SEEN_ITEM);
         lists("all", all);
         World listed = listedGraph();
-        find("find_1_seen_listed", listed, packages(listed, List.of(SEEN_ITEM)));
-        find("find_1_hidden_listed", listed, packages(listed, List.of(HIDDEN_ITEM)));
+        one("seen_listed", listed, SEEN_ITEM);
+        one("hidden_listed", listed, HIDDEN_ITEM);
         lists("listed", listed);
         changes();
+    }
+
+    /** A find of a service, and a resolve of the package of that number. */
+    private static void one(String name, World world, long number) throws Exception {
+        find("find_1_" + name, world, services(world, List.of(number)));
+        resolve("resolve_1_" + name, world, packages(world, List.of(number)));
     }
 
     private static World listedGraph() throws Exception {
@@ -89,13 +95,19 @@ final class Measure {
         return numbers.stream().map(number -> holder(world, number).packages.get(number)).collect(Collectors.toList());
     }
 
+    /** And so the service. */
+    private static List<ServiceReference<?>> services(World world, List<Long> numbers) {
+        return numbers.stream().map(number -> holder(world, number).services.get(number)).collect(Collectors.toList());
+    }
+
     private static Installed holder(World world, long number) {
         return world.bundles.get(ASKER + number / 8);
     }
 
     private static void lists(String filters, World world) throws Exception {
         List<Long> candidates = LongStream.range(0, LIST).mapToObj(i -> i % HELD).collect(Collectors.toList());
-        find("find_1000_" + filters, world, packages(world, candidates));
+        find("find_1000_" + filters, world, services(world, candidates));
+        resolve("resolve_1000_" + filters, world, packages(world, candidates));
         ServiceReference<?> service = holder(world, SEEN_ITEM).services.get(SEEN_ITEM);
         List<BundleContext> listeners =
                 LongStream.range(0, LIST).mapToObj(i -> world.bundles.get(ASKER + i % 64).context).collect(Collectors.toList());
@@ -106,7 +118,15 @@ final class Measure {
         });
     }
 
-    private static void find(String name, World world, List<BundleCapability> candidates) throws Exception {
+    private static void find(String name, World world, List<ServiceReference<?>> candidates) throws Exception {
+        best(name, () -> {
+            Collection<ServiceReference<?>> left = new ArrayList<>(candidates);
+            world.digraph.getServiceFindHook().find(world.bundles.get(ASKER).context, null, null, false, left);
+            return left.size();
+        });
+    }
+
+    private static void resolve(String name, World world, List<BundleCapability> candidates) throws Exception {
         best(name, () -> {
             Collection<BundleCapability> left = new ArrayList<>(candidates);
             world.resolverHook().filterMatches(world.bundles.get(ASKER).requirement, left);

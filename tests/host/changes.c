@@ -1,4 +1,5 @@
 /* What accepted changing calls do to the graph. */
+#include "candidates.h"
 #include "graphs.h"
 #include "host.h"
 #include "images.h"
@@ -65,7 +66,7 @@ static void all_of_a_kind(void)
     CHECK(same_graph(graph, &other));
     ACCEPTED(region_install(graph, 0, 10, NONE, NONE));
     ACCEPTED(region_install(graph, 1, 20, LIST(5, 6), LIST(5, 6)));
-    KEEPS(region_resolve(graph, lent.places, PLACES, 10, LIST(5, 6)), 5, 6);
+    OFFERS(10, {20, 5, true}, {20, 6, true});
     KEEPS(region_service_find(graph, lent.places, PLACES, 10, LIST(5, 6)), 5);
 }
 
@@ -82,7 +83,7 @@ static void longest_lists(void)
     ACCEPTED(region_connect(graph, 0, 1, listed, REGION_MOST_LISTED, false, listed, REGION_MOST_LISTED, false, listed,
                             REGION_MOST_LISTED));
     KEEPS(region_bundle_find(graph, lent.places, PLACES, UINT32_MAX, LIST(UINT32_MAX, 0, 1)), UINT32_MAX, 0);
-    KEEPS(region_resolve(graph, lent.places, PLACES, UINT32_MAX, LIST(UINT32_MAX, 7, 8)), UINT32_MAX, 7);
+    OFFERS(UINT32_MAX, {0, UINT32_MAX, true}, {UINT32_MAX, 7, true}, {UINT32_MAX, 8, false}, {UINT32_MAX, UINT32_MAX, false});
     KEEPS(region_service_find(graph, lent.places, PLACES, UINT32_MAX, LIST(UINT32_MAX, 7, 8)), UINT32_MAX, 7);
 }
 

@@ -12,7 +12,7 @@ static unsigned long passed;
 static unsigned long failed;
 
 /* No bytes between the parts: every byte that is lent is in a part, and is compared. */
-static_assert(sizeof(struct lent) == 5 * GUARD + sizeof(region_graph) + PLACES * sizeof(uint32_t) + BYTES + sizeof(size_t),
+static_assert(sizeof(struct lent) == 6 * GUARD + sizeof(region_graph) + 2 * PLACES * sizeof(uint32_t) + BYTES + sizeof(size_t),
               "parts with gaps");
 
 void set_pattern(uint8_t byte)
@@ -29,6 +29,7 @@ void lend(void)
 void expect_same(void)
 {
     memset(lent.places, pattern, sizeof lent.places);
+    memset(lent.others, pattern, sizeof lent.others);
     memset(lent.bytes, pattern, sizeof lent.bytes);
     memset(&lent.start, pattern, sizeof lent.start);
     memcpy(&expected, &lent, sizeof lent);
@@ -37,6 +38,11 @@ void expect_same(void)
 void expect_numbers(const uint32_t *numbers, size_t count)
 {
     memcpy(expected.places, numbers, count * sizeof *numbers);
+}
+
+void expect_others(const uint32_t *numbers, size_t count)
+{
+    memcpy(expected.others, numbers, count * sizeof *numbers);
 }
 
 void expect_bytes(const uint8_t *bytes, size_t count)
@@ -69,10 +75,12 @@ void check(bool holds, const char *file, int line, const char *text)
     count(holds, file, line, "", text);
 }
 
-void check_call(bool answered, const char *file, int line, const char *text)
+bool check_call(bool answered, const char *file, int line, const char *text)
 {
+    bool same = memcmp(&lent, &expected, sizeof lent) == 0;
     count(answered, file, line, "", text);
-    count(memcmp(&lent, &expected, sizeof lent) == 0, file, line, "the record and the buffers after ", text);
+    count(same, file, line, "the record and the buffers after ", text);
+    return answered && same;
 }
 
 bool all_passed(void)

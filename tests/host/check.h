@@ -4,7 +4,7 @@
 
 #include "wimboru.h"
 
-/* The calls that share their arguments: the three finds, the two events. */
+/* The calls that share their arguments: the two finds, the two events. */
 typedef int64_t find_call(const region_graph *, uint32_t *, size_t, uint32_t, const uint32_t *, size_t);
 typedef int64_t event_call(const region_graph *, uint32_t *, size_t, const uint32_t *, size_t, uint32_t);
 
@@ -20,6 +20,8 @@ struct lent {
     region_graph graph;
     uint8_t between[GUARD];
     uint32_t places[PLACES];
+    uint8_t beside[GUARD];
+    uint32_t others[PLACES]; /* the second output list of a call that has two */
     uint8_t behind[GUARD];
     uint8_t bytes[BYTES];
     uint8_t beyond[GUARD];
@@ -42,14 +44,15 @@ void set_pattern(uint8_t byte);
    bytes at the start of a buffer, or the start of a name. */
 void expect_same(void);
 void expect_numbers(const uint32_t *numbers, size_t count);
+void expect_others(const uint32_t *numbers, size_t count);
 void expect_bytes(const uint8_t *bytes, size_t count);
 void expect_start(size_t start);
 
 /* Counts a check; prints its place and text where it does not hold. */
 void check(bool holds, const char *file, int line, const char *text);
 
-/* Counts two checks of a call: its answer, and that everything that is lent is as expected. */
-void check_call(bool answered, const char *file, int line, const char *text);
+/* Counts two checks of a call: its answer, and that everything that is lent is as expected. Tells whether both hold. */
+bool check_call(bool answered, const char *file, int line, const char *text);
 
 /* Makes the record as it is the expected one. */
 void expect_record(void);

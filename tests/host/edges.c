@@ -27,7 +27,6 @@ static void queries_at(uint8_t *a, uint8_t *b, uint8_t *c)
     put_g(record);
     const uint32_t *candidates = numbers_at(b, LIST(1, 2, 3));
     uint32_t *kept = numbers_at(c, LIST(0, 0, 0));
-    CHECK(region_resolve(record, kept, 3, 20, candidates, 3) == 2 && kept[0] == 1 && kept[1] == 3 && kept[2] == 0);
     CHECK(region_bundle_find(record, kept, 3, 20, candidates, 3) == 0);
     CHECK(region_service_find(record, kept, 3, 20, candidates, 3) == 0);
     const uint32_t *listeners = numbers_at(b, LIST(10, 20, 30));
@@ -35,6 +34,77 @@ static void queries_at(uint8_t *a, uint8_t *b, uint8_t *c)
     CHECK(region_service_event(record, kept, 3, listeners, 3, 20) == 0);
     CHECK(region_route(record, c - REGION_ROUTE_BYTES, REGION_ROUTE_BYTES, 10, REGION_KIND_PACKAGE, 1) == 1);
     CHECK(region_write(record, c - 84, 84) == 84);
+}
+
+/* The edges of resolve: its record, and its two lists in and out. */
+struct resolve_edges {
+    uint8_t *record;
+    uint8_t *exporters;
+    uint8_t *packages;
+    uint8_t *out_exporters;
+    uint8_t *out_packages;
+};
+
+/* Bundle 20 of G is offered the candidates but those with package 2. Each list may be longer than there are candidates. */
+static void resolve_at(const struct resolve_edges *ends, size_t count, const size_t *longer)
+{
+    static const uint32_t exporters[] = {30, 30, 30, 20, 30, 30, 30, 30};
+    static const uint32_t packages[] = {1, 2, 3, 1, 2, 3, 1, 2};
+    static const uint32_t sevens[] = {7, 7, 7, 7, 7, 7, 7, 7};
+    const uint32_t *in = numbers_at(ends->exporters, exporters, count + longer[0]);
+    const uint32_t *numbers = numbers_at(ends->packages, packages, count + longer[1]);
+    uint32_t *from = numbers_at(ends->out_exporters, sevens, count + longer[2]);
+    uint32_t *kept = numbers_at(ends->out_packages, sevens, count + longer[3]);
+    int64_t answer = region_resolve_v3(record_at(ends->record), from, count + longer[2], kept, count + longer[3], 20, in,
+                                       count + longer[0], numbers, count + longer[1]);
+    size_t n = 0;
+    for (size_t i = 0; i < count; i++) {
+        if (packages[i] != 2) {
+            CHECK(from[n] == exporters[i] && kept[n] == packages[i]);
+            n++;
+        }
+    }
+    CHECK(answer == (int64_t)n);
+    CHECK(memcmp(from + n, sevens, (count + longer[2] - n) * sizeof *from) == 0);
+    CHECK(memcmp(kept + n, sevens, (count + longer[3] - n) * sizeof *kept) == 0);
+}
+
+/* An output list that has a place less than there are candidates. */
+static void refused_resolve_at(const struct resolve_edges *ends, size_t count, size_t less_exporters, size_t less_packages)
+{
+    static const uint32_t thirties[] = {30, 30, 30, 30, 30, 30};
+    static const uint32_t ones[] = {1, 1, 1, 1, 1, 1};
+    const uint32_t *exporters = numbers_at(ends->exporters, thirties, count);
+    const uint32_t *packages = numbers_at(ends->packages, ones, count);
+    uint32_t *from = numbers_at(ends->out_exporters, ones, count - less_exporters);
+    uint32_t *kept = numbers_at(ends->out_packages, thirties, count - less_packages);
+    CHECK(region_resolve_v3(record_at(ends->record), from, count - less_exporters, kept, count - less_packages, 20, exporters,
+                            count, packages, count)
+          == -REGION_NO_PLACE);
+    CHECK(memcmp(from, ones, (count - less_exporters) * sizeof *from) == 0);
+    CHECK(memcmp(kept, thirties, (count - less_packages) * sizeof *kept) == 0);
+}
+
+static void resolves_at_edges(void)
+{
+    static const size_t longer[][4] = {{0}, {3, 0, 0, 0}, {0, 3, 0, 0}, {0, 0, 1, 0}, {0, 0, 0, 1}, {2, 0, 0, 2}};
+    const struct resolve_edges ends = {edge(), edge(), edge(), edge(), edge()};
+    put_g(record_at(ends.record));
+    for (size_t count = 0; count <= 5; count++) {
+        for (size_t i = 0; i < sizeof longer / sizeof longer[0]; i++) {
+            resolve_at(&ends, count, longer[i]);
+        }
+    }
+    for (size_t count = 1; count <= 6; count++) {
+        refused_resolve_at(&ends, count, 1, 0);
+        refused_resolve_at(&ends, count, 0, 1);
+    }
+    CHECK(same_image(image_of(record_at(ends.record)), load("g.archive")));
+    release(ends.record);
+    release(ends.exporters);
+    release(ends.packages);
+    release(ends.out_exporters);
+    release(ends.out_packages);
 }
 
 /* The longest route, in a buffer of just the length that it needs, and of one byte less. */
@@ -115,6 +185,7 @@ void test_edges(void)
     uint8_t *c = edge();
     changes_at(a, b);
     queries_at(a, b, c);
+    resolves_at_edges();
     longest_route_at(a, c);
     longest_image_at(a, b, c);
     archives_at(a, b, load("g.archive"));

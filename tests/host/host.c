@@ -13,6 +13,8 @@ static void test_all(void)
     test_refused_changes();
     test_regions();
     test_queries();
+    test_resolve();
+    test_offers();
     test_isolation();
     test_archives();
     test_names();

@@ -8,6 +8,8 @@ void test_changes(void);
 void test_refused_changes(void);
 void test_regions(void);
 void test_queries(void);
+void test_resolve(void);
+void test_offers(void);
 void test_isolation(void);
 void test_archives(void);
 void test_names(void);

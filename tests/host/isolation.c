@@ -8,19 +8,22 @@
 
 enum {
     SIDES = 2,
+    MOST_NUMBERS = 16,
     LAST = REGION_REGIONS - 1, /* the last region */
     ROW = LAST - 7             /* the first of the last eight */
 };
 
-/* The two graphs: the record, its bytes before the queries, and the end of the buffer. */
+/* The two graphs: the record, its bytes before the queries, the end of the buffer, and that of a second one for resolve. */
 static struct side {
     region_graph *record;
     region_graph before;
     uint8_t *end;
+    uint8_t *other_end;
 } sides[SIDES];
 
-/* The end of the lists that are handed in. */
+/* The end of the lists that are handed in, and of the second one for resolve. */
 static uint8_t *list_end;
+static uint8_t *other_list_end;
 
 /* A find or an event: the other is NULL. Both take a number, which is the asker or the item, and a list. */
 struct hook {
@@ -28,13 +31,15 @@ struct hook {
     event_call *event;
 };
 
-static const struct hook finds[] = {{region_bundle_find, NULL}, {region_resolve, NULL}, {region_service_find, NULL}};
+static const struct hook finds[] = {{region_bundle_find, NULL}, {region_service_find, NULL}};
 static const struct hook events[] = {{NULL, region_bundle_event}, {NULL, region_service_event}};
 
-/* A buffer of so many bytes. It has the pattern, as what lend fills has, and so has all memory before it. */
+/* A buffer of so many bytes. It has the pattern, as what lend fills has, and so has all memory before it, and before the other
+   end. */
 static void *buffer(const struct side *side, size_t length)
 {
     memset(side->end - ROOM, lent.before[0], ROOM);
+    memset(side->other_end - ROOM, lent.before[0], ROOM);
     return side->end - length;
 }
 
@@ -44,7 +49,8 @@ static bool alike(const int64_t *answers)
     for (size_t i = 0; i < SIDES; i++) {
         CHECK(memcmp(sides[i].record, &sides[i].before, sizeof sides[i].before) == 0);
     }
-    return answers[0] == answers[1] && memcmp(sides[0].end - ROOM, sides[1].end - ROOM, ROOM) == 0;
+    return answers[0] == answers[1] && memcmp(sides[0].end - ROOM, sides[1].end - ROOM, ROOM) == 0
+        && memcmp(sides[0].other_end - ROOM, sides[1].other_end - ROOM, ROOM) == 0;
 }
 
 /* A find or an event on both sides, which is refused only where it has too few places. */
@@ -58,6 +64,22 @@ static bool hook_alike(struct hook hook, size_t places, uint32_t number, const u
         answers[i] = hook.find != NULL ? hook.find(record, out, places, number, list, count)
                                        : hook.event(record, out, places, list, count, number);
         CHECK(places < count ? answers[i] == -REGION_NO_PLACE : answers[i] >= 0);
+    }
+    return alike(answers);
+}
+
+/* A resolve on both sides, which is refused only where an output list has too few places. */
+static bool resolve_alike(size_t places, size_t other_places, uint32_t asker, const uint32_t *from, const uint32_t *numbers,
+                          size_t count)
+{
+    const uint32_t *exporters = numbers_at(list_end, from, count);
+    const uint32_t *packages = numbers_at(other_list_end, numbers, count);
+    int64_t answers[SIDES];
+    for (size_t i = 0; i < SIDES; i++) {
+        uint32_t *out = buffer(&sides[i], places * sizeof *out);
+        uint32_t *other = (uint32_t *)(void *)sides[i].other_end - other_places;
+        answers[i] = region_resolve_v3(sides[i].record, out, places, other, other_places, asker, exporters, count, packages, count);
+        CHECK(places < count || other_places < count ? answers[i] == -REGION_NO_PLACE : answers[i] >= 0);
     }
     return alike(answers);
 }
@@ -86,6 +108,22 @@ static void hook_queries(struct hook hook, uint32_t number, const uint32_t *numb
     CHECK(hook_alike(hook, 0, number, numbers, 0));
 }
 
+/* All numbers of one exporter, and each of them alone; with as many places as there are candidates, more, fewer, none. */
+static void resolve_queries(uint32_t asker, uint32_t exporter, const uint32_t *numbers, size_t count)
+{
+    uint32_t exporters[MOST_NUMBERS];
+    for (size_t i = 0; i < count; i++) {
+        exporters[i] = exporter;
+        CHECK(resolve_alike(1, 1, asker, &exporters[i], &numbers[i], 1));
+    }
+    CHECK(resolve_alike(count, count + 1, asker, exporters, numbers, count));
+    CHECK(resolve_alike(count + 1, count, asker, exporters, numbers, count));
+    CHECK(resolve_alike(count - 1, count, asker, exporters, numbers, count));
+    CHECK(resolve_alike(count, count - 1, asker, exporters, numbers, count));
+    CHECK(resolve_alike(0, 0, asker, exporters, numbers, count));
+    CHECK(resolve_alike(0, 0, asker, exporters, numbers, 0));
+}
+
 /* Of every kind, and of one that is none: with more bytes than a route needs, as many, fewer, none. */
 static void route_queries(uint32_t asker, uint32_t item)
 {
@@ -105,15 +143,22 @@ static void keep_records(void)
     }
 }
 
-/* The six queries of bundles of the set: each asks for all numbers, and all listen to each number. */
+/* The six queries of bundles of the set: each asks for all numbers, as exporters too, and all listen to each number. There are
+   MOST_NUMBERS at most. */
 static void queries(const uint32_t *bundles, size_t bundle_count, const uint32_t *numbers, size_t count)
 {
+    const bool fits = count <= MOST_NUMBERS;
+    CHECK(fits);
+    if (!fits) {
+        return;
+    }
     keep_records();
     for (size_t i = 0; i < bundle_count; i++) {
         for (size_t k = 0; k < sizeof finds / sizeof finds[0]; k++) {
             hook_queries(finds[k], bundles[i], numbers, count);
         }
         for (size_t k = 0; k < count; k++) {
+            resolve_queries(bundles[i], numbers[k], numbers, count);
             route_queries(bundles[i], numbers[k]);
         }
     }
@@ -201,8 +246,9 @@ static void led_out(void)
     }
     keep_records();
     CHECK(!hook_alike(finds[0], 3, 20, LIST(10, 20, 30)));
-    CHECK(!hook_alike(finds[1], 3, 20, LIST(1, 2, 3)));
-    CHECK(!hook_alike(finds[2], 3, 20, LIST(7)));
+    CHECK(!hook_alike(finds[1], 3, 20, LIST(7)));
+    CHECK(!resolve_alike(1, 1, 20, (const uint32_t[]){10}, LIST(2)));
+    CHECK(!resolve_alike(4, 4, 20, (const uint32_t[]){10, 10, 30, 10}, LIST(1, 2, 3, 3)));
     CHECK(!hook_alike(events[0], 3, 10, LIST(20, 30, 20)));
     CHECK(!hook_alike(events[1], 3, 7, LIST(20, 30)));
     CHECK(!route_alike(REGION_ROUTE_BYTES, 20, REGION_KIND_PACKAGE, 2));
@@ -216,14 +262,18 @@ void test_isolation(void)
         records[i] = edge();
         sides[i].record = record_at(records[i]);
         sides[i].end = edge();
+        sides[i].other_end = edge();
     }
     list_end = edge();
+    other_list_end = edge();
     g_and_neighbours();
     few_and_many();
     led_out();
     for (size_t i = 0; i < SIDES; i++) {
         release(records[i]);
         release(sides[i].end);
+        release(sides[i].other_end);
     }
     release(list_end);
+    release(other_list_end);
 }

@@ -1,4 +1,5 @@
 /* What C may hand in as a list or a buffer: NULL where it has no elements, lists that overlap, lists of any length. */
+#include "candidates.h"
 #include "graphs.h"
 #include "host.h"
 #include "images.h"
@@ -23,6 +24,22 @@ static void null_find(find_call *find)
     UNCHANGED(-REGION_NOT_INSTALLED, find(graph, NULL, 0, 11, NULL, 0));
 }
 
+/* Each list of resolve, alone and with others. */
+static void null_resolve(void)
+{
+    UNCHANGED(0, region_resolve_v3(graph, NULL, 0, NULL, 0, 10, NULL, 0, NULL, 0));
+    UNCHANGED(0, region_resolve_v3(graph, lent.places, 4, lent.others, 4, 10, NULL, 0, NULL, 0));
+    UNCHANGED(0, region_resolve_v3(graph, lent.places, 4, lent.others, 4, 10, NULL, 0, LIST(1, 2, 3, 4)));
+    UNCHANGED(0, region_resolve_v3(graph, lent.places, 4, lent.others, 4, 10, LIST(30, 30, 30, 30), NULL, 0));
+    UNCHANGED(0, region_resolve_v3(graph, NULL, 0, NULL, 0, 10, LIST(30), NULL, 0));
+    UNCHANGED(0, region_resolve_v3(graph, NULL, 0, lent.others, 4, 10, NULL, 0, LIST(1)));
+    UNCHANGED(0, region_resolve_v3(graph, lent.places, 4, NULL, 0, 10, NULL, 0, LIST(1)));
+    UNCHANGED(-REGION_NO_PLACE, region_resolve_v3(graph, NULL, 0, lent.others, 4, 10, LIST(30), LIST(1)));
+    UNCHANGED(-REGION_NO_PLACE, region_resolve_v3(graph, lent.places, 4, NULL, 0, 10, LIST(30), LIST(1)));
+    UNCHANGED(-REGION_NO_PLACE, region_resolve_v3(graph, NULL, 0, NULL, 0, 10, LIST(30, 30, 30, 30), LIST(1, 1, 1, 1)));
+    UNCHANGED(-REGION_NOT_INSTALLED, region_resolve_v3(graph, NULL, 0, NULL, 0, 11, NULL, 0, NULL, 0));
+}
+
 static void null_event(event_call *event)
 {
     UNCHANGED(0, event(graph, NULL, 0, NULL, 0, 10));
@@ -36,7 +53,7 @@ static void null_buffers(void)
     UNCHANGED(-REGION_NO_PLACE, region_write(graph, NULL, 0));
     UNCHANGED(-REGION_NO_PLACE, region_route(graph, NULL, 0, 10, REGION_KIND_BUNDLE, 10));
     null_find(region_bundle_find);
-    null_find(region_resolve);
+    null_resolve();
     null_find(region_service_find);
     null_event(region_bundle_event);
     null_event(region_service_event);
@@ -60,6 +77,24 @@ static void overlapping(void)
     CHECK(same_graph(graph, &apart));
 }
 
+/* So with the two input lists of resolve: one that is both the exporters and the packages, and two that share numbers. */
+static void overlapping_candidates(void)
+{
+    const uint32_t both[] = {1, 1, 2, 2, 1};
+    regions(0, 1);
+    ACCEPTED(region_install(graph, 0, 1, LIST(1, 2), NONE));
+    expect_same();
+    expect_numbers(LIST(1, 1, 1));
+    expect_others(LIST(1, 1, 1));
+    WRITES(3, region_resolve_v3(graph, lent.places, PLACES, lent.others, PLACES, 1, both, 5, both, 5));
+    for (size_t count = 2; count <= 4; count++) {
+        expect_same();
+        expect_numbers(LIST(1, 1));
+        expect_others(LIST(1, 2));
+        WRITES(2, region_resolve_v3(graph, lent.places, PLACES, lent.others, PLACES, 1, both, count, both + 1, count));
+    }
+}
+
 /* Twelve candidates kept are 12, and are not refusal 12. */
 static void twelve(void)
 {
@@ -72,22 +107,34 @@ static void twelve(void)
     UNCHANGED(-12, region_bundle_event(graph, lent.places, PLACES, LIST(11), 10));
 }
 
-/* As many candidates as the buffer has places, every third one seen. */
-static void many(void)
+/* So many candidates, every third one offered, of two exporters in turn. */
+static void many(size_t count)
+{
+    start_candidates();
+    for (uint32_t i = 0; i < count; i++) {
+        bool offered = i % 3 == 0;
+        add_candidate(i % 2 == 0 ? 20 : 30, offered ? 1 : 100 + i, offered);
+    }
+    build_g();
+    check_resolve(10, __FILE__, __LINE__, "many candidates");
+}
+
+/* As many services as the buffer has places, every third one seen. */
+static void many_services(void)
 {
     static uint32_t candidates[PLACES];
     static uint32_t seen[PLACES];
     size_t count = 0;
     for (uint32_t i = 0; i < PLACES; i++) {
-        candidates[i] = i % 3 == 0 ? 1 : 100 + i;
-        if (candidates[i] == 1) {
-            seen[count++] = 1;
+        candidates[i] = i % 3 == 0 ? 5 : 100 + i;
+        if (candidates[i] == 5) {
+            seen[count++] = 5;
         }
     }
-    build_g();
+    build_diamond();
     expect_same();
     expect_numbers(seen, count);
-    WRITES(count, region_resolve(graph, lent.places, PLACES, 10, candidates, PLACES));
+    WRITES(count, region_service_find(graph, lent.places, PLACES, 10, candidates, PLACES));
 }
 
 void test_lists(void)
@@ -95,6 +142,9 @@ void test_lists(void)
     null_lists_of_changes();
     null_buffers();
     overlapping();
+    overlapping_candidates();
     twelve();
-    many();
+    many(PLACES);
+    many(1000);
+    many_services();
 }

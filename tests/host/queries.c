@@ -1,4 +1,4 @@
-/* The route call and the five hooks: document 01's cases, what is kept, and every refusal. */
+/* The route call and four of the five hooks: document 01's cases, what is kept, and every refusal. resolve.c has resolve. */
 #include "graphs.h"
 #include "host.h"
 
@@ -8,11 +8,9 @@ static int64_t route(uint32_t location, uint32_t kind, uint32_t item)
     return region_route(graph, lent.bytes, BYTES, location, kind, item);
 }
 
-static void cases_g1_to_g6(void)
+static void cases_g3_to_g6(void)
 {
     build_g();
-    KEEPS(region_resolve(graph, lent.places, PLACES, 10, LIST(1, 2, 3)), 1);
-    KEEPS(region_resolve(graph, lent.places, PLACES, 20, LIST(1, 2, 3)), 1, 3);
     ROUTES(route(10, REGION_KIND_PACKAGE, 1), 0, 1);
     UNCHANGED(-REGION_HIDDEN, route(10, REGION_KIND_PACKAGE, 3));
     UNCHANGED(-REGION_HIDDEN, route(20, REGION_KIND_BUNDLE, 30));
@@ -72,7 +70,6 @@ static void kept(void)
 {
     build_g();
     KEEPS(region_bundle_find(graph, lent.places, PLACES, 20, LIST(30, 20, 77, 20)), 20, 20);
-    KEEPS(region_resolve(graph, lent.places, PLACES, 20, LIST(3, 1, 3, 2)), 3, 1, 3);
     UNCHANGED(0, region_service_find(graph, lent.places, PLACES, 20, LIST(1, 2, 3)));
     KEEPS(region_bundle_event(graph, lent.places, PLACES, LIST(30, 10, 20, 30), 30), 30, 30);
     UNCHANGED(0, region_bundle_event(graph, lent.places, PLACES, LIST(30, 10, 20, 30), 77));
@@ -109,11 +106,11 @@ static void refused_routes(void)
     UNCHANGED(-REGION_NOT_INSTALLED, region_route(graph, lent.bytes, 63, 11, 3, 1));
 }
 
-/* Bundle 10 provides package 10 and service 10, so that every find sees item 10. */
+/* Bundle 10 publishes service 10, so that both finds see item 10. */
 static void build_tens(void)
 {
     regions(0, 1);
-    ACCEPTED(region_install(graph, 0, 10, LIST(10), LIST(10)));
+    ACCEPTED(region_install(graph, 0, 10, NONE, LIST(10)));
 }
 
 static void refused_finds(find_call *find)
@@ -141,7 +138,7 @@ static void refused_events(event_call *event)
 
 void test_queries(void)
 {
-    cases_g1_to_g6();
+    cases_g3_to_g6();
     case_g7();
     case_g8();
     ties();
@@ -151,7 +148,6 @@ void test_queries(void)
     refused_routes();
     build_tens();
     refused_finds(region_bundle_find);
-    refused_finds(region_resolve);
     refused_finds(region_service_find);
     refused_events(region_bundle_event);
     refused_events(region_service_event);

@@ -1,4 +1,5 @@
 /* Region numbers up to the last one, and the version that they give an image. */
+#include "candidates.h"
 #include "graphs.h"
 #include "host.h"
 #include "images.h"
@@ -35,7 +36,8 @@ static void seen_over(uint8_t source, uint8_t target)
     ROUTES(region_route(graph, lent.bytes, REGION_ROUTE_BYTES, 20, REGION_KIND_SERVICE, 6), target);
     UNCHANGED(-REGION_HIDDEN, region_route(graph, lent.bytes, REGION_ROUTE_BYTES, 20, REGION_KIND_BUNDLE, 10));
     KEEPS(region_bundle_find(graph, lent.places, PLACES, 10, LIST(20, 10, 30)), 20, 10);
-    KEEPS(region_resolve(graph, lent.places, PLACES, 10, LIST(2, 1, 3)), 2, 1);
+    OFFERS(10, {20, 2, true}, {10, 1, true}, {20, 3, false});
+    OFFERS(20, {20, 2, true}, {10, 1, false});
     KEEPS(region_service_find(graph, lent.places, PLACES, 10, LIST(6, 5, 7)), 6, 5);
     KEEPS(region_bundle_event(graph, lent.places, PLACES, LIST(20, 10, 20), 20), 20, 10, 20);
     KEEPS(region_service_event(graph, lent.places, PLACES, LIST(20, 10, 20), 6), 20, 10, 20);

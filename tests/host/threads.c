@@ -31,14 +31,25 @@ static bool changes(region_graph *own)
         && region_remove(own, 63) == REGION_NOT_REFUSED && region_add(own, 63) == REGION_NOT_REFUSED;
 }
 
-/* Each query of the shared record, which holds the graph of the longest image. */
+/* Resolve with two candidates, of which one is offered, and with four, of which two are. */
+static bool resolves(void)
+{
+    uint32_t kept[4];
+    uint32_t packages[4];
+    return region_resolve_v3(graph, kept, 2, packages, 2, 1000, LIST(1001, 1002), LIST(8, 16)) == 1 && kept[0] == 1001
+        && packages[0] == 8
+        && region_resolve_v3(graph, kept, 4, packages, 4, 1001, LIST(1000, 1001, 1002, 1003), LIST(0, 8, 16, 16)) == 2
+        && kept[1] == 1002 && packages[1] == 16;
+}
+
+/* Each other query of the shared record, which holds the graph of the longest image. */
 static bool queries(uint8_t *written)
 {
     uint8_t route[REGION_ROUTE_BYTES];
     uint32_t kept[2];
     return archive_query(longest.bytes, longest.length, 1000, REGION_KIND_PACKAGE, 8) == REGION_SEEN
         && region_route(graph, route, sizeof route, 1000, REGION_KIND_PACKAGE, 8) == 1
-        && region_bundle_find(graph, kept, 2, 1000, LIST(1015, 1017)) == 1 && region_resolve(graph, kept, 2, 1000, LIST(8, 16)) == 1
+        && region_bundle_find(graph, kept, 2, 1000, LIST(1015, 1017)) == 1
         && region_service_find(graph, kept, 2, 1000, LIST(UINT32_MAX)) == 0
         && region_bundle_event(graph, kept, 2, LIST(1000, 1001), 1017) == 1
         && region_service_event(graph, kept, 2, LIST(1000, 1001), UINT32_MAX) == 0
@@ -50,7 +61,7 @@ static void *work(void *argument)
     struct job *job = argument;
     job->right = true;
     for (int round = 0; round < ROUNDS; round++) {
-        job->right = job->right && changes(&job->own) && queries(job->written);
+        job->right = job->right && changes(&job->own) && resolves() && queries(job->written);
     }
     return NULL;
 }

@@ -1,5 +1,6 @@
 """What is compared: the level, and the second program's cases with more of what the interface for C can be handed, with more queries
-of two graphs that agree on a set of regions, and with more of the region numbers and of the versions of an archive."""
+of two graphs that agree on a set of regions, with more of the region numbers and of the versions of an archive, and with more
+candidates of a resolve (candidates.py)."""
 
 import os
 import random
@@ -7,11 +8,13 @@ import sys
 
 sys.path.insert(0, os.path.join(os.path.dirname(os.path.abspath(__file__)), "oracle"))
 
+import candidates  # noqa: E402
 import gen2  # noqa: E402
 import oracle2  # noqa: E402
+from candidates import closure  # noqa: E402
 
 # The level of the product: 10 is document 01 alone, a higher one the number of the last request of document 02 that it has.
-LEVEL = 13
+LEVEL = 14
 
 # gen2 has region numbers and kinds of one byte. The interface takes 32 bits.
 LARGE = (256, 65536, 2**31, 2**32 - 16, 2**32 - 1)
@@ -23,10 +26,10 @@ BEYOND = (64, 65, 79, 127, 128, 255) + LARGE
 # Lengths of a buffer for a route: too few bytes, as many as level 10 asks for, and enough.
 ROUTE_ROOMS = (0, 15, 16, 17, 49, 63, 64, 65, 300)
 
-# The finds and the events, with the kind of what they ask for.
-FINDS = {"bfind": oracle2.BUNDLE, "resolve": oracle2.PACKAGE, "sfind": oracle2.SERVICE}
+# The finds and the events, with the kind of what they ask for; and the kinds.
+FINDS = {"bfind": oracle2.BUNDLE, "sfind": oracle2.SERVICE}
 EVENTS = {"bevent": oracle2.BUNDLE, "sevent": oracle2.SERVICE}
-KINDS = tuple(FINDS.values())
+KINDS = (oracle2.BUNDLE, oracle2.PACKAGE, oracle2.SERVICE)
 
 
 def numbers_held(graph, kind):
@@ -37,12 +40,20 @@ def numbers_held(graph, kind):
 class Script(gen2.Script):
     """A script under way, with large region numbers, and with images of the record after some of the refused changes."""
 
+    def __init__(self, rnd, coverage):
+        super().__init__(rnd, coverage)
+        self.notes = candidates.Notes()
+
     def put(self, line):
         answer = super().put(line)
-        for pair in besides(line.split(" "), answer.split(" ")):
+        for pair in self.besides(line.split(" "), answer.split(" ")):
             if pair in BESIDES:
                 self.coverage.note(*pair)
         return answer
+
+    def besides(self, words, answer):
+        """What a line and its answer show besides the call and the number, those of BESIDES among it."""
+        return self.notes.of(self.g, words, answer) if words[0] == "resolve" else besides(words, answer)
 
     def change(self, *weights):
         answer = super().change(*weights)
@@ -56,7 +67,7 @@ class Script(gen2.Script):
 
 
 # What coverage notes of each query: answers in cases of `isolation` that differ where a connection leads out of the set.
-LED_OUT = {call: call + ", led out" for call in (*FINDS, *EVENTS, "route")}
+LED_OUT = {call: call + ", led out" for call in (*FINDS, *EVENTS, "resolve", "route")}
 
 # What it notes besides, by a name and a number. All of it must be reached.
 HIDDEN_ROUTE = "route, hidden"
@@ -69,7 +80,7 @@ AT_LIMITS = ([(ROUTE_IN % 63, 14), (ROUTE_IN % 64, 0), (ADDED % 64, 1), (MISLABE
 BESIDES = (AT_LIMITS + [(HIDDEN_ROUTE, 0), (ABOVE_INSIDE, 0), (ABOVE_OUTSIDE, 0), (TWO_VERSIONS, 0)]
            + [(ROUTE_OF % count, 0) for count in (15, 16, 32, 47, 48)]
            + [(REGIONS_IN % pair, 0) for pair in ((1, 0), (1, 1), (1, 16), (2, 1), (2, 16), (2, 17), (2, 63), (2, 64))]
-           + [(name, 0) for name in LED_OUT.values()])
+           + [(name, 0) for name in LED_OUT.values()] + candidates.SHOWN)
 
 
 def of_route(room, number, count):
@@ -96,7 +107,7 @@ def of_read(data, number):
 
 
 def besides(words, answer):
-    """What a line and its answer show besides the call and the number, those of BESIDES among it."""
+    """What a line that is no resolve, and its answer, show besides the call and the number. It takes no graph to tell."""
     if words[0] == "add":
         return [(ADDED % int(words[1]), int(answer[0]))]
     if words[0] == "route":
@@ -206,17 +217,9 @@ def case_names(s, rnd, i):
 ISOLATION = "isolation"
 MOST_REGIONS = 6        # regions that are built outside the set
 MOST_BUILT = 12         # bundles that are built there, and connections
-MOST_ASKED = 24         # numbers of a kind that are asked for, of those that the graphs have
+MOST_ASKED = 24         # numbers of a kind, and candidates of a resolve, that are asked for, of those that the graphs have
 ABSENT = 2              # and of those that neither has
-
-
-def closure(graph, region):
-    """A region, and all that connections lead to from it, whatever they pass."""
-    found, more = set(), {region}
-    while more:
-        found |= more
-        more = {target for source, target in graph.F if source in found} - found
-    return found
+MIXED = 6               # and candidates of any bundle with any package
 
 
 def within(graph, inside):
@@ -276,11 +279,27 @@ def some_numbers(rnd, graphs, kind):
     return rnd.sample(numbers, len(numbers))
 
 
-def asker_lines(rnd, level, asker, numbers):
-    """Every find and route of a bundle: with room, with just enough of it, with too little; and a route of no kind."""
+def some_candidates(rnd, graphs, numbers):
+    """Candidates that one of the graphs has, whose exporters stand in the set or outside it, and others, in any order."""
+    exported = sorted(set().union(*map(candidates.exported, graphs)))
+    some = rnd.sample(exported, min(MOST_ASKED, len(exported)))
+    some += [(rnd.choice(numbers[oracle2.BUNDLE]), rnd.choice(numbers[oracle2.PACKAGE])) for _ in range(MIXED)]
+    return rnd.sample(some, len(some))
+
+
+def find_lines(asker, numbers, offers):
+    """Every find, and the resolve, of a bundle: with room, with just enough of it, with too little."""
     for call, kind in FINDS.items():
         for more in (2, 0, -1):
             yield "%s %d %d %s" % (call, asker, len(numbers[kind]) + more, oracle2.show(numbers[kind]))
+    for more, other in ((2, 0), (0, 0), (-1, 0), (0, -1)):
+        yield candidates.line_of(asker, (len(offers) + more, len(offers) + other), offers)
+    yield candidates.line_of(asker, (1, 1), offers[:1])
+
+
+def asker_lines(rnd, level, asker, numbers, offers):
+    """Every find, resolve and route of a bundle, and a route of no kind."""
+    yield from find_lines(asker, numbers, offers)
     length = oracle2.route_bytes(level)
     items = [(kind, number) for kind in KINDS for number in numbers[kind]]
     for kind, number in items:
@@ -311,13 +330,14 @@ def note_regions(coverage, first, second, inside):
 
 def case_isolation(s, rnd, i):
     """Two graphs that agree on a set of regions, and the six queries of every bundle of the set on the one and on the other; then the
-    same on the second with a connection that leads out of the set. So that a script stays short, up to MOST_ASKED numbers of a kind
-    are asked for, of those that the graphs have."""
+    same on the second with a connection that leads out of the set. So that a script stays short, up to MOST_ASKED numbers of a kind,
+    and candidates, are asked for, of those that the graphs have."""
     first, second, inside = agreeing(rnd, s.level, large=i % 3 == 0)
     note_regions(s.coverage, first, second, inside)
     bundles = sorted(within(first, inside).B)
     numbers = {kind: some_numbers(rnd, (first, second), kind) for kind in KINDS}
-    lines = [line for asker in bundles for line in asker_lines(rnd, s.level, asker, numbers)]
+    offers = some_candidates(rnd, (first, second), numbers)
+    lines = [line for asker in bundles for line in asker_lines(rnd, s.level, asker, numbers, offers)]
     lines += event_lines(rnd, bundles, numbers)
     answers = []
     for graph in (first, second, leading_out(rnd, second, inside)):
@@ -410,8 +430,8 @@ def case_chains(s, rnd, i):
                     s.put("route %d %d %d %d" % (100 + asker, kind, item, room))
         asker, listeners = 100 + regions[0], [100 + region for region in regions]
         s.put("bfind %d %d %s" % (asker, len(listeners), oracle2.show(listeners)))
-        for find in ("resolve", "sfind"):
-            s.put("%s %d %d %s" % (find, asker, len(regions), oracle2.show(regions)))
+        s.put(candidates.line(asker, [len(regions)] * 2, listeners, regions))
+        s.put("sfind %d %d %s" % (asker, len(regions), oracle2.show(regions)))
         s.put("sevent %d %d %s" % (len(listeners), regions[-1], oracle2.show(listeners)))
         s.call("disconnect", *rnd.choice(sorted(s.g.F)))
 
@@ -446,4 +466,4 @@ def case_versions(s, rnd, i):
 gen2.Script = Script
 gen2.CAPABILITIES.update({"wide": (10, case_wide, 1), "over": (10, case_over, 1), "names": (11, case_names, 3),
                           ISOLATION: (12, case_isolation, 3), "numbers": (13, case_numbers, 1), "chains": (13, case_chains, 1),
-                          "versions": (13, case_versions, 1)})
+                          "versions": (13, case_versions, 1), "candidates": (14, candidates.case_candidates, 2)})

@@ -21,7 +21,7 @@ enum { FILLED_BYTE = 0xA5, MOST_ARGUMENTS = 5 };
 static const uint32_t FILLED_PLACE = 0xDEAD0000u;
 
 /* One block of memory for each use in a call. */
-enum { RECORD, FIRST, SECOND, THIRD, OUTPUT, ARCHIVE, SHEET, ROOMS };
+enum { RECORD, FIRST, SECOND, THIRD, OUTPUT, OTHER_OUTPUT, ARCHIVE, SHEET, ROOMS };
 
 struct list {
     const uint32_t *items;
@@ -140,9 +140,9 @@ static uint8_t *byte_buffer(size_t length)
     return out;
 }
 
-static uint32_t *place_buffer(uint32_t count)
+static uint32_t *place_buffer(uint32_t count, int room)
 {
-    uint32_t *out = block(OUTPUT, count * sizeof *out);
+    uint32_t *out = block(room, count * sizeof *out);
 
     for (uint32_t i = 0; i < count; i++) {
         out[i] = FILLED_PLACE + i;
@@ -176,12 +176,12 @@ static void print_bytes(const uint8_t *bytes, size_t length)
     puts(length == 0 ? "-" : "");
 }
 
-static void print_places(const uint32_t *places, size_t count)
+static void print_places(const uint32_t *places, size_t count, char after)
 {
     for (size_t i = 0; i < count; i++) {
         printf(i == 0 ? "%" PRIu32 : ",%" PRIu32, places[i]);
     }
-    puts(count == 0 ? "-" : "");
+    printf(count == 0 ? "-%c" : "%c", after);
 }
 
 /* ---- the lines ---- */
@@ -245,21 +245,21 @@ typedef int64_t event_call(const region_graph *, uint32_t *, size_t, const uint3
 static void find(find_call *call, char **a)
 {
     uint32_t count = whole_number(a[1]);
-    uint32_t *out = place_buffer(count);
+    uint32_t *out = place_buffer(count, OUTPUT);
     struct list candidates = list(a[2], FIRST);
 
     print_result(call(graph, out, count, whole_number(a[0]), candidates.items, candidates.count));
-    print_places(out, count);
+    print_places(out, count, '\n');
 }
 
 static void event(event_call *call, char **a)
 {
     uint32_t count = whole_number(a[0]);
-    uint32_t *out = place_buffer(count);
+    uint32_t *out = place_buffer(count, OUTPUT);
     struct list listeners = list(a[2], FIRST);
 
     print_result(call(graph, out, count, listeners.items, listeners.count, whole_number(a[1])));
-    print_places(out, count);
+    print_places(out, count, '\n');
 }
 
 static void bundle_find(char **a)
@@ -267,9 +267,21 @@ static void bundle_find(char **a)
     find(region_bundle_find, a);
 }
 
+/* A count of places for each output list, then a list for each part of the candidates. */
 static void resolve(char **a)
 {
-    find(region_resolve, a);
+    struct list counts = list(a[1], THIRD), exporters = list(a[2], FIRST), packages = list(a[3], SECOND);
+    uint32_t *out_exporters, *out_packages;
+
+    if (counts.count != 2) {
+        stop("not two counts of places", a[1]);
+    }
+    out_exporters = place_buffer(counts.items[0], OUTPUT);
+    out_packages = place_buffer(counts.items[1], OTHER_OUTPUT);
+    print_result(region_resolve_v3(graph, out_exporters, counts.items[0], out_packages, counts.items[1], whole_number(a[0]),
+                                   exporters.items, exporters.count, packages.items, packages.count));
+    print_places(out_exporters, counts.items[0], ' ');
+    print_places(out_packages, counts.items[1], '\n');
 }
 
 static void service_find(char **a)
@@ -430,7 +442,7 @@ static const struct command {
     {"archive", 1, keep_archive}, {"query", 3, query},          {"list", 0, list_archive},
     {"add", 1, add},              {"remove", 1, remove_region}, {"install", 4, install},     {"uninstall", 1, uninstall},
     {"connect", 5, connect},      {"disconnect", 2, disconnect},
-    {"bfind", 3, bundle_find},    {"resolve", 3, resolve},      {"sfind", 3, service_find},
+    {"bfind", 3, bundle_find},    {"resolve", 4, resolve},      {"sfind", 3, service_find},
     {"bevent", 3, bundle_event},  {"sevent", 3, service_event}, {"route", 4, route},
     {"sheet", 1, keep_sheet},     {"lookup", 2, lookup},
 };

@@ -1,6 +1,7 @@
 /* Wrong engines, to see that the comparison finds them: the driver's calls go through here (the linker's --wrap), and the fault that
-   the variable FAULT of the environment names is put in front of the engine or behind it. In a lookup of a name another reader of
-   sheets stands in the engine's place, which answers right where there is no fault. `selfcheck` runs them all. */
+   the variable FAULT of the environment names is put in front of the engine or behind it. In a resolve another resolver stands in the
+   engine's place, and in a lookup of a name another reader of sheets; both answer right where there is no fault. `selfcheck` runs
+   them all. */
 #define _POSIX_C_SOURCE 200809L
 #include <stdlib.h>
 #include <string.h>
@@ -9,11 +10,11 @@
 #include "wimboru.h"
 
 /* The faults have the numbers from 1 up to this one; 0 is none. */
-enum { FAULTS = 82 };
+enum { FAULTS = 103 };
 /* From this one on, up to OUTSIDE, they write a file that a reader of version 1 alone must find wrong. */
-enum { EARLY = 76 };
+enum { EARLY = 96 };
 /* From this one on they let a bundle learn what stands in regions that no connection leads to. */
-enum { OUTSIDE = 80 };
+enum { OUTSIDE = 100 };
 
 #define CALL(type, name, ...) \
     type __real_##name(__VA_ARGS__); \
@@ -222,7 +223,7 @@ CALL(int64_t, region_bundle_find, const region_graph *g, uint32_t *out, size_t o
     uint8_t route[REGION_ROUTE_BYTES];
     int64_t count = __real_region_bundle_find(g, out, out_count, location, candidates, candidate_count);
 
-    if (fault(80) && count >= 0) {
+    if (fault(100) && count >= 0) {
         count = 0;
         for (size_t i = 0; i < candidate_count; i++) {
             if (__real_region_route(g, route, sizeof route, location, REGION_KIND_BUNDLE, candidates[i]) >= 0
@@ -234,25 +235,6 @@ CALL(int64_t, region_bundle_find, const region_graph *g, uint32_t *out, size_t o
     return found(count, out, out_count, candidates, candidate_count);
 }
 
-CALL(int64_t, region_resolve, const region_graph *g, uint32_t *out, size_t out_count, uint32_t location, const uint32_t *candidates,
-     size_t candidate_count)
-{
-    uint32_t own[REGION_LONGEST_IMAGE];
-    int64_t count = __real_region_resolve(g, out, out_count, location, candidates, candidate_count);
-
-    if (fault(22) && count == -REGION_NO_PLACE) {
-        count = __real_region_resolve(g, own, REGION_LONGEST_IMAGE, location, candidates, candidate_count);
-        if (count < 0 || (size_t)count > out_count) {
-            return -REGION_NO_PLACE;
-        }
-        memcpy(out, own, (size_t)count * sizeof *out);
-    }
-    if (fault(23) && count == -REGION_NOT_INSTALLED && out_count < candidate_count) {
-        return -REGION_NO_PLACE;
-    }
-    return count;
-}
-
 CALL(int64_t, region_service_event, const region_graph *g, uint32_t *out, size_t out_count, const uint32_t *listeners,
      size_t listener_count, uint32_t service)
 {
@@ -262,7 +244,7 @@ CALL(int64_t, region_service_event, const region_graph *g, uint32_t *out, size_t
     if (fault(24) && listener_count > 1 && not_installed(g, listeners[listener_count - 1])) {
         listener_count--;
     }
-    if (fault(81) && listener_count <= out_count
+    if (fault(101) && listener_count <= out_count
         && __real_region_service_event(g, own, REGION_LONGEST_IMAGE, listeners, listener_count, service) >= 0) {
         for (size_t i = 0; i < listener_count; i++) {
             if (one_before_sees(g, listeners[i], REGION_KIND_SERVICE, service)) {
@@ -272,6 +254,241 @@ CALL(int64_t, region_service_event, const region_graph *g, uint32_t *out, size_t
         return count;
     }
     return __real_region_service_event(g, out, out_count, listeners, listener_count, service);
+}
+
+/* ---- resolve ---- */
+
+/* The bundle at a location, NULL where it is not installed. */
+static const struct region_bundle *bundle_at(const region_graph *g, uint32_t location)
+{
+    for (size_t i = 0; i < g->bundle_count; i++) {
+        if (g->bundles[i].location == location) {
+            return &g->bundles[i];
+        }
+    }
+    return NULL;
+}
+
+static bool has(const uint32_t *items, size_t count, uint32_t number)
+{
+    for (size_t i = 0; i < count; i++) {
+        if (items[i] == number) {
+            return true;
+        }
+    }
+    return false;
+}
+
+/* Whether a list has a number with the same lowest byte. */
+static bool has_byte(const uint32_t *items, size_t count, uint32_t number)
+{
+    for (size_t i = 0; i < count; i++) {
+        if (items[i] % 256 == number % 256) {
+            return true;
+        }
+    }
+    return false;
+}
+
+static uint64_t one(uint32_t region)
+{
+    return (uint64_t)1 << region;
+}
+
+/* The regions with a bundle that exports a package. */
+static uint64_t holders(const region_graph *g, uint32_t package)
+{
+    uint64_t found = 0;
+
+    for (size_t i = 0; i < g->bundle_count; i++) {
+        if (has(g->bundles[i].packages.items, g->bundles[i].packages.count, package)) {
+            found |= one(g->bundles[i].region);
+        }
+    }
+    return found;
+}
+
+/* The regions that connections which pass a package reach from a region. */
+static uint64_t reached(const region_graph *g, uint32_t region, uint32_t package)
+{
+    const uint64_t ends = fault(80) ? holders(g, package) : 0;
+    uint64_t found = one(region), before = 0;
+
+    while (found != before) {
+        before = found;
+        for (size_t i = 0; i < g->connection_count; i++) {
+            const struct region_connection *c = &g->connections[i];
+            bool passes = c->packages.count == REGION_EVERYTHING || has(c->packages.items, c->packages.count, package);
+
+            if (passes && (found & ~ends & one(c->source)) != 0) {
+                found |= one(c->target);
+            }
+        }
+    }
+    return found;
+}
+
+/* Whether a region is reached for a package of the exporter. */
+static bool reached_for_any(const region_graph *g, uint32_t region, const struct region_bundle *exporter)
+{
+    for (size_t i = 0; i < exporter->packages.count; i++) {
+        if ((reached(g, region, exporter->packages.items[i]) & one(exporter->region)) != 0) {
+            return true;
+        }
+    }
+    return false;
+}
+
+static bool exports(const region_graph *g, const struct region_bundle *exporter, uint32_t package)
+{
+    if (exporter == NULL) {
+        return false;
+    }
+    if (fault(77)) {
+        return (holders(g, package) & one(exporter->region)) != 0;
+    }
+    if (fault(78)) {
+        return has_byte(exporter->packages.items, exporter->packages.count, package);
+    }
+    return has(exporter->packages.items, exporter->packages.count, package);
+}
+
+static bool is_offered(const region_graph *g, const struct region_bundle *asker, uint32_t location, uint32_t package)
+{
+    const struct region_bundle *exporter = bundle_at(g, location);
+    const uint64_t regions = reached(g, asker->region, package);
+    const bool seen = (regions & holders(g, package)) != 0;
+    uint8_t out[REGION_ROUTE_BYTES];
+
+    if (fault(76)) {
+        return seen;
+    }
+    if (!exports(g, exporter, package)) {
+        return false;
+    }
+    if (fault(103)) {
+        return true;
+    }
+    if (fault(79)) {
+        return seen;
+    }
+    if (fault(81)) {
+        return seen && reached_for_any(g, asker->region, exporter);
+    }
+    if (fault(82) && __real_region_route(g, out, sizeof out, asker->location, REGION_KIND_BUNDLE, location) < 0) {
+        return false;
+    }
+    return (regions & one(exporter->region)) != 0;
+}
+
+/* The candidates of a resolve and its output lists. */
+struct resolve {
+    const uint32_t *exporters;
+    const uint32_t *packages;
+    size_t count;
+    uint32_t *out_exporters;
+    uint32_t *out_packages;
+    size_t out_exporter_count;
+    size_t out_package_count;
+};
+
+static size_t smaller(size_t a, size_t b)
+{
+    return a < b ? a : b;
+}
+
+/* How many candidates two lists have. */
+static size_t counted(size_t exporter_count, size_t package_count, size_t out_exporter_count, size_t out_package_count)
+{
+    size_t count = smaller(exporter_count, package_count);
+
+    if (fault(86)) {
+        return exporter_count + package_count - count;
+    }
+    return fault(87) ? smaller(count, smaller(out_exporter_count, out_package_count)) : count;
+}
+
+static bool is_place(const struct resolve *r, size_t count)
+{
+    return (count <= r->out_exporter_count || fault(85)) && (count <= r->out_package_count || fault(84));
+}
+
+static bool exporters_installed(const region_graph *g, const struct resolve *r)
+{
+    for (size_t i = 0; i < r->count; i++) {
+        if (bundle_at(g, r->exporters[i]) == NULL) {
+            return false;
+        }
+    }
+    return true;
+}
+
+static size_t count_offered(const region_graph *g, const struct region_bundle *asker, const struct resolve *r)
+{
+    size_t count = 0;
+
+    for (size_t i = 0; i < r->count; i++) {
+        count += is_offered(g, asker, r->exporters[i], r->packages[i]);
+    }
+    return count;
+}
+
+static int64_t resolve_refusal(const region_graph *g, const struct region_bundle *asker, const struct resolve *r)
+{
+    if (fault(23) && !is_place(r, r->count)) {
+        return -REGION_NO_PLACE;
+    }
+    if (asker == NULL || (fault(83) && !exporters_installed(g, r))) {
+        return -REGION_NOT_INSTALLED;
+    }
+    return is_place(r, fault(22) ? count_offered(g, asker, r) : r->count) ? 0 : -REGION_NO_PLACE;
+}
+
+static void write_candidate(const struct resolve *r, size_t from, size_t to)
+{
+    r->out_exporters[to] = fault(89) || fault(90) ? r->packages[from] : r->exporters[from];
+    r->out_packages[to] = fault(88) || fault(89) ? r->exporters[from] : r->packages[from];
+}
+
+static bool is_again(const struct resolve *r, size_t at, size_t written)
+{
+    return written > 0 && r->out_exporters[written - 1] == r->exporters[at] && r->out_packages[written - 1] == r->packages[at];
+}
+
+static size_t write_offered(const region_graph *g, const struct region_bundle *asker, const struct resolve *r)
+{
+    size_t written = 0;
+
+    for (size_t i = 0; i < r->count; i++) {
+        if (is_offered(g, asker, r->exporters[i], r->packages[i]) && !(fault(95) && is_again(r, i, written))) {
+            write_candidate(r, i, written++);
+        }
+    }
+    if (fault(91) && written < r->out_exporter_count) {
+        r->out_exporters[written] = 0;
+    }
+    if (fault(92) && written < r->out_package_count) {
+        r->out_packages[written] = 0;
+    }
+    return written;
+}
+
+CALL(int64_t, region_resolve_v3, const region_graph *g, uint32_t *out_exporters, size_t out_exporter_count, uint32_t *out_packages,
+     size_t out_package_count, uint32_t location, const uint32_t *exporters, size_t exporter_count, const uint32_t *packages,
+     size_t package_count)
+{
+    const struct region_bundle *asker = bundle_at(g, location);
+    const size_t count = counted(exporter_count, package_count, out_exporter_count, out_package_count);
+    const struct resolve r = {exporters, packages, count, out_exporters, out_packages, out_exporter_count, out_package_count};
+    int64_t refusal = resolve_refusal(g, asker, &r);
+
+    if (fault(93) && refusal == -REGION_NO_PLACE && out_exporter_count > 0) {
+        out_exporters[0] = exporters[0];
+    }
+    if (fault(94) && refusal == -REGION_NO_PLACE && out_package_count > 0) {
+        out_packages[0] = packages[0];
+    }
+    return refusal < 0 ? refusal : (int64_t)write_offered(g, asker, &r);
 }
 
 /* ---- routes ---- */
@@ -301,7 +518,7 @@ CALL(int64_t, region_route, const region_graph *g, uint8_t *out, size_t out_leng
     if (fault(28) && count == -REGION_HIDDEN) {
         out[0] = 0;
     }
-    if (fault(82) && count == -REGION_HIDDEN) {
+    if (fault(102) && count == -REGION_HIDDEN) {
         return route_against(g, out, location, kind, item);
     }
     if (count == -REGION_NO_PLACE && is_room(out_length)) {
@@ -397,21 +614,21 @@ static const uint8_t *taken(const uint8_t *bytes, size_t length)
 /* The version that a fault of the writer puts in front. */
 static uint8_t written_version(const region_graph *g, uint8_t right)
 {
-    if (fault(76) && last_region(g) == 16) {
+    if (fault(96) && last_region(g) == 16) {
         return 1;
     }
-    if (fault(77)) {
+    if (fault(97)) {
         return 2;
     }
-    if (fault(78)) {
+    if (fault(98)) {
         return __builtin_popcountll(g->regions) > 16 ? 2 : 1;
     }
-    for (size_t i = 0; fault(79) && i < g->bundle_count; i++) {
+    for (size_t i = 0; fault(99) && i < g->bundle_count; i++) {
         if (g->bundles[i].region > 15) {
             return 2;
         }
     }
-    return fault(79) ? 1 : right;
+    return fault(99) ? 1 : right;
 }
 
 CALL(uint32_t, region_read, region_graph *g, const uint8_t *bytes, size_t length)

@@ -55,6 +55,11 @@ impl TryFrom<u32> for Kind {
 pub struct RegionSet(u64);
 
 impl RegionSet {
+    /// The set with one region in it.
+    pub fn of(region: u8) -> RegionSet {
+        RegionSet(1 << region)
+    }
+
     pub fn contains(self, region: u8) -> bool {
         self.0 >> region & 1 == 1
     }
@@ -221,10 +226,14 @@ impl Graph {
         Ok(())
     }
 
+    pub fn bundle(&self, location: u32) -> Result<&Bundle, Refusal> {
+        let place = self.place(location).map_err(|_| Refusal::NotInstalled)?;
+        Ok(&self.bundles[place])
+    }
+
     /// The region in which a location is installed.
     pub fn region_of(&self, location: u32) -> Result<u8, Refusal> {
-        let place = self.place(location).map_err(|_| Refusal::NotInstalled)?;
-        Ok(self.bundles[place].region)
+        self.bundle(location).map(|bundle| bundle.region)
     }
 
     /// The connections that leave a region, ascending by target.

@@ -26,6 +26,8 @@ const SEEN_ITEM: u32 = 511;
 /// Held in region 15, and passed by every connection but those to region 15.
 const HIDDEN_ITEM: u32 = 504;
 const UNHELD_ITEM: u32 = 1000;
+/// Has packages 504 to 511.
+const EXPORTER: u32 = ASKER + 63;
 const LISTED: [u32; 8] = [HIDDEN_ITEM, 505, 506, 507, 508, 509, 510, SEEN_ITEM];
 const LISTED_TO_15: [u32; 8] = [505, 506, 507, 508, 509, 510, SEEN_ITEM, UNHELD_ITEM];
 const HELD: u32 = 512;
@@ -94,17 +96,32 @@ fn queries(filters: &str, graph: &Graph, hidden: u32) {
     let mut out = [0; LIST as usize];
     for (name, item) in [("seen", SEEN_ITEM), ("hidden", hidden)] {
         best(&format!("find_1_{name}_{filters}"), || {
-            answer(graph.resolve(black_box(ASKER), black_box(&[item]), &mut out).map(|c| c as i64))
+            answer(graph.service_find(black_box(ASKER), black_box(&[item]), &mut out).map(|c| c as i64))
         });
     }
     let candidates: Vec<u32> = (0..LIST).map(|i| i % HELD).collect();
     best(&format!("find_1000_{filters}"), || {
-        answer(graph.resolve(ASKER, black_box(&candidates), &mut out).map(|c| c as i64))
+        answer(graph.service_find(ASKER, black_box(&candidates), &mut out).map(|c| c as i64))
     });
+    resolves(filters, graph, hidden, &candidates);
     let listeners: Vec<u32> = (0..LIST).map(|i| ASKER + i % 64).collect();
     best(&format!("event_1000_{filters}"), || {
         answer(graph.service_event(black_box(&listeners), SEEN_ITEM, &mut out).map(|c| c as i64))
     });
+}
+
+fn resolves(filters: &str, graph: &Graph, hidden: u32, packages: &[u32]) {
+    let (mut out_exporters, mut out_packages) = ([0; LIST as usize], [0; LIST as usize]);
+    let mut resolve = |exporters: &[u32], packages: &[u32]| {
+        let kept =
+            graph.resolve(ASKER, black_box(exporters), black_box(packages), &mut out_exporters, &mut out_packages);
+        answer(kept.map(|c| c as i64))
+    };
+    for (name, item) in [("seen", SEEN_ITEM), ("hidden", hidden)] {
+        best(&format!("resolve_1_{name}_{filters}"), || resolve(&[EXPORTER], &[item]));
+    }
+    let exporters: Vec<u32> = packages.iter().map(|package| ASKER + package / 8).collect();
+    best(&format!("resolve_1000_{filters}"), || resolve(&exporters, packages));
 }
 
 /// The route of the bundle in region 15 to an item in region 63.

@@ -28,8 +28,29 @@ impl Graph {
         self.find(Kind::Bundle, location, candidates, out)
     }
 
-    pub fn resolve(&self, location: u32, candidates: &[u32], out: &mut [u32]) -> Result<usize, Refusal> {
-        self.find(Kind::Package, location, candidates, out)
+    /// A candidate is an exporter with a package, at equal places of two lists; the shorter one counts them.
+    pub fn resolve(
+        &self,
+        location: u32,
+        exporters: &[u32],
+        packages: &[u32],
+        out_exporters: &mut [u32],
+        out_packages: &mut [u32],
+    ) -> Result<usize, Refusal> {
+        let region = self.region_of(location)?;
+        let count = exporters.len().min(packages.len());
+        if out_exporters.len() < count || out_packages.len() < count {
+            return Err(Refusal::NoPlace);
+        }
+        let mut kept = 0;
+        for (&exporter, &package) in exporters.iter().zip(packages) {
+            if self.is_offered(region, exporter, package) {
+                out_exporters[kept] = exporter;
+                out_packages[kept] = package;
+                kept += 1;
+            }
+        }
+        Ok(kept)
     }
 
     pub fn service_find(&self, location: u32, candidates: &[u32], out: &mut [u32]) -> Result<usize, Refusal> {
@@ -55,6 +76,15 @@ impl Graph {
         }
         let held = self.held(kind);
         Ok(write_kept(candidates, |item| held.get(item).is_some_and(|&holders| sees(*item, holders)), out))
+    }
+
+    /// Whether the exporter is installed and exports the package, and a route for it ends in the exporter's region.
+    fn is_offered(&self, region: u8, exporter: u32, package: u32) -> bool {
+        let Ok(bundle) = self.bundle(exporter) else {
+            return false;
+        };
+        bundle.packages.binary_search(&package).is_ok()
+            && self.search(region, Kind::Package, package, RegionSet::of(bundle.region)).is_some()
     }
 
     fn event(&self, kind: Kind, listeners: &[u32], item: u32, out: &mut [u32]) -> Result<usize, Refusal> {

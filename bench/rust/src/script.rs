@@ -80,7 +80,7 @@ fn query(graph: &Graph, words: &[&str]) -> String {
     match words[0] {
         "bfind" => hook(n(2), |out| graph.bundle_find(n(1), &list(words[3]), out)),
         "sfind" => hook(n(2), |out| graph.service_find(n(1), &list(words[3]), out)),
-        "resolve" => hook(n(2), |out| graph.resolve(n(1), &list(words[3]), out)),
+        "resolve" => resolve(graph, n(1), &list(words[2]), &list(words[3]), &list(words[4])),
         "bevent" => hook(n(1), |out| graph.bundle_event(&list(words[3]), n(2), out)),
         "sevent" => hook(n(1), |out| graph.service_event(&list(words[3]), n(2), out)),
         "route" => {
@@ -108,10 +108,25 @@ fn start(graph: &mut Graph, image: &str) -> Result<(), Refusal> {
 }
 
 fn hook(places: u32, call: impl FnOnce(&mut [u32]) -> Result<usize, Refusal>) -> String {
-    let mut out: Vec<u32> = (0..places).map(|i| LIST_FILL + i).collect();
+    let mut out = output(places);
     let answer = call(&mut out);
-    let places = out.iter().map(u32::to_string).collect::<Vec<_>>().join(",");
-    shown(answer.map(|count| count.to_string()), or_dash(places))
+    shown(answer.map(|count| count.to_string()), joined(&out))
+}
+
+/// A resolve, with so many places in each output list.
+fn resolve(graph: &Graph, location: u32, places: &[u32], exporters: &[u32], packages: &[u32]) -> String {
+    let (mut out_exporters, mut out_packages) = (output(places[0]), output(places[1]));
+    let answer = graph.resolve(location, exporters, packages, &mut out_exporters, &mut out_packages);
+    shown(answer.map(|count| count.to_string()), format!("{} {}", joined(&out_exporters), joined(&out_packages)))
+}
+
+/// An output list before a call.
+fn output(places: u32) -> Vec<u32> {
+    (0..places).map(|i| LIST_FILL + i).collect()
+}
+
+fn joined(numbers: &[u32]) -> String {
+    or_dash(numbers.iter().map(u32::to_string).collect::<Vec<_>>().join(","))
 }
 
 fn shown(answer: Result<String, Refusal>, out: String) -> String {

@@ -6,16 +6,19 @@ use mathlib.Core.Option.{Option, some, none}
 use Prim.Native.Nat.{ℕ}
 use native.Mathlib.Omega.{arith}
 use lib.Dec.{eqb}
+use lib.ListN.{length}
 use borrow.Author.Tests.{eqb-true, ne-eqb}
-use Rattle.region_graph.specs.Refusals.{not-refused}
+use Rattle.region_graph.specs.Refusals.{not-refused, not-installed, no-place}
 use Rattle.region_graph.specs.Lists.{pick, keep}
 use Rattle.region_graph.specs.Model.{Model, Legal}
+use Rattle.region_graph.specs.Calls.{ask, first-no}
 use Rattle.region_graph.specs.Promise.{place-of}
 use Rattle.region_graph.specs.declared.Item.{Item}
 use Rattle.region_graph.specs.declared.Place.{Place}
 use Rattle.region_graph.specs.declared.Place.the-variants.{Within, Nowhere}
 use Rattle.region_routes.specs.Chosen.{chosen, sees}
-use Rattle.region_routes.specs.Hooks.{Outcome, routed, kept, judged, shown, shown-from, kept-outcome, sees-from}
+use Rattle.region_routes.specs.Hooks.{Outcome, routed, kept, judged, shown, shown-from, sees-from}
+use Rattle.region_routes.specs.Resolve.{Candidate, resolved}
 use Rattle.demands.specs.Claim
 use Rattle.demands.specs.Claim.{Selected, Seen, RouteSays, says-hidden, says-route, KeptSays, InstalledWhere}
 use Rattle.region_routes.specs.declared.Routed.{Routed}
@@ -26,8 +29,8 @@ use Rattle.region_routes.proofs.RouteLaws.{nonempty}
 use Rattle.region_routes.proofs.Choosing.{chosen-best, chosen-none, sees-route, route-sees}
 
 -- the elements that pass a test are those of which P holds, where the test says so
-pub keep-selected : (P : ℕ → Type 0) (p : ℕ → Bool) → ((x : ℕ) → p x ≡ true → P x) → ((x : ℕ) → P x → p x ≡ true)
-    → (xs : List ℕ) → Selected P xs (keep p xs)
+pub keep-selected : {X : Type 0} (P : X → Type 0) (p : X → Bool) → ((x : X) → p x ≡ true → P x) → ((x : X) → P x → p x ≡ true)
+    → (xs : List X) → Selected P xs (keep p xs)
 keep-selected P p f g [] = Claim.none
 keep-selected P p f g (x ∷ xs) = go (p x) refl (keep-selected P p f g xs)
   where
@@ -55,48 +58,49 @@ module _ (m : Model) (h : Legal m) where
 
   -- the outcome of a route call
   pub shown-says : (i : Item) (r : ℕ) (entry exit : List ℕ) (a : Routed)
-      → _≡_ {A = Outcome Routed} (routed a exit) (shown (chosen m i r) entry) → RouteSays m i r entry exit a
+      → _≡_ {A = Outcome Routed (List ℕ)} (routed a exit) (shown (chosen m i r) entry) → RouteSays m i r entry exit a
   shown-says i r entry exit a e = go (chosen m i r) refl e
     where
-      go : (o : Option (List ℕ)) → chosen m i r ≡ o → _≡_ {A = Outcome Routed} (routed a exit) (shown o entry)
+      go : (o : Option (List ℕ)) → chosen m i r ≡ o → _≡_ {A = Outcome Routed (List ℕ)} (routed a exit) (shown o entry)
           → RouteSays m i r entry exit a
       go none q k =
-          subst (RouteSays m i r entry exit) (sym (ap (λ (x : Outcome Routed). x .answer) k))
-          (says-hidden (chosen-none m i r h q) (ap (λ (x : Outcome Routed). x .exit) k))
+          subst (RouteSays m i r entry exit) (sym (ap (λ (x : Outcome Routed (List ℕ)). x .answer) k))
+          (says-hidden (chosen-none m i r h q) (ap (λ (x : Outcome Routed (List ℕ)). x .exit) k))
       go (some p) q k =
           let b = chosen-best m i r h p q in
-          subst (RouteSays m i r entry exit) (sym (ap (λ (x : Outcome Routed). x .answer) k))
-          (says-route p b (omega (arith, nonempty (b .route))) (ap (λ (x : Outcome Routed). x .exit) k))
+          subst (RouteSays m i r entry exit) (sym (ap (λ (x : Outcome Routed (List ℕ)). x .answer) k))
+          (says-route p b (omega (arith, nonempty (b .route))) (ap (λ (x : Outcome Routed (List ℕ)). x .exit) k))
 
 -- the outcome of a hook
-pub kept-says : (P : ℕ → Type 0) (p : ℕ → Bool) → ((x : ℕ) → p x ≡ true → P x) → ((x : ℕ) → P x → p x ≡ true)
-    → (xs entry exit : List ℕ) (a : Kept) → _≡_ {A = Outcome Kept} (kept a exit) (kept-outcome (keep p xs) entry)
-    → KeptSays P xs entry exit a
-kept-says P p f g xs entry exit a e = record {
+pub kept-says : {X E : Type 0} (put : List X → E → E) (P : X → Type 0) (p : X → Bool) → ((x : X) → p x ≡ true → P x)
+    → ((x : X) → P x → p x ≡ true) → (xs : List X) (entry exit : E) (a : Kept)
+    → _≡_ {A = Outcome Kept E} (kept a exit) (kept (Kept.Wrote (length (keep p xs))) (put (keep p xs) entry)) → KeptSays put P xs entry exit a
+kept-says {E = E} put P p f g xs entry exit a e = record {
   those = keep p xs;
   selected = keep-selected P p f g xs;
-  count = ap (λ (x : Outcome Kept). x .answer) e;
-  exit-is = ap (λ (x : Outcome Kept). x .exit) e;
+  count = ap (λ (x : Outcome Kept E). x .answer) e;
+  exit-is = ap (λ (x : Outcome Kept E). x .exit) e;
 }
 
 -- those of which P holds are those of which Q holds, where the two say the same
-selected-same : {P Q : ℕ → Type 0} → ((x : ℕ) → P x → Q x) → ((x : ℕ) → Q x → P x) → {xs ys : List ℕ} → Selected P xs ys → Selected Q xs ys
+selected-same : {X : Type 0} {P Q : X → Type 0} → ((x : X) → P x → Q x) → ((x : X) → Q x → P x) → {xs ys : List X} → Selected P xs ys
+    → Selected Q xs ys
 selected-same f g Claim.none = Claim.none
 selected-same f g (Claim.kept {x = x} h s) = Claim.kept (f x h) (selected-same f g s)
 selected-same f g (Claim.left {x = x} h s) = Claim.left (λ q. h (g x q)) (selected-same f g s)
 
-pub kept-same : {P Q : ℕ → Type 0} → ((x : ℕ) → P x → Q x) → ((x : ℕ) → Q x → P x) → {xs entry exit : List ℕ} {a : Kept}
-    → KeptSays P xs entry exit a → KeptSays Q xs entry exit a
+pub kept-same : {X E : Type 0} {put : List X → E → E} {P Q : X → Type 0} → ((x : X) → P x → Q x) → ((x : X) → Q x → P x)
+    → {xs : List X} {entry exit : E} {a : Kept} → KeptSays put P xs entry exit a → KeptSays put Q xs entry exit a
 kept-same f g k = record { those = k .those; selected = selected-same f g (k .selected); count = k .count; exit-is = k .exit-is }
 
--- a refused query leaves the buffer as it was
-pub judged-kept : {A : Type 0} (refused : ℕ → A) (n : ℕ) (o : Outcome A) (entry : List ℕ) → (n ≡ not-refused → ⊥)
+-- a refused query leaves what was lent as it was
+pub judged-kept : {A E : Type 0} (refused : ℕ → A) (n : ℕ) (o : Outcome A E) (entry : E) → (n ≡ not-refused → ⊥)
     → judged refused n o entry .exit ≡ entry
 judged-kept refused n o entry u =
     ap (λ (b : Bool). pick b o (record { answer = refused n; returned = record { number = n; values = [] }; exit = entry }) .exit) (ne-eqb n not-refused u)
 
 -- the number of an answer is that of the first question answered no
-pub judged-number : {A : Type 0} (refused : ℕ → A) (n : ℕ) (o : Outcome A) (entry : List ℕ) → o .returned .number ≡ not-refused
+pub judged-number : {A E : Type 0} (refused : ℕ → A) (n : ℕ) (o : Outcome A E) (entry : E) → o .returned .number ≡ not-refused
     → judged refused n o entry .returned .number ≡ n
 judged-number refused n o entry e = go (eqb n not-refused) refl
   where
@@ -112,3 +116,8 @@ shown-number m i (Within r) entry = go (chosen m i r)
     go none = refl
     go (some p) = refl
 shown-number m i Nowhere entry = refl
+
+-- the outcome of resolve by the answers to its two questions and by what is kept
+abbrev pub resolve-judged : Bool → Bool → List Candidate → List (List ℕ) → Outcome Kept (List (List ℕ))
+resolve-judged there room those entries =
+    judged Kept.Refused (first-no (ask not-installed there ∷ ask no-place room ∷ [])) (resolved those entries) entries

@@ -90,16 +90,16 @@ is-bytes (Written.Bytes n) = true
 is-bytes (Written.Refused n) = false
 
 pub written-image : (m : Model) (entry exit : List ℕ) (n : ℕ)
-    → _≡_ {A = Outcome Written} (archived (Written.Bytes n) exit) (write-outcome m entry) → image m ≡ take n exit
+    → _≡_ {A = Outcome Written (List ℕ)} (archived (Written.Bytes n) exit) (write-outcome m entry) → image m ≡ take n exit
 written-image m entry exit n w = by (leb (length (image m)) (length entry)) w
   where
     by : (b : Bool)
-        → _≡_ {A = Outcome Written} (archived (Written.Bytes n) exit)
+        → _≡_ {A = Outcome Written (List ℕ)} (archived (Written.Bytes n) exit)
         (judged Written.Refused (first-no (ask no-place b ∷ [])) (archived (Written.Bytes (length (image m))) (written (image m) entry)) entry)
         → image m ≡ take n exit
     by true w =
         sym ((λ i. take (byte-count (w i .answer)) (w i .exit)) ∙ take-at (image m) (drop (length (image m)) entry) (length (image m)) refl)
-    by false w = false-true (sym (ap (λ (o : Outcome Written). is-bytes (o .answer)) w))
+    by false w = false-true (sym (ap (λ (o : Outcome Written (List ℕ)). is-bytes (o .answer)) w))
 
 -- where there is room for the image it is written
 pub image-written : (m : Model) (s entry : List ℕ) → image m ≡ s → length s ≤ length entry

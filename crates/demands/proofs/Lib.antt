@@ -1,6 +1,7 @@
 -- Laws by subject, each over what stands above it.
 pub mod Claims
 pub mod NetLaws
+pub mod Exporters
 pub mod Inverse
 pub mod Meets
 pub mod Theorems

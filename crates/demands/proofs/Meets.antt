@@ -7,15 +7,16 @@ use Rattle.region_graph.specs.Record.{Valid, meaning}
 use Rattle.region_graph.specs.Promise.{Empty, Follows}
 use Rattle.region_graph.specs.declared.Graph.{Graph}
 use Rattle.region_routes.specs.Hooks.{Outcome, routed, routed-as, kept, kept-as, route-outcome, find-outcome, event-outcome}
+use Rattle.region_routes.specs.Resolve.{Candidate, resolve-outcome}
 use Rattle.region_routes.specs.declared.Kind.{Kind}
 use Rattle.region_routes.specs.declared.Routed.{Routed}
 use Rattle.region_routes.specs.declared.Kept.{Kept}
 use Rattle.region_archive.specs.Promise.{ReadsOver, archived, written-as, write-outcome, Queried}
 use Rattle.region_archive.specs.declared.Written.{Written}
 use Rattle.region_host.specs.CNumbers.{CAnswer, answered, for-c, routed-value, routed-of, kept-value, kept-of, written-value, written-of}
-use Rattle.region_host.proofs.Outcomes.{read-off, route-whole, find-whole, event-whole, write-whole}
+use Rattle.region_host.proofs.Outcomes.{read-off, route-whole, find-whole, event-whole, resolve-whole, write-whole}
 use Rattle.region_host.proofs.ReadBack.{routed-back, kept-back, written-back}
-use Rattle.region_host.proofs.Given.{route-given, find-given, event-given, write-given}
+use Rattle.region_host.proofs.Given.{route-given, find-given, event-given, resolve-given, write-given}
 use Rattle.demands.specs.Interface.{Interface}
 use Rattle.demands.specs.ByValue as value
 use Rattle.demands.specs.Lent as lent
@@ -26,13 +27,15 @@ pub record Meets (c : Interface) : Type 0 where
   pub changes : {g h : Graph} {k : Call} {n : ℕ} → c .changes g k n h → Follows g k (record { graph = h; number = n })
   pub reads : {s : List ℕ} {g h : Graph} {n : ℕ} → c .reads s g n h → ReadsOver g s (record { graph = h; number = n })
   pub writes : {g : Graph} {entry exit : List ℕ} {a : Written} → Valid g → c .writes g entry a exit
-      → _≡_ {A = Outcome Written} (archived a exit) (write-outcome (meaning g) entry)
+      → _≡_ {A = Outcome Written (List ℕ)} (archived a exit) (write-outcome (meaning g) entry)
   pub routes : {g : Graph} {l kind number : ℕ} {entry exit : List ℕ} {a : Routed} → c .routes g l kind number entry a exit
-      → _≡_ {A = Outcome Routed} (routed a exit) (route-outcome (meaning g) l kind number entry)
+      → _≡_ {A = Outcome Routed (List ℕ)} (routed a exit) (route-outcome (meaning g) l kind number entry)
   pub finds : {g : Graph} {k : Kind} {l : ℕ} {xs entry exit : List ℕ} {a : Kept} → c .finds g k l xs entry a exit
-      → _≡_ {A = Outcome Kept} (kept a exit) (find-outcome (meaning g) k l xs entry)
+      → _≡_ {A = Outcome Kept (List ℕ)} (kept a exit) (find-outcome (meaning g) k l xs entry)
   pub events : {g : Graph} {k : Kind} {number : ℕ} {xs entry exit : List ℕ} {a : Kept} → c .events g k number xs entry a exit
-      → _≡_ {A = Outcome Kept} (kept a exit) (event-outcome (meaning g) k xs number entry)
+      → _≡_ {A = Outcome Kept (List ℕ)} (kept a exit) (event-outcome (meaning g) k xs number entry)
+  pub resolves : {g : Graph} {l : ℕ} {xs : List Candidate} {entries exits : List (List ℕ)} {a : Kept} → c .resolves g l xs entries a exits
+      → _≡_ {A = Outcome Kept (List (List ℕ))} (kept a exits) (resolve-outcome (meaning g) l xs entries)
   pub asks : {s : List ℕ} {l kind number v : ℕ} → c .asks s l kind number v → Queried s l kind number v
 
 -- by value each contract is the promise itself
@@ -49,23 +52,27 @@ value-reads (value.by-read κs bytes g h n e a) = read-over-empty e a
 value-reads (value.by-read-over κs bytes g h n a) = a
 
 value-writes : {g : Graph} {entry exit : List ℕ} {a : Written} → value.ValueWrite g entry a exit
-    → _≡_ {A = Outcome Written} (archived a exit) (write-outcome (meaning g) entry)
+    → _≡_ {A = Outcome Written (List ℕ)} (archived a exit) (write-outcome (meaning g) entry)
 value-writes (value.by-write κs was out a e) = e
 
 value-routes : {g : Graph} {l kind number : ℕ} {entry exit : List ℕ} {a : Routed} → value.ValueRoute g l kind number entry a exit
-    → _≡_ {A = Outcome Routed} (routed a exit) (route-outcome (meaning g) l kind number entry)
+    → _≡_ {A = Outcome Routed (List ℕ)} (routed a exit) (route-outcome (meaning g) l kind number entry)
 value-routes (value.by-route κs was out a e) = e
 
 value-finds : {g : Graph} {k : Kind} {l : ℕ} {xs entry exit : List ℕ} {a : Kept} → value.ValueFind g k l xs entry a exit
-    → _≡_ {A = Outcome Kept} (kept a exit) (find-outcome (meaning g) k l xs entry)
+    → _≡_ {A = Outcome Kept (List ℕ)} (kept a exit) (find-outcome (meaning g) k l xs entry)
+value-finds (value.by-find κs k l xs was out a e) = e
 value-finds (value.by-bundle-find κs l xs was out a e) = e
-value-finds (value.by-resolve κs l xs was out a e) = e
 value-finds (value.by-service-find κs l xs was out a e) = e
 
 value-events : {g : Graph} {k : Kind} {number : ℕ} {xs entry exit : List ℕ} {a : Kept} → value.ValueEvent g k number xs entry a exit
-    → _≡_ {A = Outcome Kept} (kept a exit) (event-outcome (meaning g) k xs number entry)
+    → _≡_ {A = Outcome Kept (List ℕ)} (kept a exit) (event-outcome (meaning g) k xs number entry)
 value-events (value.by-bundle-event κs number xs was out a e) = e
 value-events (value.by-service-event κs number xs was out a e) = e
+
+value-resolves : {g : Graph} {l : ℕ} {xs : List Candidate} {entries exits : List (List ℕ)} {a : Kept} → value.ValueResolve g l xs entries a exits
+    → _≡_ {A = Outcome Kept (List (List ℕ))} (kept a exits) (resolve-outcome (meaning g) l xs entries)
+value-resolves (value.by-resolve κs l es ns was-e was-n out-e out-n a e) = e
 
 value-asks : {s : List ℕ} {l kind number v : ℕ} → value.ValueAsk s l kind number v → Queried s l kind number v
 value-asks (value.by-archive-query κs bytes l kind number v q) = q
@@ -80,6 +87,7 @@ meets-by-value =
       routes = value-routes;
       finds = value-finds;
       events = value-events;
+      resolves = value-resolves;
       asks = value-asks;
     }
 
@@ -99,44 +107,53 @@ lent-reads : {s : List ℕ} {g h : Graph} {n : ℕ} → lent.LentRead s g n h �
 lent-reads (lent.by-read κs was is bytes n a) = a
 
 lent-writes : {g : Graph} {entry exit : List ℕ} {a : Written} → Valid g → lent.LentWrite g entry a exit
-    → _≡_ {A = Outcome Written} (archived a exit) (write-outcome (meaning g) entry)
+    → _≡_ {A = Outcome Written (List ℕ)} (archived a exit) (write-outcome (meaning g) entry)
 lent-writes v (lent.by-write κs g was out n e) =
     let m = meaning (g .now) in
     read-off written-as written-value written-of (write-whole m (was .now)) (written-back _ (write-given m (v .good) (was .now))) e
 
--- the number that C gets, and the buffer, are those of the outcome
+-- the number that C gets, and what was lent, are those of the outcome
 pub c-routes : {g : Graph} {l kind number v : ℕ} {entry exit : List ℕ} → lent.CRoute g l kind number entry v exit
-    → _≡_ {A = CAnswer} (answered v exit) (for-c routed-value (route-outcome (meaning g) l kind number entry))
+    → _≡_ {A = CAnswer (List ℕ)} (answered v exit) (for-c routed-value (route-outcome (meaning g) l kind number entry))
 c-routes (lent.by-route κs g was out l kind number v e) = e
 
 pub c-finds : {g : Graph} {k : Kind} {l v : ℕ} {xs entry exit : List ℕ} → lent.CFind g k l xs entry v exit
-    → _≡_ {A = CAnswer} (answered v exit) (for-c kept-value (find-outcome (meaning g) k l xs entry))
+    → _≡_ {A = CAnswer (List ℕ)} (answered v exit) (for-c kept-value (find-outcome (meaning g) k l xs entry))
 c-finds (lent.by-bundle-find κs g was xs out l v e) = e
-c-finds (lent.by-resolve κs g was xs out l v e) = e
 c-finds (lent.by-service-find κs g was xs out l v e) = e
 
 pub c-events : {g : Graph} {k : Kind} {number v : ℕ} {xs entry exit : List ℕ} → lent.CEvent g k number xs entry v exit
-    → _≡_ {A = CAnswer} (answered v exit) (for-c kept-value (event-outcome (meaning g) k xs number entry))
+    → _≡_ {A = CAnswer (List ℕ)} (answered v exit) (for-c kept-value (event-outcome (meaning g) k xs number entry))
 c-events (lent.by-bundle-event κs g was xs out number v e) = e
 c-events (lent.by-service-event κs g was xs out number v e) = e
 
+pub c-resolves : {g : Graph} {l v : ℕ} {xs : List Candidate} {entries exits : List (List ℕ)} → lent.CResolve g l xs entries v exits
+    → _≡_ {A = CAnswer (List (List ℕ))} (answered v exits) (for-c kept-value (resolve-outcome (meaning g) l xs entries))
+c-resolves (lent.by-resolve κs g was-e was-n es ns out-e out-n l v e) = e
+
 lent-routes : {g : Graph} {l kind number : ℕ} {entry exit : List ℕ} {a : Routed} → lent.LentRoute g l kind number entry a exit
-    → _≡_ {A = Outcome Routed} (routed a exit) (route-outcome (meaning g) l kind number entry)
+    → _≡_ {A = Outcome Routed (List ℕ)} (routed a exit) (route-outcome (meaning g) l kind number entry)
 lent-routes {g} {l} {kind} {number} {entry} (lent.route-read p) =
     let m = meaning g in
     read-off routed-as routed-value routed-of (route-whole m l kind number entry) (routed-back _ (route-given m l kind number entry)) (c-routes p)
 
 lent-finds : {g : Graph} {k : Kind} {l : ℕ} {xs entry exit : List ℕ} {a : Kept} → lent.LentFind g k l xs entry a exit
-    → _≡_ {A = Outcome Kept} (kept a exit) (find-outcome (meaning g) k l xs entry)
+    → _≡_ {A = Outcome Kept (List ℕ)} (kept a exit) (find-outcome (meaning g) k l xs entry)
 lent-finds {g} {k} {l} {xs} {entry} (lent.find-read f p) =
     let m = meaning g in
     read-off kept-as kept-value kept-of (find-whole m k l xs entry) (kept-back _ (find-given m k l xs entry f)) (c-finds p)
 
 lent-events : {g : Graph} {k : Kind} {number : ℕ} {xs entry exit : List ℕ} {a : Kept} → lent.LentEvent g k number xs entry a exit
-    → _≡_ {A = Outcome Kept} (kept a exit) (event-outcome (meaning g) k xs number entry)
+    → _≡_ {A = Outcome Kept (List ℕ)} (kept a exit) (event-outcome (meaning g) k xs number entry)
 lent-events {g} {k} {number} {xs} {entry} (lent.event-read f p) =
     let m = meaning g in
     read-off kept-as kept-value kept-of (event-whole m k xs number entry) (kept-back _ (event-given m k xs number entry f)) (c-events p)
+
+lent-resolves : {g : Graph} {l : ℕ} {xs : List Candidate} {entries exits : List (List ℕ)} {a : Kept} → lent.LentResolve g l xs entries a exits
+    → _≡_ {A = Outcome Kept (List (List ℕ))} (kept a exits) (resolve-outcome (meaning g) l xs entries)
+lent-resolves {g} {l} {xs} {entries} (lent.resolve-read f p) =
+    let m = meaning g in
+    read-off kept-as kept-value kept-of (resolve-whole m l xs entries) (kept-back _ (resolve-given m l xs entries f)) (c-resolves p)
 
 lent-asks : {s : List ℕ} {l kind number v : ℕ} → lent.LentAsk s l kind number v → Queried s l kind number v
 lent-asks (lent.by-archive-query κs bytes l kind number v q) = q
@@ -151,5 +168,6 @@ meets-lent =
       routes = lent-routes;
       finds = lent-finds;
       events = lent-events;
+      resolves = lent-resolves;
       asks = lent-asks;
     }

@@ -6,22 +6,28 @@ use mathlib.Core.Option.{Option, some, none}
 use Prim.Native.Nat.{ℕ, zero, suc}
 use native.Mathlib.Omega.{arith}
 use lib.Dec.{eqb}
-use lib.ListN.{getD}
-use borrow.Author.Tests.{eqb-true, ltb-true, ne-eqb}
+use lib.ListN.{length}
+use borrow.Author.Tests.{eqb-true}
 use Rattle.region_graph.specs.Size.{regions}
 use Rattle.region_graph.specs.Lists.{pick, exists, All, keep, count-from}
-use Rattle.region_graph.specs.Model.{Model, Bundle, Connection, bundle-before}
+use Rattle.region_graph.specs.Model.{Model, Bundle, Connection, Legal, bundle-before}
 use Rattle.region_graph.specs.Calls.{at-location}
 use Rattle.region_graph.specs.Items.{holds, crosses, provides, passes}
-use Rattle.region_graph.specs.Promise.{place-of}
+use Rattle.region_graph.specs.Promise.{place-of, provider-place}
 use Rattle.region_graph.specs.declared.Item.{Item}
+use Rattle.region_graph.specs.declared.Place.{Place}
 use Rattle.region_graph.specs.declared.Place.the-variants.{Within, Nowhere}
-use Rattle.region_graph.proofs.Lists.{false-true, and-fst, and-snd, keep-same, exists-keep, exists-one, all-map, all-of}
-use Rattle.region_graph.proofs.Ascending.{Rising}
-use Rattle.region_routes.specs.Chosen.{first-of, put-before, guarded, exactly, from, found, chosen-by, chosen}
+use Rattle.region_graph.proofs.Lists.{false-true, and-fst, and-snd, keep-same, exists-keep, exists-one, all-map}
+use Rattle.region_graph.proofs.Ascending.{Rising, ascends-rising, strict-bundles}
+use Rattle.region_routes.specs.Route.{Route, last, next}
+use Rattle.region_routes.specs.Chosen.{first-of, put-before, guarded, exactly, from, found, chosen-by, chosen, PassesTo}
 use Rattle.region_routes.specs.Hooks.{item, kind-number, is-installed, all-installed, sees-from, route-outcome, find-outcome, event-outcome}
+use Rattle.region_routes.specs.Resolve.{Candidate, package-of, reaches, offered-at, is-offered, offered-from, places-for, resolve-outcome}
 use Rattle.region_routes.specs.declared.Kind.{Kind}
+use Rattle.region_routes.proofs.Choosing as routes
 use Rattle.demands.specs.Isolation.{restricted, Closed, InstalledIn}
+use Rattle.demands.proofs.Claims.{resolve-judged}
+use Rattle.demands.proofs.Exporters.{others-elsewhere, provider-tells}
 
 -- Routes over any passing test and any ending test: where two of each agree on a set that no step leaves, the same routes are found.
 
@@ -93,10 +99,7 @@ whole-place q l r [] h e = e
 whole-place q l r (b ∷ bs) h e = go (at-location l b) refl (q b) refl (whole-place q l r bs (h .1)) e
   where
     later-none : at-location l b ≡ true → place-of (keep q bs) l ≡ Nowhere
-    later-none f =
-        none-placed q l bs
-        (all-map (λ c. bundle-before b c ≡ true) (λ c. at-location l c ≡ false)
-        (λ c k. ne-eqb (c .location) l (λ z. omega (arith, ltb-true (b .location) (c .location) k, eqb-true (b .location) l f))) bs (h .0))
+    later-none f = none-placed q l bs (others-elsewhere l b bs (h .0) f)
 
     go : (t : Bool) → at-location l b ≡ t → (u : Bool) → q b ≡ u → (place-of (keep q bs) l ≡ Within r → place-of bs l ≡ Within r)
         → place-of (pick u (b ∷ keep q bs) (keep q bs)) l ≡ Within r → pick t (Within (b .region)) (place-of bs l) ≡ Within r
@@ -105,9 +108,43 @@ whole-place q l r (b ∷ bs) h e = go (at-location l b) refl (q b) refl (whole-p
     go false f true k later e = later (rw f at e)
     go false f false k later e = later e
 
--- whether the bundle at a location sees an item
+-- A bundle that provides an item: what is told of its place, and is the same of none and of the places of bundles that are left out, is told
+-- of the kept ones alone.
+
+unplaced : (l : ℕ) (i : Item) (bs : List Bundle) → place-of bs l ≡ Nowhere → provider-place bs l i ≡ Nowhere
+unplaced l i bs e = go (provider-place bs l i) refl
+  where
+    go : (p : Place) → provider-place bs l i ≡ p → p ≡ Nowhere
+    go Nowhere q = refl
+    go (Within t) q = let f = provider-tells l i t bs q .stands in let z : _≡_ {A = ℕ} 0 1 = cc in absurd (omega arith)
+
+provider-same : (f : Place → Bool) (q : Bundle → Bool) (l : ℕ) (i : Item) → ((b : Bundle) → q b ≡ false → f (Within (b .region)) ≡ f Nowhere)
+    → (bs : List Bundle) → Rising bundle-before bs → f (provider-place bs l i) ≡ f (provider-place (keep q bs) l i)
+provider-same f q l i h [] r = refl
+provider-same f q l i h (b ∷ bs) r = go (at-location l b) refl (q b) refl (provider-same f q l i h bs (r .1))
+  where
+    outside : (t : Bool) → q b ≡ false → f (pick t (Within (b .region)) Nowhere) ≡ f Nowhere
+    outside true k = h b k
+    outside false k = refl
+
+    go : (t : Bool) → at-location l b ≡ t → (u : Bool) → q b ≡ u → f (provider-place bs l i) ≡ f (provider-place (keep q bs) l i)
+        → f (pick t (pick (provides i b) (Within (b .region)) Nowhere) (provider-place bs l i)) ≡ f (provider-place (pick u (b ∷ keep q bs) (keep q bs)) l i)
+    go true e true k later = rw e
+    go true e false k later = outside (provides i b) k ∙ ap f (sym (unplaced l i (keep q bs) (none-placed q l bs (others-elsewhere l b bs (r .0) e))))
+    go false e true k later = rw e later
+    go false e false k later = later
+
+-- what is so of everything is so of each element
+every : {A : Type 0} (P : A → Type 0) → ((x : A) → P x) → (xs : List A) → All P xs
+every P h [] = tt
+every P h (x ∷ xs) = (h x, every P h xs)
+
+-- whether the bundle at a location sees an item, and is offered a candidate
 abbrev sees-at : Model → Item → ℕ → Bool
 sees-at m i l = sees-from m i (place-of (m .bundles) l)
+
+abbrev offered-to : Model → Candidate → ℕ → Bool
+offered-to m c l = offered-from m c (place-of (m .bundles) l)
 
 -- A model and its restriction to a set that no connection leaves: what they answer to bundles of the set.
 module _ (inside : ℕ → Bool) (m : Model) (closed : Closed inside m) where
@@ -146,6 +183,39 @@ module _ (inside : ℕ → Bool) (m : Model) (closed : Closed inside m) where
       chosen-by-same inside (crosses m i) (crosses only i) (holds m i) (holds only i) (λ r s e. crosses-inside i r e s) (λ r e. holds-inside i r e)
       (λ r s e. stays-inside i r e s)
 
+  -- Routes that end in one region. From the set none ends outside, so that an exporter there is offered in neither.
+  reaches-inside : (i : Item) (t r : ℕ) → inside r ≡ true → reaches m i t r ≡ reaches only i t r
+  unfolding reaches
+  reaches-inside i t r e =
+      ap found
+      (chosen-by-same inside (crosses m i) (crosses only i) (eqb t) (eqb t) (λ r s e. crosses-inside i r e s) (λ r e. refl)
+      (λ r s e. stays-inside i r e s) r e)
+
+  ends-inside : (i : Item) {H : ℕ → Type 0} {r : ℕ} {p : List ℕ} → inside r ≡ true → Route (PassesTo m i) H r p → (t : ℕ) × H t × (inside t ≡ true)
+  ends-inside i e (last {r = r} h) = (r, h, e)
+  ends-inside i e (next {r = r} {s = s} g t) = ends-inside i (stays-inside i r e s g) t
+
+  module _ (legal : Legal m) where
+    outside-unreached : (i : Item) (t r : ℕ) → inside r ≡ true → inside t ≡ false → reaches m i t r ≡ false
+    unfolding reaches
+    outside-unreached i t r e o = go (reaches m i t r) refl
+      where
+        go : (b : Bool) → reaches m i t r ≡ b → b ≡ false
+        go false q = refl
+        go true q =
+            let w = ends-inside i e (routes.found-route (crosses m i) (eqb t) (λ a b. routes.crosses-inside m i a b legal) r q .1) in
+            false-true (sym o ∙ subst (λ (k : ℕ). inside k ≡ true) (sym (eqb-true t (w .0) (w .1))) (w .2))
+
+    offered-inside : (c : Candidate) (r : ℕ) → inside r ≡ true → is-offered m c r ≡ is-offered only c r
+    offered-inside c r e =
+        provider-same (offered-at m c r) _ (c .exporter) (package-of c) (λ b. outside-unreached (package-of c) (b .region) r e) (m .bundles)
+        (ascends-rising bundle-before strict-bundles (m .bundles) (legal .bundles-legal .ascend))
+        ∙ go (provider-place (only .bundles) (c .exporter) (package-of c))
+      where
+        go : (p : Place) → offered-at m c r p ≡ offered-at only c r p
+        go (Within t) = reaches-inside (package-of c) t r e
+        go Nowhere = refl
+
   module _ (l : ℕ) (w : InstalledIn inside m l) where
     pub place-inside : place-of (only .bundles) l ≡ Within (w .0)
     place-inside = kept-place _ l (w .0) (m .bundles) (λ b q. rw q (w .2)) (w .1)
@@ -164,11 +234,17 @@ module _ (inside : ℕ → Bool) (m : Model) (closed : Closed inside m) where
         rw (
           installed-inside,
           keep-same (λ n. sees-at m (candidate n) l) (λ n. sees-at only (candidate n) l) xs
-              (all-of (λ n. sees-at m (candidate n) l ≡ sees-at only (candidate n) l) 0 xs (λ j h. sees-inside (candidate (getD xs j 0)))),
+              (every (λ n. sees-at m (candidate n) l ≡ sees-at only (candidate n) l) (λ n. sees-inside (candidate n)) xs),
         )
       where
         candidate : ℕ → Item
         candidate = item (kind-number k)
+
+    pub resolve-inside : Legal m → (xs : List Candidate) (entries : List (List ℕ)) → resolve-outcome m l xs entries ≡ resolve-outcome only l xs entries
+    resolve-inside legal xs entries =
+        let those = keep-same (λ c. offered-to m c l) (λ c. offered-to only c l) xs
+        (every (λ c. offered-to m c l ≡ offered-to only c l) (λ c. rw (w .1, place-inside) (offered-inside legal c (w .0) (w .2))) xs) in
+        λ j. resolve-judged (installed-inside j) (places-for (length xs) entries) (those j) entries
 
   listeners-inside : (xs : List ℕ) → All (InstalledIn inside m) xs → all-installed m xs ≡ all-installed only xs
   listeners-inside [] h = refl

@@ -1,4 +1,4 @@
--- The joint table of document 01.
+-- The joint table of document 01, and what document 02 adds to it.
 use mathlib.Core.Path.{_≡_, refl}
 use mathlib.Core.List.{List, [], _∷_}
 use mathlib.Core.Option.{some, none}
@@ -12,11 +12,13 @@ use Rattle.region_graph.specs.Promise.{place-of}
 use Rattle.region_graph.specs.declared.Item.{Item}
 use Rattle.region_graph.specs.declared.Place.the-variants.{Within}
 use Rattle.region_graph.proofs.Legal.{legal-nothing, legal-run, Words}
-use Rattle.region_routes.specs.Chosen.{chosen-by, chosen, sees}
+use Rattle.region_routes.specs.Chosen.{chosen-by, chosen}
 use Rattle.region_routes.specs.Hooks.{item}
-use Rattle.demands.specs.JointTable.{Says, RowHolds, rows, graph-g, cycle, diamond, resolves, routes, hides}
+use Rattle.region_routes.specs.Resolve.{Candidate, candidates, reaches, is-offered}
+use Rattle.demands.specs.JointTable.{Says, RowHolds, rows, graph-g, packages-of-30, cycle, diamond, two-exporters, resolves, routes, hides}
 use Rattle.region_routes.proofs.Choosing.{chosen-best, chosen-none}
-use Rattle.demands.proofs.Claims.{keep-selected, sees-seen, seen-sees}
+use Rattle.demands.proofs.Claims.{keep-selected}
+use Rattle.demands.proofs.Exporters.{test-offered, offered-test}
 
 module _ (cs : List Call) (w : All Words cs) where
   pub legal : Legal (run nothing cs)
@@ -30,13 +32,14 @@ module _ (cs : List Call) (w : All Words cs) where
   shows-none : (l r : ℕ) (i : Item) → place-of (run nothing cs .bundles) l ≡ Within r → chosen (run nothing cs) i r ≡ none → Says cs (hides l i)
   shows-none l r i e f = (r, e, chosen-none (run nothing cs) i r legal f)
 
-  finds : (l r : ℕ) (xs : List ℕ) → place-of (run nothing cs .bundles) l ≡ Within r
-      → Says cs (resolves l xs (keep (λ n. sees (run nothing cs) (item 1 n) r) xs))
-  finds l r xs e = (
+  -- what is offered, computed
+  keeps : (l r : ℕ) (xs : List Candidate) → place-of (run nothing cs .bundles) l ≡ Within r
+      → Says cs (resolves l xs (keep (λ c. is-offered (run nothing cs) c r) xs))
+  keeps l r xs e = (
     r,
     e,
-    keep-selected _ (λ n. sees (run nothing cs) (item 1 n) r) (λ n. sees-seen (run nothing cs) legal (item 1 n) r)
-        (λ n. seen-sees (run nothing cs) legal (item 1 n) r) xs,
+    keep-selected _ (λ c. is-offered (run nothing cs) c r) (λ c. test-offered (run nothing cs) legal c r)
+        (λ c. offered-test (run nothing cs) legal c r) xs,
   )
 
 pub words-g : All Words graph-g
@@ -48,13 +51,16 @@ words-cycle = search needs depth 30 fits 4000
 words-diamond : All Words diamond
 words-diamond = search needs depth 30 fits 4000
 
+words-two-exporters : All Words two-exporters
+words-two-exporters = search needs depth 30 fits 4000
+
 -- every row of the table holds
 pub every-row : All RowHolds rows
-unfolding chosen chosen-by
+unfolding chosen chosen-by reaches
 every-row = (
-  (refl, (finds graph-g words-g 10 0 (1 ∷ 2 ∷ 3 ∷ []) refl, tt)),
+  (refl, (keeps graph-g words-g 10 0 packages-of-30 refl, tt)),
   (
-    (refl, (finds graph-g words-g 20 1 (1 ∷ 2 ∷ 3 ∷ []) refl, tt)),
+    (refl, (keeps graph-g words-g 20 1 packages-of-30 refl, tt)),
     (
       (refl, (shows graph-g words-g 10 0 (item 1 1) _ _ refl refl refl, tt)),
       (
@@ -71,7 +77,10 @@ every-row = (
                   (refl, tt),
                   (
                     (refl, tt),
-                    tt,
+                    (
+                      (refl, (keeps two-exporters words-two-exporters 10 0 (candidates (20 ∷ 90 ∷ 20 ∷ []) (1 ∷ 1 ∷ 1 ∷ [])) refl, tt)),
+                      tt,
+                    ),
                   ),
                 ),
               ),

@@ -24,6 +24,7 @@ use Rattle.region_graph.proofs.Storing.{meaning-injective}
 use Rattle.region_routes.specs.Chosen.{sees}
 use Rattle.region_routes.specs.Hooks.{Outcome, item, kind-number, written, routed, kept, judged, shown-from, kept-outcome, is-installed, sees-from}
 use Rattle.region_routes.specs.Hooks.{route-questions, route-outcome, find-questions, find-outcome, event-questions, event-outcome}
+use Rattle.region_routes.specs.Resolve.{Candidate, is-offered, offered-from, places-for, resolved, resolve-questions, resolve-outcome}
 use Rattle.region_routes.specs.declared.Routed.{Routed}
 use Rattle.region_routes.specs.declared.Routed.the-variants as Routed
 use Rattle.region_routes.specs.declared.Kept.{Kept}
@@ -36,14 +37,15 @@ use Rattle.region_archive.specs.declared.Written.the-variants as Written
 use Rattle.region_archive.proofs.OneImage as images
 use Rattle.region_listing.proofs.ListingLaws.{model-legal}
 use Rattle.region_host.proofs.Given.{first-no-within}
-use Rattle.demands.specs.Claim.{Seen, InstalledWhere, QuerySays, says-seen, says-unseen}
+use Rattle.demands.specs.Claim.{Seen, Offered, InstalledWhere, QuerySays, says-seen, says-unseen, written-parts}
 use Rattle.demands.specs.Interface.{Interface, Started, from-empty, from-archive}
 use Rattle.demands.specs.ByValue.{by-value}
 use Rattle.demands.specs.Lent.{lent}
 use Rattle.demands.specs.Demands.{Questioned, RefusedAsAsked, HooksGiveNet, ArchiveInverts, Answers, WholeLists, QueriesAnswer, Demands}
 use Rattle.demands.proofs.Claims.{sees-seen, seen-sees, listener-sees, sees-listener, shown-says, kept-says, kept-same, judged-kept, judged-number}
-use Rattle.demands.proofs.Claims.{shown-number}
-use Rattle.demands.proofs.NetLaws.{seen-in-net, net-seen, place-member}
+use Rattle.demands.proofs.Claims.{shown-number, resolve-judged}
+use Rattle.demands.proofs.NetLaws.{seen-net, same-net, place-member}
+use Rattle.demands.proofs.Exporters.{test-offered, offered-test, offered-net}
 use Rattle.demands.proofs.Inverse.{accepted-model, accepted-image, image-accepted, others-refused, written-image, image-written}
 use Rattle.demands.proofs.Meets.{Meets, meets-by-value, meets-lent}
 
@@ -65,15 +67,15 @@ within : {n k : ℕ} → n ≡ k → k ≤ broken-layout → n ≤ broken-layout
 within e h = omega (arith, e, h)
 
 -- a query whose outcome goes by its questions
-asked : {A : Type 0} (refused : ℕ → A) (qs : List Question) (o : Outcome A) (entry : List ℕ) (x : Outcome A)
+asked : {A E : Type 0} (refused : ℕ → A) (qs : List Question) (o : Outcome A E) (entry : E) (x : Outcome A E)
     → All (λ q. q .number ≤ broken-layout) qs → o .returned .number ≡ not-refused → x ≡ judged refused (first-no qs) o entry
     → Questioned qs (x .returned .number) entry (x .exit)
-asked {A} refused qs o entry x a z e =
-    let n : x .returned .number ≡ first-no qs = ap (λ (y : Outcome A). y .returned .number) e ∙ judged-number refused (first-no qs) o entry z in
+asked {A} {E} refused qs o entry x a z e =
+    let n : x .returned .number ≡ first-no qs = ap (λ (y : Outcome A E). y .returned .number) e ∙ judged-number refused (first-no qs) o entry z in
     record {
       first = n;
       known = rw n (first-no-within broken-layout qs a);
-      kept = λ u. ap (λ (y : Outcome A). y .exit) e ∙ judged-kept refused (first-no qs) o entry (λ k. u (n ∙ k));
+      kept = λ u. ap (λ (y : Outcome A E). y .exit) e ∙ judged-kept refused (first-no qs) o entry (λ k. u (n ∙ k));
     }
 
 pub refused-as-asked : {c : Interface} → Meets c → RefusedAsAsked c
@@ -108,6 +110,11 @@ refused-as-asked t =
           asked Kept.Refused (event-questions m xs entry)
           (kept-outcome (keep (λ l. sees-from m (item (kind-number k) number) (place-of (m .bundles) l)) xs) entry) entry (kept a exit)
           (omega arith, (omega arith, tt)) refl (t .events p);
+      resolves = λ {g} {l} {xs} {entries} {exits} {a} p.
+          let m = meaning g in
+          asked Kept.Refused (resolve-questions m l xs entries)
+          (resolved (keep (λ x. offered-from m x (place-of (m .bundles) l)) xs) entries) entries (kept a exits)
+          (omega arith, (omega arith, tt)) refl (t .resolves p);
       asks = λ {s} {l} {kind} p f u.
           let n = first-no (query-questions f l kind) in
           let e = t .asks p f ∙ pick-no _ n (ne-eqb n not-refused u) in (
@@ -124,6 +131,11 @@ record Means (g : Graph) (m : Model) : Type 0 where
   pub valid : Valid g
   pub model : meaning g ≡ m
 
+-- resolve where its questions are answered yes
+resolve-answered : (m : Model) (l r : ℕ) (xs : List Candidate) (entries : List (List ℕ)) → place-of (m .bundles) l ≡ Within r
+    → places-for (length xs) entries ≡ true → resolve-outcome m l xs entries ≡ resolved (keep (λ x. is-offered m x r) xs) entries
+resolve-answered m l r xs entries p b = λ i. resolve-judged (is-installed (p i)) (b i) (keep (λ x. offered-from m x (p i)) xs) entries
+
 -- a valid record answers as the routes of what it means say
 answers : {c : Interface} → Meets c → {g : Graph} {m : Model} → Means g m → Answers c g m
 answers t {g} {m} w = record {
@@ -131,13 +143,17 @@ answers t {g} {m} w = record {
       shown-says m legal (item kind number) r entry exit a
       (t .routes q ∙ ap (λ (x : Model). route-outcome x l kind number entry) (w .model) ∙ rw (p, le-leb kind 2 k, le-leb regions (length entry) b));
   finds = λ {k} {l} {r} {xs} {entry} {exit} {a} p b q.
-      kept-says (λ n. Seen m (item (kind-number k) n) r) (λ n. sees m (item (kind-number k) n) r)
+      kept-says written (λ n. Seen m (item (kind-number k) n) r) (λ n. sees m (item (kind-number k) n) r)
       (λ n. sees-seen m legal (item (kind-number k) n) r) (λ n. seen-sees m legal (item (kind-number k) n) r) xs entry exit a
       (t .finds q ∙ ap (λ (x : Model). find-outcome x k l xs entry) (w .model) ∙ rw (p, le-leb (length xs) (length entry) b));
   events = λ {k} {number} {xs} {entry} {exit} {a} p b q.
-      kept-says (λ l. InstalledWhere m l (Seen m (item (kind-number k) number))) (λ l. sees-from m (item (kind-number k) number) (place-of (m .bundles) l))
+      kept-says written (λ l. InstalledWhere m l (Seen m (item (kind-number k) number)))
+      (λ l. sees-from m (item (kind-number k) number) (place-of (m .bundles) l))
       (λ l. listener-sees m legal (item (kind-number k) number) l) (λ l. sees-listener m legal (item (kind-number k) number) l) xs entry exit a
       (t .events q ∙ ap (λ (x : Model). event-outcome x k xs number entry) (w .model) ∙ rw (p, le-leb (length xs) (length entry) b));
+  resolves = λ {l} {r} {xs} {entries} {exits} {a} p b q.
+      kept-says written-parts (λ x. Offered m x r) (λ x. is-offered m x r) (λ x. test-offered m legal x r) (λ x. offered-test m legal x r)
+      xs entries exits a (t .resolves q ∙ ap (λ (x : Model). resolve-outcome x l xs entries) (w .model) ∙ resolve-answered m l r xs entries p b);
 }
   where
     legal : Legal m
@@ -181,14 +197,21 @@ hooks-give-net t =
       finds = λ {g} {k} {l} {r} v net n p b q.
           let m = meaning g in
           let h = place-member m (v .good) l r p in
-          kept-same (λ x. seen-in-net m (v .good) n (item (kind-number k) x) r h) (λ x. net-seen m (v .good) n (item (kind-number k) x) r h)
-          (answers t (itself v) .finds p b q);
+          let s = seen-net m (v .good) in
+          let i = item (kind-number k) in
+          kept-same (λ x. same-net (s (i x)) (n (i x)) r h) (λ x. same-net (n (i x)) (s (i x)) r h) (answers t (itself v) .finds p b q);
       events = λ {g} {k} {number} v net n p b q.
           let m = meaning g in
+          let s = seen-net m (v .good) in
           let i = item (kind-number k) number in
-          kept-same (λ l s. (s .0, s .1, seen-in-net m (v .good) n i (s .0) (place-member m (v .good) l (s .0) (s .1)) (s .2)))
-          (λ l s. (s .0, s .1, net-seen m (v .good) n i (s .0) (place-member m (v .good) l (s .0) (s .1)) (s .2)))
+          kept-same (λ l w. (w .0, w .1, same-net (s i) (n i) (w .0) (place-member m (v .good) l (w .0) (w .1)) (w .2)))
+          (λ l w. (w .0, w .1, same-net (n i) (s i) (w .0) (place-member m (v .good) l (w .0) (w .1)) (w .2)))
           (answers t (itself v) .events p b q);
+      resolves = λ {g} {l} {r} v net n p b q.
+          let m = meaning g in
+          let h = place-member m (v .good) l r p in
+          let o = offered-net m (v .good) in
+          kept-same (λ x. same-net (o x) (n x) r h) (λ x. same-net (n x) (o x) r h) (answers t (itself v) .resolves p b q);
     }
   where
     itself : {g : Graph} → Valid g → Means g (meaning g)
@@ -205,7 +228,7 @@ archive-inverts t =
           let r = t .reads p in
           let e : archived a exit ≡ archived (Written.Bytes (length s)) (written s entry) =
           t .writes (r .valid) w ∙ image-written (meaning h) s entry (accepted-image r z) b in
-          (ap (λ (o : Outcome Written). o .answer) e, ap (λ (o : Outcome Written). o .exit) e);
+          (ap (λ (o : Outcome Written (List ℕ)). o .answer) e, ap (λ (o : Outcome Written (List ℕ)). o .exit) e);
       one-image = λ g h v w e. meaning-injective g h v w (images.one-image (meaning g) (meaning h) (v .good) (w .good) e);
       others-refused = λ u p.
           let r = t .reads p in

@@ -1,6 +1,6 @@
 -- The calls that take the record by value, by the contracts that the check proved of them.
 use mathlib.Core.Bool.{Bool}
-use mathlib.Core.List.{List}
+use mathlib.Core.List.{List, [], _∷_}
 use Prim.Native.Nat.{ℕ}
 use contract.Lifetimes.{Lfts}
 use denote.Ref.{RefT}
@@ -15,16 +15,18 @@ use Rattle.region_graph.proofs.Graph.install.Reads as install
 use Rattle.region_graph.proofs.Graph.uninstall.Reads as uninstall
 use Rattle.region_graph.proofs.Graph.connect.Reads as connect
 use Rattle.region_graph.proofs.Graph.disconnect.Reads as disconnect
+use Rattle.region_routes.specs.Resolve.{Candidate, candidates}
 use Rattle.region_routes.specs.declared.Kind.{Kind}
 use Rattle.region_routes.specs.declared.Kind.the-variants as Kind
 use Rattle.region_routes.specs.declared.Routed.{Routed}
 use Rattle.region_routes.specs.declared.Kept.{Kept}
 use Rattle.region_routes.proofs.route.Reads as route
+use Rattle.region_routes.proofs.find.Reads as find
 use Rattle.region_routes.proofs.bundle_find.Reads as bundle-find
-use Rattle.region_routes.proofs.resolve.Reads as resolve
 use Rattle.region_routes.proofs.service_find.Reads as service-find
 use Rattle.region_routes.proofs.bundle_event.Reads as bundle-event
 use Rattle.region_routes.proofs.service_event.Reads as service-event
+use Rattle.region_routes.proofs.resolve.Reads as resolve
 use Rattle.region_archive.specs.declared.Written.{Written}
 use Rattle.region_archive.proofs.read.Reads as read
 use Rattle.region_archive.proofs.read_over.Reads as read-over
@@ -67,11 +69,12 @@ pub data ValueRoute (g : Graph) (l kind number : ℕ) : List ℕ → Routed → 
       → route.Learnt κs (g, (l, (kind, (number, (was, tt))))) a (g, (l, (kind, (number, (out, tt)))))
       → ValueRoute g l kind number (was .now) a (out .now)
 
+-- `find` is told the kind
 pub data ValueFind (g : Graph) : Kind → ℕ → List ℕ → List ℕ → Kept → List ℕ → Type 0 where
+  by-find : (κs : Lfts 2) (k : Kind) (l : ℕ) (xs was out : RefT (List ℕ)) (a : Kept)
+      → find.Learnt κs (g, (k, (l, (xs, (was, tt))))) a (g, (k, (l, (xs, (out, tt))))) → ValueFind g k l (xs .now) (was .now) a (out .now)
   by-bundle-find : (κs : Lfts 2) (l : ℕ) (xs was out : RefT (List ℕ)) (a : Kept)
       → bundle-find.Learnt κs (g, (l, (xs, (was, tt)))) a (g, (l, (xs, (out, tt)))) → ValueFind g Kind.Bundle l (xs .now) (was .now) a (out .now)
-  by-resolve : (κs : Lfts 2) (l : ℕ) (xs was out : RefT (List ℕ)) (a : Kept)
-      → resolve.Learnt κs (g, (l, (xs, (was, tt)))) a (g, (l, (xs, (out, tt)))) → ValueFind g Kind.Package l (xs .now) (was .now) a (out .now)
   by-service-find : (κs : Lfts 2) (l : ℕ) (xs was out : RefT (List ℕ)) (a : Kept)
       → service-find.Learnt κs (g, (l, (xs, (was, tt)))) a (g, (l, (xs, (out, tt)))) → ValueFind g Kind.Service l (xs .now) (was .now) a (out .now)
 
@@ -82,6 +85,12 @@ pub data ValueEvent (g : Graph) : Kind → ℕ → List ℕ → List ℕ → Kep
   by-service-event : (κs : Lfts 2) (number : ℕ) (xs was out : RefT (List ℕ)) (a : Kept)
       → service-event.Learnt κs (g, (xs, (number, (was, tt)))) a (g, (xs, (number, (out, tt))))
       → ValueEvent g Kind.Service number (xs .now) (was .now) a (out .now)
+
+-- exporters and packages have a list each, handed in and lent
+pub data ValueResolve (g : Graph) : ℕ → List Candidate → List (List ℕ) → Kept → List (List ℕ) → Type 0 where
+  by-resolve : (κs : Lfts 4) (l : ℕ) (es ns was-e was-n out-e out-n : RefT (List ℕ)) (a : Kept)
+      → resolve.Learnt κs (g, (l, (es, (ns, (was-e, (was-n, tt)))))) a (g, (l, (es, (ns, (out-e, (out-n, tt))))))
+      → ValueResolve g l (candidates (es .now) (ns .now)) (was-e .now ∷ was-n .now ∷ []) a (out-e .now ∷ out-n .now ∷ [])
 
 pub data ValueAsk : List ℕ → ℕ → ℕ → ℕ → ℕ → Type 0 where
   by-archive-query : (κs : Lfts 1) (bytes : RefT (List ℕ)) (l kind number v : ℕ)
@@ -97,5 +106,6 @@ by-value =
       routes = ValueRoute;
       finds = ValueFind;
       events = ValueEvent;
+      resolves = ValueResolve;
       asks = ValueAsk;
     }

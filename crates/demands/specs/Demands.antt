@@ -15,6 +15,7 @@ use Rattle.region_graph.specs.declared.Graph.{Graph}
 use Rattle.region_graph.specs.declared.Item.{Item}
 use Rattle.region_graph.specs.declared.Place.the-variants.{Within}
 use Rattle.region_routes.specs.Hooks.{routed-as, kept-as, item, kind-number, written, all-installed, route-questions, find-questions, event-questions}
+use Rattle.region_routes.specs.Resolve.{Candidate, places-for, resolve-questions}
 use Rattle.region_routes.specs.declared.Kind.{Kind}
 use Rattle.region_routes.specs.declared.Routed.{Routed}
 use Rattle.region_routes.specs.declared.Kept.{Kept}
@@ -23,12 +24,12 @@ use Rattle.region_archive.specs.File.{FileMeaning, read-questions, read-model}
 use Rattle.region_archive.specs.Promise.{written-as, write-questions, query-questions}
 use Rattle.region_archive.specs.declared.Written.{Written}
 use Rattle.region_archive.specs.declared.Written.the-variants as Written
-use Rattle.demands.specs.Claim.{Seen, RouteSays, KeptSays, InstalledWhere, QuerySays}
-use Rattle.demands.specs.Net.{NetRegions}
+use Rattle.demands.specs.Claim.{Seen, Offered, RouteSays, KeptSays, written-parts, InstalledWhere, QuerySays}
+use Rattle.demands.specs.Net.{NetRegions, ExporterNetRegions}
 use Rattle.demands.specs.Interface.{Interface, Started}
 
 -- Demand 1. The number is that of the first question answered no, one of the seventeen, or 0; where it is not 0, what could have changed
--- (the record, or the buffer) is as it was.
+-- (the record, or the buffers) is as it was.
 pub record Questioned {A : Type 0} (qs : List Question) (number : ℕ) (before after : A) : Type 0 where
   pub first : number ≡ first-no qs
   pub known : number ≤ broken-layout
@@ -45,19 +46,24 @@ pub record RefusedAsAsked (c : Interface) : Type 0 where
       → Questioned (find-questions (meaning g) l xs entry) (kept-as a .number) entry exit
   pub events : {g : Graph} {k : Kind} {number : ℕ} {xs entry exit : List ℕ} {a : Kept} → c .events g k number xs entry a exit
       → Questioned (event-questions (meaning g) xs entry) (kept-as a .number) entry exit
+  pub resolves : {g : Graph} {l : ℕ} {xs : List Candidate} {entries exits : List (List ℕ)} {a : Kept} → c .resolves g l xs entries a exits
+      → Questioned (resolve-questions (meaning g) l xs entries) (kept-as a .number) entries exits
   -- an archive query's answer is the number of the first question answered no, if there is one
   pub asks : {s : List ℕ} {l kind number v : ℕ} → c .asks s l kind number v → (f : FileMeaning s)
       → (first-no (query-questions f l kind) ≡ not-refused → ⊥) → (v ≡ first-no (query-questions f l kind)) × (v ≤ broken-layout)
 
 -- Demand 2, the hooks, as 001 has them in section 8: what is written are those of the candidates that are in the net region of the asker's
--- region, and those of the listeners in the net region of whose region the item is.
+-- region, and those of the listeners in the net region of whose region the item is. A candidate of resolve is its exporter's package.
 pub record HooksGiveNet (c : Interface) : Type 1 where
   pub finds : {g : Graph} {k : Kind} {l r : ℕ} {xs entry exit : List ℕ} {a : Kept} → Valid g → (net : Item → ℕ → Type 0) → NetRegions (meaning g) net
       → place-of (meaning g .bundles) l ≡ Within r → length xs ≤ length entry
-      → c .finds g k l xs entry a exit → KeptSays (λ n. net (item (kind-number k) n) r) xs entry exit a
+      → c .finds g k l xs entry a exit → KeptSays written (λ n. net (item (kind-number k) n) r) xs entry exit a
   pub events : {g : Graph} {k : Kind} {number : ℕ} {xs entry exit : List ℕ} {a : Kept} → Valid g → (net : Item → ℕ → Type 0)
       → NetRegions (meaning g) net → all-installed (meaning g) xs ≡ true → length xs ≤ length entry
-      → c .events g k number xs entry a exit → KeptSays (λ l. InstalledWhere (meaning g) l (net (item (kind-number k) number))) xs entry exit a
+      → c .events g k number xs entry a exit → KeptSays written (λ l. InstalledWhere (meaning g) l (net (item (kind-number k) number))) xs entry exit a
+  pub resolves : {g : Graph} {l r : ℕ} {xs : List Candidate} {entries exits : List (List ℕ)} {a : Kept} → Valid g → (net : Candidate → ℕ → Type 0)
+      → ExporterNetRegions (meaning g) net → place-of (meaning g .bundles) l ≡ Within r → places-for (length xs) entries ≡ true
+      → c .resolves g l xs entries a exits → KeptSays written-parts (λ x. net x r) xs entries exits a
 
 -- Demand 2, the archive: writer and reader invert each other, each graph has one image, and a file that is no graph's image is refused.
 pub record ArchiveInverts (c : Interface) : Type 0 where
@@ -72,15 +78,17 @@ pub record ArchiveInverts (c : Interface) : Type 0 where
   pub others-refused : {s : List ℕ} {old h : Graph} {n : ℕ} → ((g : Graph) → Valid g → image (meaning g) ≡ s → ⊥)
       → c .reads s old n h → (n ≡ not-refused → ⊥) × (h ≡ old)
 
--- Demand 3. The queries on the record g answer as the routes of the model m say: for every bundle and listener installed in m, every kind
--- and item, with the output places that question 14 asks.
+-- Demand 3. The queries on the record g answer as the routes of the model m say: for every bundle and listener installed in m, every kind,
+-- item and candidate, with the output places that question 14 asks.
 pub record Answers (c : Interface) (g : Graph) (m : Model) : Type 0 where
   pub routes : {l r kind number : ℕ} {entry exit : List ℕ} {a : Routed} → place-of (m .bundles) l ≡ Within r → kind ≤ 2 → regions ≤ length entry
       → c .routes g l kind number entry a exit → RouteSays m (item kind number) r entry exit a
   pub finds : {k : Kind} {l r : ℕ} {xs entry exit : List ℕ} {a : Kept} → place-of (m .bundles) l ≡ Within r → length xs ≤ length entry
-      → c .finds g k l xs entry a exit → KeptSays (λ n. Seen m (item (kind-number k) n) r) xs entry exit a
+      → c .finds g k l xs entry a exit → KeptSays written (λ n. Seen m (item (kind-number k) n) r) xs entry exit a
   pub events : {k : Kind} {number : ℕ} {xs entry exit : List ℕ} {a : Kept} → all-installed m xs ≡ true → length xs ≤ length entry
-      → c .events g k number xs entry a exit → KeptSays (λ l. InstalledWhere m l (Seen m (item (kind-number k) number))) xs entry exit a
+      → c .events g k number xs entry a exit → KeptSays written (λ l. InstalledWhere m l (Seen m (item (kind-number k) number))) xs entry exit a
+  pub resolves : {l r : ℕ} {xs : List Candidate} {entries exits : List (List ℕ)} {a : Kept} → place-of (m .bundles) l ≡ Within r
+      → places-for (length xs) entries ≡ true → c .resolves g l xs entries a exits → KeptSays written-parts (λ x. Offered m x r) xs entries exits a
 
 -- For every list of changing calls, refused ones included, from the empty record or an accepted archive, each with the record that the one
 -- before handed back: the numbers are the model's, and after the list the queries answer as the routes of the model say.

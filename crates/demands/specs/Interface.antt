@@ -1,4 +1,4 @@
--- The calls of an interface, each as what a caller learns of it from its contract: what was handed in, what came back, and the lent buffer
+-- The calls of an interface, each as what a caller learns of it from its contract: what was handed in, what came back, and the lent buffers
 -- before and after.
 use mathlib.Core.Path.{_≡_}
 use mathlib.Core.List.{List}
@@ -7,6 +7,7 @@ use Rattle.region_graph.specs.Refusals.{not-refused}
 use Rattle.region_graph.specs.Model.{Model, nothing}
 use Rattle.region_graph.specs.Calls.{Call}
 use Rattle.region_graph.specs.declared.Graph.{Graph}
+use Rattle.region_routes.specs.Resolve.{Candidate}
 use Rattle.region_routes.specs.declared.Kind.{Kind}
 use Rattle.region_routes.specs.declared.Routed.{Routed}
 use Rattle.region_routes.specs.declared.Kept.{Kept}
@@ -21,6 +22,10 @@ RouteCalls A = Graph → ℕ → ℕ → ℕ → List ℕ → A → List ℕ →
 abbrev pub ListCalls : Type 0 → Type 1
 ListCalls A = Graph → Kind → ℕ → List ℕ → List ℕ → A → List ℕ → Type 0
 
+-- the same of resolve on a record, with location and candidates, and the output lists, one for each part of a candidate
+abbrev pub ResolveCalls : Type 0 → Type 1
+ResolveCalls A = Graph → ℕ → List Candidate → List (List ℕ) → A → List (List ℕ) → Type 0
+
 pub record Interface : Type 1 where
   -- the empty record is g
   pub empties : Graph → Type 0
@@ -33,6 +38,7 @@ pub record Interface : Type 1 where
   pub routes : RouteCalls Routed
   pub finds : ListCalls Kept
   pub events : ListCalls Kept
+  pub resolves : ResolveCalls Kept
   -- an archive query of a file, with location, kind and number of the item, returned v
   pub asks : List ℕ → ℕ → ℕ → ℕ → ℕ → Type 0
 

@@ -1,5 +1,5 @@
--- Document 01, "Graph G, and others": the joint table G1 to G10, with G10 as C-13 of document 02 has it. A row is a list of calls from nothing
--- and what is shown of the model that they give.
+-- Document 01, "Graph G, and others": the joint table G1 to G10, with G10 as C-13 of document 02 has it, and G1 and G2 as C-14 has them;
+-- then the case that C-14 tells. A row is a list of calls from nothing and what is shown of the model that they give.
 use mathlib.Core.Path.{_≡_}
 use mathlib.Core.List.{List, [], _∷_}
 use Prim.Native.Nat.{ℕ, suc}
@@ -10,18 +10,19 @@ use Rattle.region_graph.specs.Calls.{Call, run, numbers}
 use Rattle.region_graph.specs.declared.Item.{Item}
 use Rattle.region_routes.specs.Chosen.{NoRouteFor, BestFor}
 use Rattle.region_routes.specs.Hooks.{item}
-use Rattle.demands.specs.Claim.{Selected, Seen, InstalledWhere}
+use Rattle.region_routes.specs.Resolve.{Candidate, candidates}
+use Rattle.demands.specs.Claim.{Selected, Offered, InstalledWhere}
 
 pub data Claim : Type 0 where
   -- resolve for the bundle at a location, on these candidates, gives those
-  resolves : ℕ → List ℕ → List ℕ → Claim
+  resolves : ℕ → List Candidate → List Candidate → Claim
   -- the route from the bundle at a location to an item, and its count of connections
   routes : ℕ → Item → List ℕ → ℕ → Claim
   -- an item is hidden from the bundle at a location
   hides : ℕ → Item → Claim
 
 abbrev pub Says : List Call → Claim → Type 0
-Says cs (resolves l xs ys) = let m = run nothing cs in InstalledWhere m l (λ r. Selected (λ n. Seen m (item 1 n) r) xs ys)
+Says cs (resolves l xs ys) = let m = run nothing cs in InstalledWhere m l (λ r. Selected (λ c. Offered m c r) xs ys)
 Says cs (routes l i p n) = let m = run nothing cs in InstalledWhere m l (λ r. BestFor m i r p × (length p ≡ suc n))
 Says cs (hides l i) = let m = run nothing cs in InstalledWhere m l (NoRouteFor m i)
 
@@ -53,6 +54,10 @@ graph-g =
     ∷ passing 1 2 [] (Part.listed (1 ∷ 3 ∷ [])) (Part.listed [])
     ∷ []
 
+-- the packages 1, 2 and 3 of exporter 30
+abbrev pub packages-of-30 : List Candidate
+packages-of-30 = candidates (30 ∷ 30 ∷ 30 ∷ []) (1 ∷ 2 ∷ 3 ∷ [])
+
 -- regions connected both ways, and a diamond
 abbrev pub cycle : List Call
 cycle =
@@ -78,11 +83,23 @@ diamond =
     ∷ passing 2 3 [] (Part.listed []) Part.everything
     ∷ []
 
+-- package 1 in a region that region 0 is connected to, and in one that it is not
+abbrev pub two-exporters : List Call
+two-exporters =
+    Call.add-region 0
+    ∷ Call.add-region 1
+    ∷ Call.add-region 9
+    ∷ bundle-of 10 0 [] []
+    ∷ bundle-of 20 1 (1 ∷ []) []
+    ∷ bundle-of 90 9 (1 ∷ []) []
+    ∷ passing 0 1 [] (Part.listed (1 ∷ [])) (Part.listed [])
+    ∷ []
+
 abbrev pub rows : List Row
 rows =
     -- G1 to G6
-    record { calls = graph-g; returned = replicate 8 0; claims = resolves 10 (1 ∷ 2 ∷ 3 ∷ []) (1 ∷ []) ∷ [] }
-    ∷ record { calls = graph-g; returned = replicate 8 0; claims = resolves 20 (1 ∷ 2 ∷ 3 ∷ []) (1 ∷ 3 ∷ []) ∷ [] }
+    record { calls = graph-g; returned = replicate 8 0; claims = resolves 10 packages-of-30 (candidates (30 ∷ []) (1 ∷ [])) ∷ [] }
+    ∷ record { calls = graph-g; returned = replicate 8 0; claims = resolves 20 packages-of-30 (candidates (30 ∷ 30 ∷ []) (1 ∷ 3 ∷ [])) ∷ [] }
     ∷ record { calls = graph-g; returned = replicate 8 0; claims = routes 10 (item 1 1) (0 ∷ 1 ∷ []) 1 ∷ [] }
     ∷ record { calls = graph-g; returned = replicate 8 0; claims = hides 10 (item 1 3) ∷ [] }
     ∷ record { calls = graph-g; returned = replicate 8 0; claims = hides 20 (item 0 30) ∷ [] }
@@ -114,6 +131,12 @@ rows =
     }
     -- G10
     ∷ record { calls = Call.add-region 63 ∷ Call.add-region 64 ∷ []; returned = 0 ∷ 1 ∷ []; claims = [] }
+    -- C-14's case
+    ∷ record {
+      calls = two-exporters;
+      returned = replicate 7 0;
+      claims = resolves 10 (candidates (20 ∷ 90 ∷ 20 ∷ []) (1 ∷ 1 ∷ 1 ∷ [])) (candidates (20 ∷ 20 ∷ []) (1 ∷ 1 ∷ [])) ∷ [];
+    }
     ∷ []
 
 -- graph G's image, all 84 bytes

@@ -2,7 +2,7 @@
 -- that C reads in the number that it gets.
 use mathlib.Core.Path.{_≡_, refl}
 use mathlib.Core.Bool.{Bool}
-use mathlib.Core.List.{List}
+use mathlib.Core.List.{List, [], _∷_}
 use Prim.Native.Nat.{ℕ}
 use lib.ListN.{length}
 use base.Logic.{emp}
@@ -14,6 +14,7 @@ use borrow.Fn.World.{World, Pr, w₀}
 use Rattle.region_graph.specs.Calls.{Call}
 use Rattle.region_graph.specs.Promise.{new-bundle, new-connection}
 use Rattle.region_graph.specs.declared.Graph.{Graph}
+use Rattle.region_routes.specs.Resolve.{Candidate, candidates}
 use Rattle.region_routes.specs.declared.Kind.{Kind}
 use Rattle.region_routes.specs.declared.Kind.the-variants as Kind
 use Rattle.region_routes.specs.declared.Routed.{Routed}
@@ -31,10 +32,10 @@ use Rattle.region_host.proofs.region_read as read
 use Rattle.region_host.proofs.region_write as write
 use Rattle.region_host.proofs.region_route as route
 use Rattle.region_host.proofs.region_bundle_find as bundle-find
-use Rattle.region_host.proofs.region_resolve as resolve
 use Rattle.region_host.proofs.region_service_find as service-find
 use Rattle.region_host.proofs.region_bundle_event as bundle-event
 use Rattle.region_host.proofs.region_service_event as service-event
+use Rattle.region_host.proofs.region_resolve_v3 as resolve
 use Rattle.region_host.proofs.archive_query.Reads as archive-query
 use Rattle.demands.specs.Interface.{Interface}
 
@@ -105,11 +106,6 @@ FindsBundles κs g buffer l xs out v =
     Facts (λ w. bundle-find.clauses (w .𝓤) (w .H) (w .𝓖 .A) (w .𝓜 .mem) (w .𝓡 .run) κs (g, (buffer, (l, (xs, tt))))
     .ensures tt v (g, (out, (l, (xs, tt))))) (λ w. r-last _) (λ w. refl)
 
-abbrev FindsPackages : Lfts 3 → LentGraph → Slice → ℕ → Slice → Slice → ℕ → Type 0
-FindsPackages κs g buffer l xs out v =
-    Facts (λ w. resolve.clauses (w .𝓤) (w .H) (w .𝓖 .A) (w .𝓜 .mem) (w .𝓡 .run) κs (g, (buffer, (l, (xs, tt))))
-    .ensures tt v (g, (out, (l, (xs, tt))))) (λ w. r-last _) (λ w. refl)
-
 abbrev FindsServices : Lfts 3 → LentGraph → Slice → ℕ → Slice → Slice → ℕ → Type 0
 FindsServices κs g buffer l xs out v =
     Facts (λ w. service-find.clauses (w .𝓤) (w .H) (w .𝓖 .A) (w .𝓜 .mem) (w .𝓡 .run) κs (g, (buffer, (l, (xs, tt))))
@@ -124,6 +120,11 @@ abbrev TellsService : Lfts 3 → LentGraph → Slice → Slice → ℕ → Slice
 TellsService κs g buffer xs number out v =
     Facts (λ w. service-event.clauses (w .𝓤) (w .H) (w .𝓖 .A) (w .𝓜 .mem) (w .𝓡 .run) κs (g, (buffer, (xs, (number, tt))))
     .ensures tt v (g, (out, (xs, (number, tt))))) (λ w. r-last _) (λ w. refl)
+
+abbrev Resolves : Lfts 5 → LentGraph → Slice → Slice → ℕ → Slice → Slice → Slice → Slice → ℕ → Type 0
+Resolves κs g was-e was-n l es ns out-e out-n v =
+    Facts (λ w. resolve.clauses (w .𝓤) (w .H) (w .𝓖 .A) (w .𝓜 .mem) (w .𝓡 .run) κs (g, (was-e, (was-n, (l, (es, (ns, tt))))))
+    .ensures tt v (g, (out-e, (out-n, (l, (es, (ns, tt))))))) (λ w. r-last _) (λ w. refl)
 
 pub data LentChange : Graph → Call → ℕ → Graph → Type 0 where
   by-add : (κs : Lfts 1) (was is : LentGraph) (r n : ℕ) → Adds κs was r is n → LentChange (was .now) (Call.add-region r) n (is .now)
@@ -144,7 +145,7 @@ pub data LentRead : List ℕ → Graph → ℕ → Graph → Type 0 where
 pub data LentWrite : Graph → List ℕ → Written → List ℕ → Type 0 where
   by-write : (κs : Lfts 2) (g : LentGraph) (was out : Slice) (v : ℕ) → WritesImage κs g was out v → LentWrite (g .now) (was .now) (written-of v) (out .now)
 
--- the number that C gets for a route call, a find or an event
+-- the number that C gets for a route call, a find, an event or resolve
 pub data CRoute : Graph → ℕ → ℕ → ℕ → List ℕ → ℕ → List ℕ → Type 0 where
   by-route : (κs : Lfts 2) (g : LentGraph) (was out : Slice) (l kind number v : ℕ) → FindsRoute κs g was l kind number out v
       → CRoute (g .now) l kind number (was .now) v (out .now)
@@ -152,8 +153,6 @@ pub data CRoute : Graph → ℕ → ℕ → ℕ → List ℕ → ℕ → List �
 pub data CFind : Graph → Kind → ℕ → List ℕ → List ℕ → ℕ → List ℕ → Type 0 where
   by-bundle-find : (κs : Lfts 3) (g : LentGraph) (was xs out : Slice) (l v : ℕ) → FindsBundles κs g was l xs out v
       → CFind (g .now) Kind.Bundle l (xs .now) (was .now) v (out .now)
-  by-resolve : (κs : Lfts 3) (g : LentGraph) (was xs out : Slice) (l v : ℕ) → FindsPackages κs g was l xs out v
-      → CFind (g .now) Kind.Package l (xs .now) (was .now) v (out .now)
   by-service-find : (κs : Lfts 3) (g : LentGraph) (was xs out : Slice) (l v : ℕ) → FindsServices κs g was l xs out v
       → CFind (g .now) Kind.Service l (xs .now) (was .now) v (out .now)
 
@@ -162,6 +161,10 @@ pub data CEvent : Graph → Kind → ℕ → List ℕ → List ℕ → ℕ → L
       → CEvent (g .now) Kind.Bundle number (xs .now) (was .now) v (out .now)
   by-service-event : (κs : Lfts 3) (g : LentGraph) (was xs out : Slice) (number v : ℕ) → TellsService κs g was xs number out v
       → CEvent (g .now) Kind.Service number (xs .now) (was .now) v (out .now)
+
+pub data CResolve : Graph → ℕ → List Candidate → List (List ℕ) → ℕ → List (List ℕ) → Type 0 where
+  by-resolve : (κs : Lfts 5) (g : LentGraph) (was-e was-n es ns out-e out-n : Slice) (l v : ℕ) → Resolves κs g was-e was-n l es ns out-e out-n v
+      → CResolve (g .now) l (candidates (es .now) (ns .now)) (was-e .now ∷ was-n .now ∷ []) v (out-e .now ∷ out-n .now ∷ [])
 
 -- the answer that C reads in it
 pub data LentRoute (g : Graph) (l kind number : ℕ) (entry : List ℕ) : Routed → List ℕ → Type 0 where
@@ -173,6 +176,9 @@ pub data LentFind (g : Graph) (k : Kind) (l : ℕ) (xs entry : List ℕ) : Kept 
 
 pub data LentEvent (g : Graph) (k : Kind) (number : ℕ) (xs entry : List ℕ) : Kept → List ℕ → Type 0 where
   event-read : {v : ℕ} {exit : List ℕ} → CountFits (length xs) → CEvent g k number xs entry v exit → LentEvent g k number xs entry (kept-of v) exit
+
+pub data LentResolve (g : Graph) (l : ℕ) (xs : List Candidate) (entries : List (List ℕ)) : Kept → List (List ℕ) → Type 0 where
+  resolve-read : {v : ℕ} {exits : List (List ℕ)} → CountFits (length xs) → CResolve g l xs entries v exits → LentResolve g l xs entries (kept-of v) exits
 
 -- the archive query takes no record
 pub data LentAsk : List ℕ → ℕ → ℕ → ℕ → ℕ → Type 0 where
@@ -192,5 +198,6 @@ lent =
       routes = LentRoute;
       finds = LentFind;
       events = LentEvent;
+      resolves = LentResolve;
       asks = LentAsk;
     }

@@ -10,5 +10,5 @@ pub mod Lent
 pub mod Names
 -- request C-12: two graphs that agree on a set of regions
 pub mod Isolation
--- document 01's worked cases
+-- document 01's worked cases, and those of C-13 and C-14
 pub mod JointTable

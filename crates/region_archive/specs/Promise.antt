@@ -23,14 +23,14 @@ abbrev pub written-as : Written → Returned
 written-as (Written.Bytes n) = record { number = not-refused; values = n ∷ [] }
 written-as (Written.Refused n) = record { number = n; values = [] }
 
-abbrev pub archived : Written → List ℕ → Outcome Written
+abbrev pub archived : Written → List ℕ → Outcome Written (List ℕ)
 archived answer exit = record { answer = answer; returned = written-as answer; exit = exit }
 
 abbrev pub write-questions : Model → List ℕ → List Question
 write-questions m entry = ask no-place (leb (length (image m)) (length entry)) ∷ []
 
 -- the image at the buffer's start and its length, or refusal 14 and the buffer as it was
-abbrev pub write-outcome : Model → List ℕ → Outcome Written
+abbrev pub write-outcome : Model → List ℕ → Outcome Written (List ℕ)
 write-outcome m entry =
     judged Written.Refused (first-no (write-questions m entry)) (archived (Written.Bytes (length (image m))) (written (image m) entry)) entry
 

@@ -17,8 +17,10 @@ use Rattle.region_graph.specs.Model.{Bundle, Filter, Part, LegalConnecti
 use Rattle.region_graph.specs.Calls.{at-location}
 use Rattle.region_graph.specs.Items.{provided, part-of, provides, passes}
 use Rattle.region_graph.specs.Record.{Valid, meaning, no-bundle, no-connection}
-use Rattle.region_graph.specs.Promise.{place-of}
+use Rattle.region_graph.specs.Promise.{place-of, provider-place}
 use Rattle.region_graph.specs.declared.Graph.{Graph}
+use Rattle.region_graph.specs.declared.Item.{Item}
+use Rattle.region_graph.specs.declared.Place.{Place}
 use Rattle.region_graph.specs.declared.Place.the-variants.{Within, Nowhere}
 use Rattle.region_graph.specs.declared.connections.StoredConnection.{StoredConnection}
 use Rattle.region_graph.proofs.Lists.{exists-append, all-at, member-all}
@@ -83,31 +85,50 @@ part-none (suc zero) p f g h = absurd (g refl)
 part-none (suc (suc zero)) p f g h = absurd (h refl)
 part-none (suc (suc (suc k))) p f g h = refl
 
--- the region of a location
+-- what is told of the first bundle at a location
 
-module _ (l : ℕ) where
-  -- the first bundle at the location has it
-  pub place-found : (bs : List Bundle) → position (at-location l) bs < length bs
-      → Within (getD bs (position (at-location l) bs) no-bundle .region) ≡ place-of bs l
-  place-found [] h = absurd (omega arith)
-  place-found (b ∷ bs) h = go (at-location l b) (place-found bs) h
+module _ (l : ℕ) (tell : Bundle → Place) (told : List Bundle → Place) (none : told [] ≡ Nowhere)
+    (more : (b : Bundle) (bs : List Bundle) → told (b ∷ bs) ≡ pick (at-location l b) (tell b) (told bs)) where
+  told-found : (bs : List Bundle) → position (at-location l) bs < length bs → tell (getD bs (position (at-location l) bs) no-bundle) ≡ told bs
+  told-found [] h = absurd (omega arith)
+  told-found (b ∷ bs) h = go (at-location l b) (told-found bs) h ∙ sym (more b bs)
     where
       go : (t : Bool)
-          → (position (at-location l) bs < length bs → Within (getD bs (position (at-location l) bs) no-bundle .region) ≡ place-of bs l)
+          → (position (at-location l) bs < length bs → tell (getD bs (position (at-location l) bs) no-bundle) ≡ told bs)
           → pick t 0 (suc (position (at-location l) bs)) < suc (length bs)
-          → Within (getD (b ∷ bs) (pick t 0 (suc (position (at-location l) bs))) no-bundle .region) ≡ pick t (Within (b .region)) (place-of bs l)
+          → tell (getD (b ∷ bs) (pick t 0 (suc (position (at-location l) bs))) no-bundle) ≡ pick t (tell b) (told bs)
       go true r k = refl
       go false r k = r (omega arith)
 
   -- no bundle is at the location
-  pub place-missed : (bs : List Bundle) → length bs ≤ position (at-location l) bs → Nowhere ≡ place-of bs l
-  place-missed [] h = refl
-  place-missed (b ∷ bs) h = go (at-location l b) (place-missed bs) h
+  told-missed : (bs : List Bundle) → length bs ≤ position (at-location l) bs → Nowhere ≡ told bs
+  told-missed [] h = sym none
+  told-missed (b ∷ bs) h = go (at-location l b) (told-missed bs) h ∙ sym (more b bs)
     where
-      go : (t : Bool) → (length bs ≤ position (at-location l) bs → Nowhere ≡ place-of bs l)
-          → suc (length bs) ≤ pick t 0 (suc (position (at-location l) bs)) → Nowhere ≡ pick t (Within (b .region)) (place-of bs l)
+      go : (t : Bool) → (length bs ≤ position (at-location l) bs → Nowhere ≡ told bs)
+          → suc (length bs) ≤ pick t 0 (suc (position (at-location l) bs)) → Nowhere ≡ pick t (tell b) (told bs)
       go true r k = absurd (omega arith)
       go false r k = r (omega arith)
+
+-- the region of a location, and that of one whose bundle provides an item
+module _ (l : ℕ) where
+  pub place-found : (bs : List Bundle) → position (at-location l) bs < length bs
+      → Within (getD bs (position (at-location l) bs) no-bundle .region) ≡ place-of bs l
+  place-found = told-found l (λ b. Within (b .region)) (λ bs. place-of bs l) refl (λ b bs. refl)
+
+  pub place-missed : (bs : List Bundle) → length bs ≤ position (at-location l) bs → Nowhere ≡ place-of bs l
+  place-missed = told-missed l (λ b. Within (b .region)) (λ bs. place-of bs l) refl (λ b bs. refl)
+
+  module _ (i : Item) where
+    abbrev provided-in : Bundle → Place
+    provided-in b = pick (provides i b) (Within (b .region)) Nowhere
+
+    pub provider-found : (bs : List Bundle) → position (at-location l) bs < length bs
+        → provided-in (getD bs (position (at-location l) bs) no-bundle) ≡ provider-place bs l i
+    provider-found = told-found l provided-in (λ bs. provider-place bs l i) refl (λ b bs. refl)
+
+    pub provider-missed : (bs : List Bundle) → length bs ≤ position (at-location l) bs → Nowhere ≡ provider-place bs l i
+    provider-missed = told-missed l provided-in (λ bs. provider-place bs l i) refl (λ b bs. refl)
 
 -- the set of the regions to which some element leads, as one element more comes in
 

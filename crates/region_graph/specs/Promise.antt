@@ -10,7 +10,7 @@ use Rattle.region_graph.specs.Lists.{pick, count-from}
 use Rattle.region_graph.specs.Sets.{set-of}
 use Rattle.region_graph.specs.Model.{Model, Bundle, Filter, Part, Connection, nothing}
 use Rattle.region_graph.specs.Calls.{Call, number, after, at-location}
-use Rattle.region_graph.specs.Items.{holds, crosses}
+use Rattle.region_graph.specs.Items.{provides, holds, crosses}
 use Rattle.region_graph.specs.Record.{Valid, meaning, no-bundle, no-connection, store-bundle, store-connection, places}
 use Rattle.region_graph.specs.declared.Graph.{Graph}
 use Rattle.region_graph.specs.declared.Changed.{Changed}
@@ -53,6 +53,11 @@ new-connection source target bundles all-packages packages all-services services
 abbrev pub place-of : List Bundle → ℕ → Place
 place-of [] l = Nowhere
 place-of (b ∷ bs) l = pick (at-location l b) (Within (b .region)) (place-of bs l)
+
+-- the same, if the bundle there provides the item
+abbrev pub provider-place : List Bundle → ℕ → Item → Place
+provider-place [] l i = Nowhere
+provider-place (b ∷ bs) l i = pick (at-location l b) (pick (provides i b) (Within (b .region)) Nowhere) (provider-place bs l i)
 
 -- the set of the regions that hold the item, and for each region the set of those from which a connection that passes the item leads to it
 abbrev pub holder-set : Model → Item → ℕ

@@ -6,7 +6,7 @@ ghost use Rattle.region_graph.specs.Sets.{«set-of»};
 ghost use Rattle.region_graph.specs.Items.{provides, passes, «part-passes»};
 ghost use Rattle.region_graph.specs.Record.{Valid, meaning, «store-bundle», «store-connection», «bundle-in», «connection-in», «part-in»};
 ghost use Rattle.region_graph.specs.Places.{BundleStored, ConnectionStored, PartStored};
-ghost use Rattle.region_graph.specs.Promise.{«place-of», «holder-set», «predecessor-sets»};
+ghost use Rattle.region_graph.specs.Promise.{«place-of», «provider-place», «holder-set», «predecessor-sets»};
 ghost use Rattle.region_graph.specs.Promise.{«bundle-places», «connection-places», «bundle-at», «connection-at»};
 use crate::Graph;
 use crate::Item;
@@ -103,6 +103,23 @@ impl Graph {
         }
         let b = bundles.items[place];
         Place::Within(b.region)
+    }
+
+    // The region in which a location is installed, if the bundle there provides an item.
+    pub fn provider(self, location: u32, item: Item) -> Place
+        requires { ⌜ Valid self ⌝ }
+        ensures { λ r. ⌜ r ≡ provider-place (meaning self .bundles) location item ⌝ }
+    {
+        let bundles = self.bundles;
+        let place = bundles.first(BundleTest::At(location));
+        if bundles.count <= place {
+            return Place::Nowhere;
+        }
+        let b = bundles.items[place];
+        if bundle_provides(b, item) {
+            return Place::Within(b.region);
+        }
+        Place::Nowhere
     }
 
     // The regions that hold an item.

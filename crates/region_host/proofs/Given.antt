@@ -20,8 +20,9 @@ use Rattle.region_graph.specs.declared.Place.{Place}
 use Rattle.region_graph.specs.declared.Place.the-variants.{Within, Nowhere}
 use Rattle.region_graph.proofs.Lists.{keep-length}
 use Rattle.region_routes.specs.Chosen.{first-of, put-before, guarded, or-else, exactly, from, chosen-by, chosen}
-use Rattle.region_routes.specs.Hooks.{Outcome, kind-number, item, written, judged, shown, shown-from, sees-from, route-questions, find-questions}
-use Rattle.region_routes.specs.Hooks.{event-questions, route-outcome, kept-outcome, find-outcome, event-outcome}
+use Rattle.region_routes.specs.Hooks.{Outcome, kind-number, item, written, kept, judged, shown, shown-from, sees-from, route-questions, find-questions}
+use Rattle.region_routes.specs.Hooks.{event-questions, route-outcome, find-outcome, event-outcome}
+use Rattle.region_routes.specs.Resolve.{Candidate, parts, offered-from, resolve-questions, written-each, resolve-outcome}
 use Rattle.region_routes.specs.declared.Kind.{Kind}
 use Rattle.region_routes.specs.declared.Routed.the-variants as Routed
 use Rattle.region_routes.specs.declared.Kept.the-variants as Kept
@@ -45,8 +46,8 @@ positive : (n : ℕ) → (n ≡ 0 → ⊥) → 0 < n
 positive zero u = absurd (u refl)
 positive (suc n) u = omega arith
 
-judged-given : {A : Type 0} (Given : A → Type 0) (refused : ℕ → A) → ((n : ℕ) → PaperNumber n → Given (refused n)) → (n : ℕ) → n ≤ 100 → (o : Outcome A)
-    → Given (o .answer) → (entry : List ℕ) → Given (judged refused n o entry .answer)
+judged-given : {A E : Type 0} (Given : A → Type 0) (refused : ℕ → A) → ((n : ℕ) → PaperNumber n → Given (refused n)) → (n : ℕ) → n ≤ 100
+    → (o : Outcome A E) → Given (o .answer) → (entry : E) → Given (judged refused n o entry .answer)
 judged-given Given refused r n h o g entry = go (eqb n not-refused) refl
   where
     go : (b : Bool) → eqb n not-refused ≡ b
@@ -114,21 +115,31 @@ route-given m l kind number entry =
     (first-no-within 100 (route-questions m l kind entry) (omega arith, (omega arith, (omega arith, tt))))
     (shown-from m (item kind number) (place-of (m .bundles) l) entry) (shown-from-given m (item kind number) (place-of (m .bundles) l) entry) entry
 
-kept-given : (n : ℕ) → n ≤ 100 → (p : ℕ → Bool) (xs entry : List ℕ) → CountFits (length xs)
-    → KeptGiven (judged Kept.Refused n (kept-outcome (keep p xs) entry) entry .answer)
-kept-given n h p xs entry c =
-    judged-given KeptGiven Kept.Refused (λ n g. g) n h (kept-outcome (keep p xs) entry) (omega (arith, keep-length p xs, c)) entry
+-- no more are kept than there are
+kept-given : {X E : Type 0} (n : ℕ) → n ≤ 100 → (p : X → Bool) (xs : List X) (exit entry : E) → CountFits (length xs)
+    → KeptGiven (judged Kept.Refused n (kept (Kept.Wrote (length (keep p xs))) exit) entry .answer)
+kept-given n h p xs exit entry c =
+    judged-given KeptGiven Kept.Refused (λ n g. g) n h (kept (Kept.Wrote (length (keep p xs))) exit) (omega (arith, keep-length p xs, c)) entry
 
 pub find-given : (m : Model) (k : Kind) (l : ℕ) (xs entry : List ℕ) → CountFits (length xs) → KeptGiven (find-outcome m k l xs entry .answer)
 find-given m k l xs entry c =
+    let sees : ℕ → Bool = λ n. sees-from m (item (kind-number k) n) (place-of (m .bundles) l) in
     kept-given (first-no (find-questions m l xs entry)) (first-no-within 100 (find-questions m l xs entry) (omega arith, (omega arith, tt)))
-    (λ n. sees-from m (item (kind-number k) n) (place-of (m .bundles) l)) xs entry c
+    sees xs (written (keep sees xs) entry) entry c
 
 pub event-given : (m : Model) (k : Kind) (xs : List ℕ) (number : ℕ) (entry : List ℕ) → CountFits (length xs)
     → KeptGiven (event-outcome m k xs number entry .answer)
 event-given m k xs number entry c =
+    let sees : ℕ → Bool = λ l. sees-from m (item (kind-number k) number) (place-of (m .bundles) l) in
     kept-given (first-no (event-questions m xs entry)) (first-no-within 100 (event-questions m xs entry) (omega arith, (omega arith, tt)))
-    (λ l. sees-from m (item (kind-number k) number) (place-of (m .bundles) l)) xs entry c
+    sees xs (written (keep sees xs) entry) entry c
+
+pub resolve-given : (m : Model) (l : ℕ) (cs : List Candidate) (entries : List (List ℕ)) → CountFits (length cs)
+    → KeptGiven (resolve-outcome m l cs entries .answer)
+resolve-given m l cs entries f =
+    let offers : Candidate → Bool = λ c. offered-from m c (place-of (m .bundles) l) in
+    kept-given (first-no (resolve-questions m l cs entries)) (first-no-within 100 (resolve-questions m l cs entries) (omega arith, (omega arith, tt)))
+    offers cs (written-each (parts (keep offers cs)) entries) entries f
 
 pub write-given : (m : Model) → Legal m → (entry : List ℕ) → WrittenGiven (write-outcome m entry .answer)
 write-given m h entry =

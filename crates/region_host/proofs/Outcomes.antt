@@ -16,37 +16,39 @@ use Rattle.region_graph.specs.declared.Place.{Place}
 use Rattle.region_graph.specs.declared.Place.the-variants.{Within, Nowhere}
 use Rattle.region_routes.specs.Chosen.{chosen}
 use Rattle.region_routes.specs.Hooks.{Returned, Outcome, kind-number, item, written, routed-as, kept-as, route-questions, find-questions, event-questions}
-use Rattle.region_routes.specs.Hooks.{judged}
-use Rattle.region_routes.specs.Hooks.{shown, shown-from, route-outcome, kept-outcome, sees-from, find-outcome, event-outcome}
+use Rattle.region_routes.specs.Hooks.{kept, judged, shown, shown-from, route-outcome, sees-from, find-outcome, event-outcome}
+use Rattle.region_routes.specs.Resolve.{Candidate, parts, offered-from, resolve-questions, written-each, resolve-outcome}
 use Rattle.region_routes.specs.declared.Kind.{Kind}
 use Rattle.region_routes.specs.declared.Routed.the-variants as Routed
+use Rattle.region_routes.specs.declared.Kept.{Kept}
 use Rattle.region_routes.specs.declared.Kept.the-variants as Kept
 use Rattle.region_archive.specs.Image.{image}
 use Rattle.region_archive.specs.Promise.{written-as, archived, write-questions, write-outcome}
 use Rattle.region_archive.specs.declared.Written.the-variants as Written
 use Rattle.region_host.specs.CNumbers.{CAnswer, answered, for-c}
 
-module _ {A : Type 0} where
-  -- what an answer is for C, with the buffer beside it
-  pub handed-on : (value : A → ℕ) {o p : Outcome A} {n : ℕ} → n ≡ value (o .answer) → o ≡ p → _≡_ {A = CAnswer} (answered n (o .exit)) (for-c value p)
+module _ {A E : Type 0} where
+  -- what an answer is for C, with what was lent beside it
+  pub handed-on : (value : A → ℕ) {o p : Outcome A E} {n : ℕ} → n ≡ value (o .answer) → o ≡ p
+      → _≡_ {A = CAnswer E} (answered n (o .exit)) (for-c value p)
   handed-on value {o} e q = ap (λ (n : ℕ). answered n (o .exit)) e ∙ ap (for-c value) q
 
-  -- an outcome is an answer, what is returned for it, and a buffer
-  abbrev outcome : (A → Returned) → A → List ℕ → Outcome A
+  -- an outcome is an answer, what is returned for it, and what was lent
+  abbrev outcome : (A → Returned) → A → E → Outcome A E
   outcome gives a exit = record { answer = a; returned = gives a; exit = exit }
 
-  abbrev Whole : (A → Returned) → Outcome A → Type 0
-  Whole gives o = _≡_ {A = Outcome A} (outcome gives (o .answer) (o .exit)) o
+  abbrev Whole : (A → Returned) → Outcome A E → Type 0
+  Whole gives o = _≡_ {A = Outcome A E} (outcome gives (o .answer) (o .exit)) o
 
   -- what C reads in the number that it gets is the answer, where that is had back from its number
-  pub read-off : (gives : A → Returned) (value : A → ℕ) (of : ℕ → A) {o : Outcome A} {v : ℕ} {exit : List ℕ} → Whole gives o
-      → of (value (o .answer)) ≡ o .answer → _≡_ {A = CAnswer} (answered v exit) (for-c value o)
-      → _≡_ {A = Outcome A} (outcome gives (of v) exit) o
+  pub read-off : (gives : A → Returned) (value : A → ℕ) (of : ℕ → A) {o : Outcome A E} {v : ℕ} {exit : E} → Whole gives o
+      → of (value (o .answer)) ≡ o .answer → _≡_ {A = CAnswer E} (answered v exit) (for-c value o)
+      → _≡_ {A = Outcome A E} (outcome gives (of v) exit) o
   read-off gives value of {o} w b e =
       (λ i. outcome gives (of (e i .value)) (e i .exit)) ∙ ap (λ (a : A). outcome gives a (o .exit)) b ∙ w
 
   judged-whole : (gives : A → Returned) (refused : ℕ → A) → ((n : ℕ) → gives (refused n) ≡ record { number = n; values = [] })
-      → (n : ℕ) {o : Outcome A} (entry : List ℕ)
+      → (n : ℕ) {o : Outcome A E} (entry : E)
       → Whole gives o → Whole gives (judged refused n o entry)
   judged-whole gives refused r n {o} entry w = go (eqb n not-refused)
     where
@@ -67,16 +69,23 @@ route-whole m l kind number entry =
     judged-whole routed-as Routed.Refused (λ n. refl) (first-no (route-questions m l kind entry)) entry
     (shown-from-whole m (item kind number) (place-of (m .bundles) l) entry)
 
-kept-whole : (n : ℕ) (xs entry : List ℕ) → Whole kept-as (judged Kept.Refused n (kept-outcome xs entry) entry)
-kept-whole n xs entry = judged-whole kept-as Kept.Refused (λ n. refl) n {o = kept-outcome xs entry} entry refl
+kept-whole : {E : Type 0} (n : ℕ) (a : Kept) (exit entry : E) → Whole kept-as (judged Kept.Refused n (kept a exit) entry)
+kept-whole n a exit entry = judged-whole kept-as Kept.Refused (λ n. refl) n {o = kept a exit} entry refl
 
 pub find-whole : (m : Model) (k : Kind) (l : ℕ) (xs entry : List ℕ) → Whole kept-as (find-outcome m k l xs entry)
 find-whole m k l xs entry =
-    kept-whole (first-no (find-questions m l xs entry)) (keep (λ n. sees-from m (item (kind-number k) n) (place-of (m .bundles) l)) xs) entry
+    let those = keep (λ n. sees-from m (item (kind-number k) n) (place-of (m .bundles) l)) xs in
+    kept-whole (first-no (find-questions m l xs entry)) (Kept.Wrote (length those)) (written those entry) entry
 
 pub event-whole : (m : Model) (k : Kind) (xs : List ℕ) (number : ℕ) (entry : List ℕ) → Whole kept-as (event-outcome m k xs number entry)
 event-whole m k xs number entry =
-    kept-whole (first-no (event-questions m xs entry)) (keep (λ l. sees-from m (item (kind-number k) number) (place-of (m .bundles) l)) xs) entry
+    let those = keep (λ l. sees-from m (item (kind-number k) number) (place-of (m .bundles) l)) xs in
+    kept-whole (first-no (event-questions m xs entry)) (Kept.Wrote (length those)) (written those entry) entry
+
+pub resolve-whole : (m : Model) (l : ℕ) (cs : List Candidate) (entries : List (List ℕ)) → Whole kept-as (resolve-outcome m l cs entries)
+resolve-whole m l cs entries =
+    let those = keep (λ c. offered-from m c (place-of (m .bundles) l)) cs in
+    kept-whole (first-no (resolve-questions m l cs entries)) (Kept.Wrote (length those)) (written-each (parts those) entries) entries
 
 pub write-whole : (m : Model) (entry : List ℕ) → Whole written-as (write-outcome m entry)
 write-whole m entry =

@@ -1,5 +1,4 @@
 -- What a query answers, as one number for C. C reads the 64 bits as a signed number: a count as it is, and a number of the papers below zero.
-use mathlib.Core.List.{List}
 use Prim.Native.Nat.{ℕ, zero, suc, _-_, _^_, _<_}
 use lib.Dec.{eqb, ltb}
 use Rattle.region_graph.specs.Lists.{pick}
@@ -30,16 +29,16 @@ abbrev pub written-value : Written → ℕ
 written-value (Written.Bytes n) = n
 written-value (Written.Refused n) = negative n
 
--- the number that C gets, and the lent buffer as the call leaves it
-pub record CAnswer : Type 0 where
+-- the number that C gets, and what was lent, a buffer or several, as the call leaves it
+pub record CAnswer (E : Type 0) : Type 0 where
   pub value : ℕ
-  pub exit : List ℕ
+  pub exit : E
 
-abbrev pub answered : ℕ → List ℕ → CAnswer
+abbrev pub answered : {E : Type 0} → ℕ → E → CAnswer E
 answered n exit = record { value = n; exit = exit }
 
 -- an outcome for C
-abbrev pub for-c : {A : Type 0} → (A → ℕ) → Outcome A → CAnswer
+abbrev pub for-c : {A E : Type 0} → (A → ℕ) → Outcome A E → CAnswer E
 for-c value o = answered (value (o .answer)) (o .exit)
 
 -- what C reads in such a number: a count where it is not below zero, else a number of the papers

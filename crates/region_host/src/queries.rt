@@ -1,8 +1,10 @@
 // The queries of the lent record. Each hands a copy of the record to a function `_by_value`, which asks the query of that name and
 // makes its answer one number for C.
 ghost use mathlib.Core.Path.{_≡_};
+ghost use mathlib.Core.List.{[], _∷_};
 ghost use Rattle.region_graph.specs.Record.{Valid, meaning};
 ghost use Rattle.region_routes.specs.Hooks.{«route-outcome», «find-outcome», «event-outcome»};
+ghost use Rattle.region_routes.specs.Resolve.{candidates, «resolve-outcome»};
 ghost use Rattle.region_routes.specs.declared.Kind.the-variants as Kind;
 ghost use Rattle.region_archive.specs.Promise.{Queried, «write-outcome»};
 ghost use Rattle.region_host.specs.CNumbers.{answered, «for-c», «routed-value», «kept-value», «written-value»};
@@ -63,26 +65,50 @@ pub extern "C" fn region_bundle_find(
     bundle_find_by_value(*graph, out, location, candidates)
 }
 
-fn resolve_by_value(graph: Graph, out: &mut [u32], location: u32, candidates: &[u32]) -> u64
+fn resolve_by_value(
+    graph: Graph,
+    out_exporters: &mut [u32],
+    out_packages: &mut [u32],
+    location: u32,
+    exporters: &[u32],
+    packages: &[u32],
+) -> u64
     requires { ⌜ Valid graph ⌝ }
-    ensures { λ n. ⌜ answered n (now (out .exit)) ≡ for-c kept-value (find-outcome (meaning graph) Kind.Package location (now (candidates .entry)) (now (out .entry))) ⌝ }
+    ensures { λ n. ⌜ answered n (now («out_exporters» .exit) ∷ now («out_packages» .exit) ∷ []) ≡ for-c kept-value (resolve-outcome (meaning graph) location (candidates (now (exporters .entry)) (now (packages .entry))) (now («out_exporters» .entry) ∷ now («out_packages» .entry) ∷ [])) ⌝ }
 {
-    let answer = resolve(graph, location, candidates, out);
+    let answer = resolve(
+        graph,
+        location,
+        exporters,
+        packages,
+        out_exporters,
+        out_packages,
+    );
     kept_value(answer)
 }
 
-// The packages among the candidates that a bundle sees.
+// The candidates, exporters with packages, that a bundle is offered. The name ends in the version of the interface in which these arguments
+// came.
 #[no_mangle]
-pub extern "C" fn region_resolve(
+pub extern "C" fn region_resolve_v3(
     graph: &Graph,
-    out: &mut [u32],
+    out_exporters: &mut [u32],
+    out_packages: &mut [u32],
     location: u32,
-    candidates: &[u32],
+    exporters: &[u32],
+    packages: &[u32],
 ) -> u64
     requires { ⌜ Valid (now graph) ⌝ }
-    ensures { λ n. ⌜ answered n (now (out .exit)) ≡ for-c kept-value (find-outcome (meaning (now (graph .entry))) Kind.Package location (now (candidates .entry)) (now (out .entry))) ⌝ }
+    ensures { λ n. ⌜ answered n (now («out_exporters» .exit) ∷ now («out_packages» .exit) ∷ []) ≡ for-c kept-value (resolve-outcome (meaning (now (graph .entry))) location (candidates (now (exporters .entry)) (now (packages .entry))) (now («out_exporters» .entry) ∷ now («out_packages» .entry) ∷ [])) ⌝ }
 {
-    resolve_by_value(*graph, out, location, candidates)
+    resolve_by_value(
+        *graph,
+        out_exporters,
+        out_packages,
+        location,
+        exporters,
+        packages,
+    )
 }
 
 fn service_find_by_value(graph: Graph, out: &mut [u32], location: u32, candidates: &[u32]) -> u64

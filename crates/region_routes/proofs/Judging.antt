@@ -4,29 +4,32 @@ use mathlib.Core.Bool.{Bool, true, false, _&&_, _||_}
 use mathlib.Core.Logic.{_⊎_, inl, inr}
 use mathlib.Core.List.{List, [], _∷_}
 use mathlib.Core.Option.{some, none}
-use Prim.Native.Nat.{ℕ, _-_, _≤_, _<_, zero-le}
+use Prim.Native.Nat.{ℕ, _-_, _^_, _≤_, _<_, zero-le}
 use native.Mathlib.Omega.{arith}
 use lib.Dec.{eqb}
 use lib.ListN.{length, List·getD-eq-default}
 use borrow.Author.Tests.{eqb-true, eqb-false, lt-ltb}
 use Rattle.region_graph.specs.Size.{regions}
 use Rattle.region_graph.specs.Lists.{pick, exists, All, keep}
-use Rattle.region_graph.specs.Sets.{bit, has, set-of}
+use Rattle.region_graph.specs.Sets.{bit, has, singleton, set-of}
 use Rattle.region_graph.specs.Model.{Model, Bundle, Legal, LegalBundle}
 use Rattle.region_graph.specs.Calls.{at-location}
 use Rattle.region_graph.specs.Items.{holds, crosses, provides}
-use Rattle.region_graph.specs.Promise.{place-of, holder-set, predecessor-sets}
+use Rattle.region_graph.specs.Promise.{place-of, provider-place, holder-set, predecessor-sets}
 use Rattle.region_graph.specs.declared.Item.{Item}
 use Rattle.region_graph.specs.declared.Place.{Place}
 use Rattle.region_graph.specs.declared.Place.the-variants.{Within, Nowhere}
 use Rattle.region_graph.proofs.Lists.{member-all, and-fst, false-true}
-use Rattle.region_graph.proofs.Bits.{bit-le, bit-zero, in-lt, set-below-lt, bit-set-below, set-is, has-set}
+use Rattle.region_graph.proofs.Bits.{bit-le, bit-zero, in-lt, set-below-lt, bit-set-below, alone-lt, bit-alone, set-is, has-set}
 use Rattle.region_graph.proofs.Views.{counted-at}
 use Rattle.region_routes.specs.Route.{Route, last, next, Best}
 use Rattle.region_routes.specs.Chosen.{chosen-by, found, chosen, sees, PassesTo, HeldAt}
 use Rattle.region_routes.specs.Hooks.{Outcome, routed, shown, sees-from}
+use Rattle.region_routes.specs.Resolve.{reaches}
 use Rattle.region_routes.specs.Tables.{stands-in}
-use Rattle.region_routes.specs.Search.{In, RegionSets, Conn, Searched, Reached, InLayer, Walkable, Walked}
+use Rattle.region_routes.specs.Search.{In, RegionSets, Conn, Searched, Reached, InLayer, Walkable, Walked, end-set}
+use Rattle.region_routes.specs.declared.search.Ends.{Ends}
+use Rattle.region_routes.specs.declared.search.Ends.the-variants as Ends
 use Rattle.region_routes.specs.declared.Routed.{Routed}
 use Rattle.region_routes.specs.declared.Routed.the-variants.{Count}
 use Rattle.region_routes.proofs.Choosing.{crosses-inside, by-best, by-none, found-is}
@@ -59,6 +62,20 @@ place-inside rs h (b ∷ bs) a l r e = go (at-location l b) (place-inside rs h b
 
 pub region-inside : (m : Model) → Legal m → (l : ℕ) {r : ℕ} → place-of (m .bundles) l ≡ Within r → r < regions
 region-inside m h l {r} e = place-inside (m .regions) (h .regions-legal .each) (m .bundles) (h .bundles-legal .each) l r e
+
+-- so is that of a bundle that provides an item
+provider-installed : (l : ℕ) (i : Item) {r : ℕ} (bs : List Bundle) → provider-place bs l i ≡ Within r → place-of bs l ≡ Within r
+provider-installed l i [] e = e
+provider-installed l i {r} (b ∷ bs) e = go (at-location l b) (provides i b) (provider-installed l i bs) e
+  where
+    go : (t u : Bool) → (provider-place bs l i ≡ Within r → place-of bs l ≡ Within r)
+        → pick t (pick u (Within (b .region)) Nowhere) (provider-place bs l i) ≡ Within r → pick t (Within (b .region)) (place-of bs l) ≡ Within r
+    go true true f k = k
+    go true false f k = let z : _≡_ {A = ℕ} 0 1 = cc in absurd (omega arith)
+    go false u f k = f k
+
+pub provider-inside : (m : Model) → Legal m → (l : ℕ) (i : Item) {r : ℕ} → provider-place (m .bundles) l i ≡ Within r → r < regions
+provider-inside m h l i e = region-inside m h l (provider-installed l i (m .bundles) e)
 
 -- so is the region of a held item
 held-inside : (rs : List ℕ) → All (λ r. r < regions) rs → (i : Item) (r : ℕ) (bs : List Bundle) → All (LegalBundle rs) bs
@@ -136,7 +153,7 @@ module _ {cross : ℕ → ℕ → Bool} {ends : ℕ → Bool} {pred : List ℕ} 
 
       -- what the walk writes is the chosen route
       pub walked-by : {d : ℕ} {entry exit : List ℕ} → Walked pred sets d r entry exit
-          → _≡_ {A = Outcome Routed} (routed (Count d) exit) (shown (chosen-by cross ends r) entry)
+          → _≡_ {A = Outcome Routed (List ℕ)} (routed (Count d) exit) (shown (chosen-by cross ends r) entry)
       walked-by {d} {entry} {exit} w =
           let b : Best (λ r s. cross r s ≡ true) (λ r. ends r ≡ true) r (w .path)
           = carry-best (tied .conn-cross) (λ n k. tied .in-ends n (f .layered .holds n k)) (tied .cross-conn)
@@ -210,13 +227,34 @@ module _ (m : Model) (i : Item) (h : Legal m) where
       walkable = walk-from tied f r l
 
       pub walked-chosen : {d : ℕ} {entry exit : List ℕ} → Walked (predecessor-sets m i) sets d r entry exit
-          → _≡_ {A = Outcome Routed} (routed (Count d) exit) (shown (chosen m i r) entry)
+          → _≡_ {A = Outcome Routed (List ℕ)} (routed (Count d) exit) (shown (chosen m i r) entry)
       unfolding chosen
       walked-chosen = walked-by tied f r l
+
+  -- a search from a region alone: the reached regions are those from which connections lead to it
+  module _ (t : ℕ) (l : t < regions) where
+    tied-to : Tied (crosses m i) (eqb t) (predecessor-sets m i) (set-of (eqb t))
+    tied-to = record {
+      inside = λ r s. crosses-inside m i r s h;
+      conn-cross = conn-crosses;
+      cross-conn = crosses-conn;
+      in-ends = set-in (eqb t);
+      ends-in = λ n e. in-set (eqb t) n (subst (λ (x : ℕ). x < regions) (eqb-true t n e) l) e;
+    }
+
+    pub reached-reaches : {sets : List ℕ} {deep reached : ℕ} → Searched (predecessor-sets m i) (singleton t) sets deep reached
+        → reached ≡ set-of (reaches m i t)
+    unfolding reaches
+    reached-reaches f = reached-found tied-to (rw (set-is (singleton t) (eqb t) (alone-lt regions t) (bit-alone regions t)) at f)
 
   -- where nobody holds an item, nobody sees it
   pub none-sees : holder-set m i ≡ 0 → 0 ≡ set-of (sees m i)
   none-sees e = reached-sees {sets = []} {deep = 0} (rw e (none-searched (predecessor-sets m i)))
+
+-- the regions in which a route may end are a set of regions
+pub end-set-small : (m : Model) (i : Item) (e : Ends) → end-set m i e < 2 ^ regions
+end-set-small m i Ends.Holders = set-below-lt regions (holds m i)
+end-set-small m i (Ends.Region t) = alone-lt regions t
 
 -- listeners stand in the set of the regions that see the item exactly where they see it
 pub stands-sees : (m : Model) (i : Item) → Legal m → (l : ℕ)

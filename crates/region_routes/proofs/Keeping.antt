@@ -1,19 +1,20 @@
 -- A loop that writes what passes a test to the start of a lent buffer, and the search for a listener that is not installed.
 use mathlib.Core.Path.{_≡_, refl, sym, ap, _∙_}
 use mathlib.Core.Bool.{Bool, true, false, _&&_}
-use mathlib.Core.List.{List, [], _∷_, _++_}
+use mathlib.Core.List.{List, [], _∷_, _++_, map}
 use Prim.Native.Nat.{ℕ, suc, _+_, _≤_, _<_}
 use native.Mathlib.Numerals.{add-one}
 use native.Mathlib.Omega.{arith}
-use lib.ListN.{length, getD, take, drop, set, length-append, length-set, drop-of-length-le}
+use lib.ListN.{length, getD, take, drop, set, length-append, length-map, length-set, drop-of-length-le}
 use lib.Seq.{set-at, append-snoc, drop-cons, take-all}
 use borrow.Author.Tests.{lt-ltb}
 use Rattle.region_graph.specs.Size.{regions}
 use Rattle.region_graph.specs.Lists.{keep}
 use Rattle.region_graph.specs.Sets.{has, set-of}
 use Rattle.region_graph.specs.declared.Place.{Place}
-use Rattle.region_graph.proofs.Lists.{keep-took, keep-left}
+use Rattle.region_graph.proofs.Lists.{map-append, keep-took, keep-left}
 use Rattle.region_graph.proofs.Bits.{has-set}
+use Rattle.region_graph.proofs.Storing.{map-id}
 use Rattle.region_routes.specs.Hooks.{Outcome, kept, written, kept-outcome, is-installed}
 use Rattle.region_routes.specs.Tables.{all-placed}
 use Rattle.region_routes.specs.declared.Kept.{Kept}
@@ -26,48 +27,71 @@ written-more xs entry x h =
     (set-at xs (getD entry (length xs) 0) (drop (suc (length xs)) entry) x (length xs) refl
     ∙ sym (append-snoc xs x (drop (suc (length xs)) entry)))
 
--- of the first i elements those that pass are written, by each test of a family
-pub record Keeping {T : Type 0} (p : T → ℕ → Bool) (xs : List ℕ) (i n : ℕ) (entry out : List ℕ) : Type 0 where
+-- of the first i elements a part of those that pass is written, by each test of a family
+pub record KeepingPart {T A : Type 0} (p : T → A → Bool) (part : A → ℕ) (xs : List A) (i n : ℕ) (entry out : List ℕ) : Type 0 where
   pub upto : i ≤ length xs
   pub room : length xs ≤ length entry
   pub long : length out ≡ length entry
   pub few : n ≤ i
   pub counted : (t : T) → n ≡ length (keep (p t) (take i xs))
-  pub exit-is : (t : T) → out ≡ written (keep (p t) (take i xs)) entry
+  pub exit-is : (t : T) → out ≡ written (map part (keep (p t) (take i xs))) entry
 
-module _ {T : Type 0} {p : T → ℕ → Bool} {xs : List ℕ} {entry : List ℕ} where
-  pub keeping-start : length xs ≤ length entry → Keeping p xs 0 0 entry entry
-  keeping-start h = record { upto = omega arith; room = h; long = refl; few = omega arith; counted = λ t. refl; exit-is = λ t. refl }
+module _ {T A : Type 0} {p : T → A → Bool} {part : A → ℕ} {xs : List A} {entry : List ℕ} where
+  pub part-start : length xs ≤ length entry → KeepingPart p part xs 0 0 entry entry
+  part-start h = record { upto = omega arith; room = h; long = refl; few = omega arith; counted = λ t. refl; exit-is = λ t. refl }
 
-  module _ {i n : ℕ} {out : List ℕ} (k : Keeping p xs i n entry out) where
-    pub keeping-passed : i < length xs → ((t : T) → p t (getD xs i 0) ≡ true) → Keeping p xs (i + 1) (n + 1) entry (set out n (getD xs i 0))
-    keeping-passed l h = record {
+  module _ {i n : ℕ} {out : List ℕ} (k : KeepingPart p part xs i n entry out) where
+    pub part-passed : (d : A) {x : ℕ} → i < length xs → x ≡ part (getD xs i d) → ((t : T) → p t (getD xs i d) ≡ true)
+        → KeepingPart p part xs (i + 1) (n + 1) entry (set out n x)
+    part-passed d {x} l e h = record {
       upto = omega arith;
       room = k .room;
-      long = length-set out n (getD xs i 0) ∙ k .long;
+      long = length-set out n x ∙ k .long;
       few = omega (arith, k .few);
       counted = λ t.
-          rw (keep-took (p t) xs i 0 l (h t), length-append (keep (p t) (take i xs)) (getD xs i 0 ∷ [])) (ap (λ (j : ℕ). j + 1) (k .counted t));
+          rw (keep-took (p t) xs i d l (h t), length-append (keep (p t) (take i xs)) (getD xs i d ∷ [])) (ap (λ (j : ℕ). j + 1) (k .counted t));
       exit-is = λ t.
-          rw (keep-took (p t) xs i 0 l (h t), k .exit-is t, k .counted t)
-          (written-more (keep (p t) (take i xs)) entry (getD xs i 0) (omega (arith, k .counted t, k .few, k .room)));
+          let those = map part (keep (p t) (take i xs)) in
+          let count : n ≡ length those = k .counted t ∙ sym (length-map (keep (p t) (take i xs)) part) in
+          rw (keep-took (p t) xs i d l (h t), map-append, ← e, k .exit-is t, count)
+          (written-more those entry x (omega (arith, count, k .few, k .room)));
     }
 
-    pub keeping-failed : i < length xs → ((t : T) → p t (getD xs i 0) ≡ false) → Keeping p xs (i + 1) n entry out
-    keeping-failed l h = record {
+    pub part-failed : (d : A) → i < length xs → ((t : T) → p t (getD xs i d) ≡ false) → KeepingPart p part xs (i + 1) n entry out
+    part-failed d l h = record {
       upto = omega arith;
       room = k .room;
       long = k .long;
       few = omega (arith, k .few);
-      counted = λ t. rw (keep-left (p t) xs i 0 l (h t)) (k .counted t);
-      exit-is = λ t. rw (keep-left (p t) xs i 0 l (h t)) (k .exit-is t);
+      counted = λ t. rw (keep-left (p t) xs i d l (h t)) (k .counted t);
+      exit-is = λ t. rw (keep-left (p t) xs i d l (h t)) (k .exit-is t);
     }
 
-    pub keeping-end : length xs ≤ i → (t : T) → _≡_ {A = Outcome Kept} (kept (Wrote n) out) (kept-outcome (keep (p t) xs) entry)
+    module _ (h : length xs ≤ i) (t : T) where
+      pub part-count : n ≡ length (keep (p t) xs)
+      part-count = k .counted t ∙ ap (λ (ys : List A). length (keep (p t) ys)) (take-all i xs h)
+
+      pub part-exit : out ≡ written (map part (keep (p t) xs)) entry
+      part-exit = k .exit-is t ∙ ap (λ (ys : List A). written (map part (keep (p t) ys)) entry) (take-all i xs h)
+
+-- of a find or an event the elements are written as they are
+abbrev pub Keeping : {T : Type 0} → (T → ℕ → Bool) → List ℕ → ℕ → ℕ → List ℕ → List ℕ → Type 0
+Keeping p = KeepingPart p (λ x. x)
+
+module _ {T : Type 0} {p : T → ℕ → Bool} {xs : List ℕ} {entry : List ℕ} where
+  pub keeping-start : length xs ≤ length entry → Keeping p xs 0 0 entry entry
+  keeping-start = part-start
+
+  module _ {i n : ℕ} {out : List ℕ} (k : Keeping p xs i n entry out) where
+    pub keeping-passed : i < length xs → ((t : T) → p t (getD xs i 0) ≡ true) → Keeping p xs (i + 1) (n + 1) entry (set out n (getD xs i 0))
+    keeping-passed l = part-passed k 0 l refl
+
+    pub keeping-failed : i < length xs → ((t : T) → p t (getD xs i 0) ≡ false) → Keeping p xs (i + 1) n entry out
+    keeping-failed = part-failed k 0
+
+    pub keeping-end : length xs ≤ i → (t : T) → _≡_ {A = Outcome Kept (List ℕ)} (kept (Wrote n) out) (kept-outcome (keep (p t) xs) entry)
     keeping-end h t =
-        let e = take-all i xs h in
-        λ j. kept (Wrote ((k .counted t ∙ ap (λ (ys : List ℕ). length (keep (p t) ys)) e) j))
-        ((k .exit-is t ∙ ap (λ (ys : List ℕ). written (keep (p t) ys) entry) e) j)
+        λ j. kept (Wrote (part-count k h t j)) ((part-exit k h t ∙ ap (λ (ys : List ℕ). written ys entry) (map-id (keep (p t) xs))) j)
 
 -- whether a region is in the set of those that pass a test
 pub has-by : (p : ℕ → Bool) (r : ℕ) {set : ℕ} {a b : Bool} → set ≡ set-of p → r < regions → a ≡ has set r → a ≡ b → p r ≡ b

@@ -10,4 +10,5 @@ pub mod TableLaws
 pub mod Chaining
 pub mod Lookups
 pub mod Keeping
+pub mod Resolving
 pub mod Answering

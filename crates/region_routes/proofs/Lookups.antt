@@ -14,7 +14,7 @@ use Rattle.region_graph.specs.Lists.{pick}
 use Rattle.region_graph.specs.Sets.{singleton}
 use Rattle.region_graph.specs.declared.Place.the-variants.{Within, Nowhere}
 use Rattle.region_graph.proofs.Views.{exists-more, sets-more, held, held-none, held-took, held-left}
-use Rattle.region_routes.specs.Tables.{number-in, place-in, source-in, target-in, held-in, step-in, step-or, predecessors-by, place-at}
+use Rattle.region_routes.specs.Tables.{number-in, place-in, source-in, target-in, held-in, step-in, step-or, predecessors-by, place-at, place-beside}
 use Rattle.region_routes.specs.Chains.{chains, chain, Chained}
 use Rattle.region_routes.proofs.Chaining.{Along, along-start, along-next}
 
@@ -59,6 +59,39 @@ module _ {es links : List ℕ} {n : ℕ} where
 
     pub later-end : length es ≤ i → Nowhere ≡ place-at es n
     later-end l = sym (w .done .later ∙ rw (drop-of-length-le es l))
+
+-- the same with a location beside each entry
+pub record Beside (es ls : List ℕ) (l n : ℕ) (x : Unit {0}) (i : ℕ) : Type 0 where
+  pub as-long : length ls ≡ length es
+  pub later : place-beside es ls l n ≡ place-beside (drop i es) (drop i ls) l n
+
+beside-by : {es ls : List ℕ} {l n i : ℕ} → Beside es ls l n tt i → i < length es → place-beside es ls l n
+    ≡ pick (eqb (number-in (getD es i 0)) n && eqb (getD ls i 0) l) (Within (place-in (getD es i 0))) (place-beside (drop (i + 1) es) (drop (i + 1) ls) l n)
+beside-by {es} {ls} {l} {n} {i} p h =
+    p .later ∙ rw add-one (ap₂ (λ (t u : List ℕ). place-beside t u l n) (drop-cons es i 0 h) (drop-cons ls i 0 (omega (arith, p .as-long))))
+
+beside-passed : {es ls : List ℕ} {l n i : ℕ} → (p : Beside es ls l n tt i) → i < length es
+    → (eqb (number-in (getD es i 0)) n && eqb (getD ls i 0) l) ≡ false → Beside es ls l n tt (i + 1)
+beside-passed p h q = record { as-long = p .as-long; later = beside-by p h ∙ rw q }
+
+module _ {es ls links : List ℕ} {l n : ℕ} where
+  pub beside-start : {j : ℕ} → Chained es links → length ls ≡ length es → j ≡ getD links (chain n) 0 → Along (Beside es ls l n) es links n tt j
+  beside-start c s e = along-start c (λ x i h q p. beside-passed p h (rw q)) tt (record { as-long = s; later = refl }) e
+
+  module _ {i : ℕ} (w : Along (Beside es ls l n) es links n tt i) where
+    pub beside-inside : i < length es → i < length ls
+    beside-inside h = omega (arith, w .done .as-long)
+
+    pub beside-here : i < length es → number-in (getD es i 0) ≡ n → getD ls i 0 ≡ l → Within (place-in (getD es i 0)) ≡ place-beside es ls l n
+    beside-here h q k = sym (beside-by (w .done) h ∙ rw (eq-eqb (number-in (getD es i 0)) n q, eq-eqb (getD ls i 0) l k))
+
+    -- past an entry of the number with another location beside it
+    pub beside-other : {j : ℕ} → i < length es → (getD ls i 0 ≡ l → ⊥) → j ≡ getD links (chains + i) 0 → Along (Beside es ls l n) es links n tt j
+    beside-other h k e =
+        along-next w h (beside-passed (w .done) h (rw (ne-eqb (getD ls i 0) l k, and-false (eqb (number-in (getD es i 0)) n)))) e
+
+    pub beside-end : length es ≤ i → Nowhere ≡ place-beside es ls l n
+    beside-end h = sym (w .done .later ∙ rw (drop-of-length-le es h))
 
 -- the sets are those given, with the sources of the entries of the number before place i
 pub record Preceding (es : List ℕ) (n : ℕ) (given sets : List ℕ) (i : ℕ) : Type 0 where

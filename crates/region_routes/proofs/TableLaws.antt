@@ -1,24 +1,28 @@
 -- Tables: what an entry says, what a table says of the model whose table it is, and what a loop puts it together from.
 use mathlib.Core.Path.{_≡_, refl, sym, ap, ap₂, _∙_}
 use mathlib.Core.Bool.{Bool, true, false, _&&_, _||_, and-false, or-true}
-use mathlib.Core.List.{List, [], _∷_, map}
+use mathlib.Core.List.{List, [], _∷_, _++_, map}
 use Prim.Native.Nat.{ℕ, zero, suc, _+_, _≤_, _<_, _^_}
 use native.Mathlib.Omega.{arith}
 use lib.Dec.{eqb}
-use lib.ListN.{length, getD, replicate, length-map}
-use borrow.Author.Tests.{ne-eqb}
+use lib.ListN.{length, getD, replicate, length-append, length-map}
+use borrow.Author.Tests.{eqb-true, ne-eqb, ltb-true}
 use Rattle.region_graph.specs.Size.{regions, most-bundles, most-connections, most-provided, most-listed}
-use Rattle.region_graph.specs.Lists.{exists, All, member, concat-map}
+use Rattle.region_graph.specs.Lists.{pick, exists, All, member, concat-map}
 use Rattle.region_graph.specs.Sets.{set-of}
 use Rattle.region_graph.specs.Model.{Model, Bundle, Filter, Part, Connection, Word, NumberedPart, Legal, LegalBundle, LegalFilter, LegalConnection}
+use Rattle.region_graph.specs.Model.{bundle-before}
+use Rattle.region_graph.specs.Calls.{at-location}
 use Rattle.region_graph.specs.Items.{provided, part-of, part-passes, provides, passes, crosses}
 use Rattle.region_graph.specs.Record.{places, store-bundle, store-connection, bundle-in, connection-in, no-bundle, no-connection}
 use Rattle.region_graph.specs.Places.{ShortBundle, ShortConnection, BundleStored, ConnectionStored}
-use Rattle.region_graph.specs.Promise.{place-of, holder-set, predecessor-sets}
+use Rattle.region_graph.specs.Promise.{place-of, provider-place, holder-set, predecessor-sets}
 use Rattle.region_graph.specs.declared.Place.{Place}
+use Rattle.region_graph.specs.declared.Place.the-variants.{Within, Nowhere}
 use Rattle.region_graph.specs.declared.bundles.StoredBundle.{StoredBundle}
 use Rattle.region_graph.specs.declared.connections.StoredConnection.{StoredConnection}
 use Rattle.region_graph.proofs.Lists.{exists-append, all-at, all-map, member-all, eqb-sym}
+use Rattle.region_graph.proofs.Ascending.{Rising, ascends-rising, strict-bundles}
 use Rattle.region_graph.proofs.Bits.{set-below-lt, set-none}
 use Rattle.region_graph.proofs.Arrays.{filled-at, filled-inside}
 use Rattle.region_graph.proofs.Storing.{stored-as, bundle-back, connection-back, bundles-each, connections-each}
@@ -26,8 +30,8 @@ use Rattle.region_graph.proofs.Storing.{short-bundle, short-connection, short-c
 use Rattle.region_routes.specs.Hooks.{item, is-installed, all-installed}
 use Rattle.region_routes.specs.Search.{RegionSets}
 use Rattle.region_routes.specs.Tables.{width, everything-number, packed, number-in, place-in, ends, source-in, target-in}
-use Rattle.region_routes.specs.Tables.{passed, offer, passage, offers, passages, held-in, step-in, step-or, predecessors-by}
-use Rattle.region_routes.specs.Tables.{place-at, all-placed, Tables}
+use Rattle.region_routes.specs.Tables.{passed, offer, passage, owner, offers, passages, owners, held-in, step-in, step-or, predecessors-by}
+use Rattle.region_routes.specs.Tables.{place-at, place-beside, all-placed, Tables, ExportTables}
 use Rattle.region_routes.proofs.SetLaws.{counted-sets}
 use Rattle.region_routes.proofs.TableLoops.{Source, Gathering, gathering-room}
 
@@ -111,9 +115,14 @@ module _ (m : Model) (h : Legal m) where
   few-provided (suc (suc zero)) b l = l .services .few
   few-provided (suc (suc (suc k))) b l = omega arith
 
-  offers-few : (k : ℕ) → All (λ b. length (offer k b) ≤ most-provided) (m .bundles)
+  pub offers-few : (k : ℕ) → All (λ b. length (offer k b) ≤ most-provided) (m .bundles)
   offers-few k =
       all-map (LegalBundle (m .regions)) (λ b. length (offer k b) ≤ most-provided) (λ b l. rw length-map (few-provided k b l)) (m .bundles)
+      (h .bundles-legal .each)
+
+  pub owners-few : All (λ b. length (owner b) ≤ most-provided) (m .bundles)
+  owners-few =
+      all-map (LegalBundle (m .regions)) (λ b. length (owner b) ≤ most-provided) (λ b l. rw length-map (l .packages .few)) (m .bundles)
       (h .bundles-legal .each)
 
   -- the place of a location in the table of the bundles is its region
@@ -125,6 +134,63 @@ module _ (m : Model) (h : Legal m) where
       go (b ∷ bs) a =
           let i : b .region < regions = member-all (λ x. x < regions) (b .region) (m .regions) (h .regions-legal .each) (a .0 .region) in
           rw (packed-number (b .location) (b .region) (omega arith), packed-place (b .location) (b .region) (omega arith), go bs (a .1))
+
+  -- owners
+
+  -- the entries of one bundle, with its location beside each
+  module _ (l n : ℕ) where
+    beside-bundle : (b : Bundle) → b .region < regions → (es ls : List ℕ)
+        → place-beside (offer 1 b ++ es) (owner b ++ ls) l n
+        ≡ pick (at-location l b && provides (item 1 n) b) (Within (b .region)) (place-beside es ls l n)
+    beside-bundle b i es ls = go (b .packages)
+      where
+        test : Bool → Place
+        test t = pick t (Within (b .region)) (place-beside es ls l n)
+
+        first : (t u v : Bool) → pick (u && t) (Within (b .region)) (test (t && v)) ≡ test (t && (u || v))
+        first true true v = refl
+        first true false v = refl
+        first false true v = refl
+        first false false v = refl
+
+        go : (ps : List ℕ) → place-beside (map (λ x. packed x (b .region)) ps ++ es) (map (λ x. b .location) ps ++ ls) l n
+            ≡ test (eqb (b .location) l && member n ps)
+        go [] = rw (and-false (eqb (b .location) l))
+        go (p ∷ ps) =
+            rw (packed-number p (b .region) (omega arith), packed-place p (b .region) (omega arith), go ps, eqb-sym p n)
+            (first (eqb (b .location) l) (eqb n p) (member n ps))
+
+    module _ (bound : (b : Bundle) → LegalBundle (m .regions) b → b .region < regions) where
+      -- no bundle is at the location
+      none-beside : (bs : List Bundle) → All (LegalBundle (m .regions)) bs → All (λ b. at-location l b ≡ false) bs
+          → place-beside (offers 1 bs) (owners bs) l n ≡ Nowhere
+      none-beside [] a f = refl
+      none-beside (b ∷ bs) a f = beside-bundle b (bound b (a .0)) (offers 1 bs) (owners bs) ∙ rw (f .0) (none-beside bs (a .1) (f .1))
+
+      beside-each : (bs : List Bundle) → All (LegalBundle (m .regions)) bs → Rising bundle-before bs
+          → place-beside (offers 1 bs) (owners bs) l n ≡ provider-place bs l (item 1 n)
+      beside-each [] a r = refl
+      beside-each (b ∷ bs) a r =
+          beside-bundle b (bound b (a .0)) (offers 1 bs) (owners bs)
+          ∙ by (at-location l b) refl (provides (item 1 n) b) (beside-each bs (a .1) (r .1))
+        where
+          later : at-location l b ≡ true → All (λ c. at-location l c ≡ false) bs
+          later e =
+              all-map (λ c. bundle-before b c ≡ true) (λ c. at-location l c ≡ false)
+              (λ c k. ne-eqb (c .location) l (λ z. omega (arith, ltb-true (b .location) (c .location) k, eqb-true (b .location) l e))) bs (r .0)
+
+          by : (t : Bool) → at-location l b ≡ t → (u : Bool) → place-beside (offers 1 bs) (owners bs) l n ≡ provider-place bs l (item 1 n)
+              → pick (t && u) (Within (b .region)) (place-beside (offers 1 bs) (owners bs) l n)
+              ≡ pick t (pick u (Within (b .region)) Nowhere) (provider-place bs l (item 1 n))
+          by true e true f = refl
+          by true e false f = none-beside bs (a .1) (later e)
+          by false e u f = f
+
+    -- the place is the region of the bundle at the location, where that has the package: a location stands once
+    beside-owners : place-beside (offers 1 (m .bundles)) (owners (m .bundles)) l n ≡ provider-place (m .bundles) l (item 1 n)
+    beside-owners =
+        beside-each (λ b k. member-all (λ x. x < regions) (b .region) (m .regions) (h .regions-legal .each) (k .region)) (m .bundles)
+        (h .bundles-legal .each) (ascends-rising bundle-before strict-bundles (m .bundles) (h .bundles-legal .ascend))
 
   -- passages
 
@@ -189,21 +255,34 @@ module _ (m : Model) (h : Legal m) where
       all-map (LegalConnection (m .regions)) (λ c. length (passage k c) ≤ most-listed)
       (λ c l. rw length-map (few-passed (part-of k (c .filter)) (part-legal k (c .filter) (l .filter)))) (m .connections) (h .connections-legal .each)
 
-  -- the places of the bundles and of the connections: what each table is put together from
-  module _ (k : ℕ) where
-    abbrev pub OffersFrom : List StoredBundle → ℕ → Type 0
-    OffersFrom items count =
-        Source store-bundle (store-bundle no-bundle) most-bundles bundle-in (offer k) most-provided items count (m .bundles)
+  -- the places of the bundles: what a table of them is put together from
+  module _ (f : Bundle → List ℕ) where
+    abbrev pub BundlesFrom : List StoredBundle → ℕ → Type 0
+    BundlesFrom items count = Source store-bundle (store-bundle no-bundle) most-bundles bundle-in f most-provided items count (m .bundles)
 
-    pub offers-from : {items : List StoredBundle} {count : ℕ} → items ≡ places store-bundle (store-bundle no-bundle) most-bundles (m .bundles)
-        → count ≡ length (m .bundles) → OffersFrom items count
-    offers-from s c = record {
+    pub bundles-from : {items : List StoredBundle} {count : ℕ} → All (λ b. length (f b) ≤ most-provided) (m .bundles)
+        → items ≡ places store-bundle (store-bundle no-bundle) most-bundles (m .bundles) → count ≡ length (m .bundles) → BundlesFrom items count
+    bundles-from few s c = record {
       filled = record { shape = s; counted = c; room = h .bundles-legal .few };
       back = bundles-each (m .bundles);
-      few = offers-few k;
+      few = few;
       fits = omega arith;
     }
 
+    -- what is asked of the place of which entries are put: it is stored in the one way, and there is room
+    pub bundles-asked : {items : List StoredBundle} {count : ℕ} {before out : List ℕ} {i n : ℕ} → BundlesFrom items count
+        → Gathering bundle-in f items count before i out n → (e : StoredBundle) → i < count
+        → BundleStored (getD items i e) × (n + length (f (bundle-in (getD items i e))) ≤ length out)
+    bundles-asked {i = i} s g e l =
+        let w = s .filled in
+        let b = getD (m .bundles) i no-bundle in (
+          stored-as store-bundle bundle-in ShortBundle (λ b s. bundle-back b) b (filled-at w i e no-bundle l)
+              (short-bundle (all-at (LegalBundle (m .regions)) (m .bundles) i no-bundle (filled-inside w i l) (h .bundles-legal .each))),
+          gathering-room s g e no-bundle l,
+        )
+
+  -- the places of the connections
+  module _ (k : ℕ) where
     abbrev pub PassagesFrom : List StoredConnection → ℕ → Type 0
     PassagesFrom items count =
         Source store-connection (store-connection no-connection) most-connections connection-in (passage k) most-listed items count (m .connections)
@@ -218,18 +297,7 @@ module _ (m : Model) (h : Legal m) where
       fits = omega arith;
     }
 
-    -- what is asked of the place of which entries are put: it is stored in the one way, a connection's ends are regions, and there is room
-    pub offers-asked : {items : List StoredBundle} {count : ℕ} {before out : List ℕ} {i n : ℕ} → OffersFrom items count
-        → Gathering bundle-in (offer k) items count before i out n → (e : StoredBundle) → i < count
-        → BundleStored (getD items i e) × (n + length (offer k (bundle-in (getD items i e))) ≤ length out)
-    offers-asked {i = i} s g e l =
-        let f = s .filled in
-        let b = getD (m .bundles) i no-bundle in (
-          stored-as store-bundle bundle-in ShortBundle (λ b s. bundle-back b) b (filled-at f i e no-bundle l)
-              (short-bundle (all-at (LegalBundle (m .regions)) (m .bundles) i no-bundle (filled-inside f i l) (h .bundles-legal .each))),
-          gathering-room s g e no-bundle l,
-        )
-
+    -- here a connection's ends are regions, too
     pub passages-asked : {items : List StoredConnection} {count : ℕ} {before out : List ℕ} {i n : ℕ} → PassagesFrom items count
         → Gathering connection-in (passage k) items count before i out n → (e : StoredConnection) → i < count
         → ConnectionStored (getD items i e) × (((getD items i e .source < regions) × (getD items i e .target < regions))
@@ -259,6 +327,21 @@ module _ {m : Model} {kind : ℕ} {offered passing : List ℕ} (t : Tables m kin
 
   pub preceding-table : predecessors-by (step-or (step-in passing everything-number) passing n) ≡ predecessor-sets m (item kind n)
   preceding-table = ap (λ (es : List ℕ). predecessors-by (step-or (step-in es everything-number) es n)) (t .passing-is) ∙ stepped-passages m (t .legal) kind n
+
+-- the table of the packages and their exporters are as long
+owned-long : (bs : List Bundle) → length (owners bs) ≡ length (offers 1 bs)
+owned-long [] = refl
+owned-long (b ∷ bs) =
+    length-append (owner b) (owners bs)
+    ∙ ap₂ _+_ (length-map (b .packages) (λ n. b .location) ∙ sym (length-map (b .packages) (λ n. packed n (b .region)))) (owned-long bs)
+    ∙ sym (length-append (offer 1 b) (offers 1 bs))
+
+pub owned-as-long : (bs : List Bundle) {owned exported : List ℕ} → owned ≡ owners bs → exported ≡ offers 1 bs → length owned ≡ length exported
+owned-as-long bs e f = ap length e ∙ owned-long bs ∙ sym (ap length f)
+
+module _ {m : Model} {exported owned passing : List ℕ} (t : ExportTables m exported owned passing) where
+  pub beside-table : (l n : ℕ) → place-beside exported owned l n ≡ provider-place (m .bundles) l (item 1 n)
+  beside-table l n = rw (t .tables .offered-is, t .owned-is) (beside-owners m (t .tables .legal) l n)
 
 pub held-small : (es : List ℕ) (n : ℕ) → held-in es n < 2 ^ regions
 held-small es n = set-below-lt regions (λ r. exists (λ e. eqb (place-in e) r && eqb (number-in e) n) es)

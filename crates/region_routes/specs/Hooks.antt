@@ -49,16 +49,16 @@ abbrev pub kept-as : Kept → Returned
 kept-as (Kept.Wrote n) = record { number = not-refused; values = n ∷ [] }
 kept-as (Kept.Refused n) = record { number = n; values = [] }
 
--- an answer, what document 01 says is returned for it, and the lent buffer as the call leaves it
-pub record Outcome (A : Type 0) : Type 0 where
+-- an answer, what document 01 says is returned for it, and what was lent, a buffer or several, as the call leaves it
+pub record Outcome (A E : Type 0) : Type 0 where
   pub answer : A
   pub returned : Returned
-  pub exit : List ℕ
+  pub exit : E
 
-abbrev pub routed : Routed → List ℕ → Outcome Routed
+abbrev pub routed : Routed → List ℕ → Outcome Routed (List ℕ)
 routed answer exit = record { answer = answer; returned = routed-as answer; exit = exit }
 
-abbrev pub kept : Kept → List ℕ → Outcome Kept
+abbrev pub kept : {E : Type 0} → Kept → E → Outcome Kept E
 kept answer exit = record { answer = answer; returned = kept-as answer; exit = exit }
 
 -- whether a bundle, and every listener, is installed
@@ -90,28 +90,28 @@ event-questions m listeners entry =
     ∷ ask no-place (leb (length listeners) (length entry))
     ∷ []
 
--- a refusal by the number of the first question answered no leaves the buffer as it was; with no "no" the query is answered
-module _ {A : Type 0} where
-  abbrev pub judged : (ℕ → A) → ℕ → Outcome A → List ℕ → Outcome A
+-- a refusal by the number of the first question answered no leaves what was lent as it was; with no "no" the query is answered
+module _ {A E : Type 0} where
+  abbrev pub judged : (ℕ → A) → ℕ → Outcome A E → E → Outcome A E
   judged refused n answered entry =
       pick (eqb n not-refused) answered (record { answer = refused n; returned = record { number = n; values = [] }; exit = entry })
 
 -- the count of connections is one less than the count of regions
-abbrev pub shown : Option (List ℕ) → List ℕ → Outcome Routed
+abbrev pub shown : Option (List ℕ) → List ℕ → Outcome Routed (List ℕ)
 shown none entry = routed Routed.Hidden entry
 shown (some p) entry = routed (Routed.Count (length p - 1)) (written p entry)
 
 -- the chosen route from the region of an installed bundle
-abbrev pub shown-from : Model → Item → Place → List ℕ → Outcome Routed
+abbrev pub shown-from : Model → Item → Place → List ℕ → Outcome Routed (List ℕ)
 shown-from m i (Within r) entry = shown (chosen m i r) entry
 shown-from m i Nowhere entry = shown none entry
 
-abbrev pub route-outcome : Model → ℕ → ℕ → ℕ → List ℕ → Outcome Routed
+abbrev pub route-outcome : Model → ℕ → ℕ → ℕ → List ℕ → Outcome Routed (List ℕ)
 route-outcome m location kind number entry =
     judged Routed.Refused (first-no (route-questions m location kind entry)) (shown-from m (item kind number) (place-of (m .bundles) location) entry)
     entry
 
-abbrev pub kept-outcome : List ℕ → List ℕ → Outcome Kept
+abbrev pub kept-outcome : List ℕ → List ℕ → Outcome Kept (List ℕ)
 kept-outcome xs entry = kept (Kept.Wrote (length xs)) (written xs entry)
 
 -- whether the region of an installed bundle sees an item
@@ -120,13 +120,13 @@ sees-from m i (Within r) = sees m i r
 sees-from m i Nowhere = false
 
 -- a find writes the candidates that its bundle sees
-abbrev pub find-outcome : Model → Kind → ℕ → List ℕ → List ℕ → Outcome Kept
+abbrev pub find-outcome : Model → Kind → ℕ → List ℕ → List ℕ → Outcome Kept (List ℕ)
 find-outcome m kind location candidates entry =
     judged Kept.Refused (first-no (find-questions m location candidates entry))
     (kept-outcome (keep (λ n. sees-from m (item (kind-number kind) n) (place-of (m .bundles) location)) candidates) entry) entry
 
 -- an event writes the listeners that see its item
-abbrev pub event-outcome : Model → Kind → List ℕ → ℕ → List ℕ → Outcome Kept
+abbrev pub event-outcome : Model → Kind → List ℕ → ℕ → List ℕ → Outcome Kept (List ℕ)
 event-outcome m kind listeners number entry =
     judged Kept.Refused (first-no (event-questions m listeners entry))
     (kept-outcome (keep (λ l. sees-from m (item (kind-number kind) number) (place-of (m .bundles) l)) listeners) entry) entry

@@ -1,7 +1,8 @@
--- What a reader must believe of routes and hooks, in document 01's order: the public promises and the theorems cite it.
+-- What a reader must believe of routes and hooks, in the papers' order: the public promises and the theorems cite it.
 pub mod Route
 pub mod Chosen
 pub mod Hooks
+pub mod Resolve
 -- What only private functions cite.
 pub mod Search
 pub mod Tables

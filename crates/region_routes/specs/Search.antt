@@ -4,8 +4,13 @@ use mathlib.Core.List.{List, _++_}
 use Prim.Native.Nat.{ℕ, suc, _<_, _≤_, _^_}
 use lib.ListN.{length, getD, drop}
 use Rattle.region_graph.specs.Size.{regions}
-use Rattle.region_graph.specs.Sets.{bit}
+use Rattle.region_graph.specs.Sets.{bit, singleton}
+use Rattle.region_graph.specs.Model.{Model}
+use Rattle.region_graph.specs.Promise.{holder-set}
+use Rattle.region_graph.specs.declared.Item.{Item}
 use Rattle.region_routes.specs.Route.{Best}
+use Rattle.region_routes.specs.declared.search.Ends.{Ends}
+use Rattle.region_routes.specs.declared.search.Ends.the-variants as Ends
 
 -- n is a member of the set x
 abbrev pub In : ℕ → ℕ → Type 0
@@ -52,6 +57,11 @@ pub record Searched (pred : List ℕ) (holders : ℕ) (sets : List ℕ) (deep re
   pub into : (i n : ℕ) → i ≤ deep → At sets i n → In reached n
   pub from : (n : ℕ) → In reached n → (i : ℕ) × (i ≤ deep) × (At sets i n)
   pub shut : (n s : ℕ) → Conn pred n s → In reached s → In reached n
+
+-- the set of the regions in which a route for an item may end
+abbrev pub end-set : Model → Item → Ends → ℕ
+end-set m i Ends.Holders = holder-set m i
+end-set m i (Ends.Region t) = singleton t
 
 -- a region of some layer up to `deep`, and the layer that a search for it finds
 pub record Reached (sets : List ℕ) (deep region : ℕ) : Type 0 where

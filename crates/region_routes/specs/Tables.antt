@@ -12,7 +12,9 @@ use Rattle.region_graph.specs.Model.{Model, Bundle, Part, Connection, Legal}
 use Rattle.region_graph.specs.Items.{provided, part-of}
 use Rattle.region_graph.specs.declared.Place.{Place}
 use Rattle.region_graph.specs.declared.Place.the-variants.{Within, Nowhere}
-use Rattle.region_routes.specs.Hooks.{is-installed}
+use Rattle.region_routes.specs.Hooks.{kind-number, is-installed}
+use Rattle.region_routes.specs.Resolve.{Candidate}
+use Rattle.region_routes.specs.declared.Kind.the-variants as Kind
 
 -- an entry: a number of an item with the place that it goes with, below `width`; the number `everything-number`, which no item has, stands for all
 abbrev pub width : ℕ
@@ -56,12 +58,20 @@ offer kind b = map (λ n. packed n (b .region)) (provided kind b)
 abbrev pub passage : ℕ → Connection → List ℕ
 passage kind c = map (λ n. packed n (ends (c .source) (c .target))) (passed (part-of kind (c .filter)))
 
+-- the exporter of each package that a bundle brings: its location
+abbrev pub owner : Bundle → List ℕ
+owner b = map (λ n. b .location) (b .packages)
+
 -- the tables of a kind
 abbrev pub offers : ℕ → List Bundle → List ℕ
 offers kind bs = concat-map (offer kind) bs
 
 abbrev pub passages : ℕ → List Connection → List ℕ
 passages kind cs = concat-map (passage kind) cs
+
+-- beside the table of the packages, at equal places, their exporters
+abbrev pub owners : List Bundle → List ℕ
+owners bs = concat-map owner bs
 
 -- xs was put at the places from `at` on; what stands before them is as it was, and `next` is the place after them
 pub record Appended (before : List ℕ) (at : ℕ) (xs after : List ℕ) (next : ℕ) : Type 0 where
@@ -93,6 +103,12 @@ abbrev pub place-at : List ℕ → ℕ → Place
 place-at [] l = Nowhere
 place-at (e ∷ es) l = pick (eqb (number-in e) l) (Within (place-in e)) (place-at es l)
 
+-- the place of the first entry that has the number n, and l beside it
+abbrev pub place-beside : List ℕ → List ℕ → ℕ → ℕ → Place
+place-beside [] ls l n = Nowhere
+place-beside (e ∷ es) [] l n = Nowhere
+place-beside (e ∷ es) (k ∷ ls) l n = pick (eqb (number-in e) n && eqb k l) (Within (place-in e)) (place-beside es ls l n)
+
 -- whether a place is in a set
 abbrev pub stands-in : ℕ → Place → Bool
 stands-in set (Within r) = has set r
@@ -108,3 +124,12 @@ pub record Tables (m : Model) (kind : ℕ) (offered passing : List ℕ) : Type 0
   pub legal : Legal m
   pub offered-is : offered ≡ offers kind (m .bundles)
   pub passing-is : passing ≡ passages kind (m .connections)
+
+-- the tables of the packages: beside them, at equal places, the locations of their exporters
+pub record ExportTables (m : Model) (exported owned passing : List ℕ) : Type 0 where
+  pub tables : Tables m (kind-number Kind.Package) exported passing
+  pub owned-is : owned ≡ owners (m .bundles)
+
+-- each of two output lists has a place for each candidate
+abbrev pub Room : List Candidate → List ℕ → List ℕ → Type 0
+Room cs es ns = (length cs ≤ length es) × (length cs ≤ length ns)

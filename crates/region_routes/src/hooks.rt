@@ -1,4 +1,5 @@
-// The five hooks. A find writes the candidates that its bundle sees, an event the listeners that see its item: order and repetitions kept.
+// The hooks but resolve. A find writes the candidates that its bundle sees, an event the listeners that see its item: order and repetitions
+// kept.
 ghost use mathlib.Core.Path.{_≡_};
 ghost use Prim.Native.Nat.{ℕ, _<_, _≤_};
 ghost use lib.ListN.{length};
@@ -15,6 +16,7 @@ use crate::Kind;
 use crate::search::regions_seeing;
 use crate::search::regions_seeing_by;
 use crate::tables::EVERYTHING_NUMBER;
+use crate::tables::FEW;
 use crate::tables::MOST_ENTRIES;
 use crate::tables::chained;
 use crate::tables::offers;
@@ -29,9 +31,6 @@ use region_graph::refusals::NO_PLACE;
 use region_graph::refusals::NOT_INSTALLED;
 use region_graph::region_set::has;
 use region_graph::size::REGIONS;
-
-// Below so many candidates tables cost more than a search for each.
-const FEW: usize = 4;
 
 // The number of a kind.
 pub fn kind_number(kind: Kind) -> u32
@@ -212,14 +211,6 @@ pub fn bundle_find(graph: Graph, location: u32, candidates: &[u32], out: &mut [u
     ensures { λ r. ⌜ kept r (now (out .exit)) ≡ find-outcome (meaning graph) Kind.Bundle location (now (candidates .entry)) (now (out .entry)) ⌝ }
 {
     find(graph, Kind::Bundle, location, candidates, out)
-}
-
-// The packages among the candidates that a bundle sees.
-pub fn resolve(graph: Graph, location: u32, candidates: &[u32], out: &mut [u32]) -> Kept
-    requires { ⌜ Valid graph ⌝ }
-    ensures { λ r. ⌜ kept r (now (out .exit)) ≡ find-outcome (meaning graph) Kind.Package location (now (candidates .entry)) (now (out .entry)) ⌝ }
-{
-    find(graph, Kind::Package, location, candidates, out)
 }
 
 // The services among the candidates that a bundle sees.

@@ -1,5 +1,6 @@
 // Routes and hooks: which items a bundle sees through the filtered connections between regions.
 mod hooks;
+mod resolver;
 mod routes;
 mod search;
 mod tables;
@@ -8,9 +9,9 @@ pub use hooks::bundle_event;
 pub use hooks::bundle_find;
 pub use hooks::find;
 pub use hooks::kind_number;
-pub use hooks::resolve;
 pub use hooks::service_event;
 pub use hooks::service_find;
+pub use resolver::resolve;
 pub use routes::route;
 pub use search::regions_seeing;
 

@@ -7,6 +7,7 @@ ghost use Rattle.region_graph.specs.Record.{Valid, meaning};
 ghost use Rattle.region_routes.specs.Search.{Leading, Next, Walkable, Walked};
 ghost use Rattle.region_routes.specs.Hooks.{routed, «route-outcome»};
 use crate::Routed;
+use crate::search::Ends;
 use crate::search::Layers;
 use crate::search::distance;
 use crate::search::search_for;
@@ -73,7 +74,7 @@ pub fn route(graph: Graph, location: u32, kind: u32, number: u32, out: &mut [u8]
         return Routed::Refused(NO_PLACE);
     }
     let item = Item { kind, number };
-    let searched = search_for(graph, item);
+    let searched = search_for(graph, item, Ends::Holders);
     let pred = searched.pred;
     let found = searched.found;
     let reached = found.reached;

@@ -3,14 +3,14 @@ ghost use mathlib.Core.Path.{_≡_};
 ghost use Prim.Native.Nat.{ℕ, _<_, _^_};
 ghost use Rattle.region_graph.specs.Size.{regions};
 ghost use Rattle.region_graph.specs.Model.{Model};
-ghost use Rattle.region_graph.specs.Promise.{«holder-set», «predecessor-sets»};
+ghost use Rattle.region_graph.specs.Promise.{«predecessor-sets»};
 ghost use Rattle.region_graph.specs.Record.{Valid, meaning};
 ghost use Rattle.region_graph.specs.Sets.{«set-of»};
 ghost use Rattle.region_routes.specs.Chosen.{sees};
 ghost use Rattle.region_routes.specs.Hooks.{item};
 ghost use Rattle.region_routes.specs.Tables.{Tables, everything-number, «step-in», «predecessors-by»};
 ghost use Rattle.region_routes.specs.Chains.{Chained};
-ghost use Rattle.region_routes.specs.Search.{RegionSets, SetOfRegions, Layer, Searched, Reached, InLayer};
+ghost use Rattle.region_routes.specs.Search.{RegionSets, SetOfRegions, Layer, Searched, Reached, InLayer, «end-set»};
 use crate::tables::holders;
 use crate::tables::predecessors;
 use crate::tables::wide;
@@ -19,6 +19,7 @@ use region_graph::Item;
 use region_graph::region_set::difference;
 use region_graph::region_set::has;
 use region_graph::region_set::lowest;
+use region_graph::region_set::singleton;
 use region_graph::region_set::without_lowest;
 use region_graph::size::REGIONS;
 
@@ -93,14 +94,31 @@ pub struct ItemSearch {
     pub found: Layers,
 }
 
-// The search for an item.
-pub fn search_for(graph: Graph, item: Item) -> ItemSearch
+// Where a route for an item may end: in each region that holds it, or in one region alone.
+pub enum Ends {
+    Holders,
+    Region(u32),
+}
+
+// The regions in which a route may end.
+fn end_set(graph: Graph, item: Item, ends: Ends) -> u64
     requires { ⌜ Valid graph ⌝ }
-    ensures { λ r. ⌜ (r .pred ≡ predecessor-sets (meaning graph) item) × Searched (predecessor-sets (meaning graph) item) (holder-set (meaning graph) item) (r .found .sets) (r .found .deep) (r .found .reached) ⌝ }
+    ensures { λ r. ⌜ r ≡ end-set (meaning graph) item ends ⌝ }
+{
+    match ends {
+        Ends::Holders => graph.holders(item),
+        Ends::Region(region) => singleton(region),
+    }
+}
+
+// The search for an item.
+pub fn search_for(graph: Graph, item: Item, ends: Ends) -> ItemSearch
+    requires { ⌜ Valid graph ⌝ }
+    ensures { λ r. ⌜ (r .pred ≡ predecessor-sets (meaning graph) item) × Searched (predecessor-sets (meaning graph) item) (end-set (meaning graph) item ends) (r .found .sets) (r .found .deep) (r .found .reached) ⌝ }
 {
     let pred = graph.predecessors(item);
-    let holders = graph.holders(item);
-    let found = search(&pred, holders);
+    let set = end_set(graph, item, ends);
+    let found = search(&pred, set);
     ItemSearch { pred, found }
 }
 
@@ -109,7 +127,7 @@ pub fn regions_seeing(graph: Graph, item: Item) -> u64
     requires { ⌜ Valid graph ⌝ }
     ensures { λ r. ⌜ r ≡ set-of (sees (meaning graph) item) ⌝ }
 {
-    let searched = search_for(graph, item);
+    let searched = search_for(graph, item, Ends::Holders);
     let found = searched.found;
     found.reached
 }

@@ -31,6 +31,9 @@ pub const EVERYTHING_NUMBER: u64 = 4294967296;
 // What the connections pass at most; the bundles bring no more.
 pub const MOST_ENTRIES: usize = MOST_CONNECTIONS * MOST_LISTED;
 
+// Below so many candidates tables cost more than a search for each.
+pub const FEW: usize = 4;
+
 // Entries are in a chain by their number's remainder.
 const CHAINS: usize = 256;
 
@@ -68,6 +71,21 @@ fn append(out: &mut [u64], at: usize, place: u32, numbers: &[u32]) -> usize
     while i < numbers.len() {
         let number = wide(numbers[i]);
         n = append_one(out, n, number, place);
+        i += 1;
+    }
+    n
+}
+
+// Puts the location of a bundle for each package of a list.
+fn append_owner(out: &mut [u64], at: usize, location: u32, packages: &[u32]) -> usize
+    requires { ⌜ at + length (map (λ n. location) (now packages)) ≤ length (now out) ⌝ }
+    ensures { λ r. ⌜ Tables.Appended (now (out .entry)) at (map (λ n. location) (now (packages .entry))) (now (out .exit)) r ⌝ }
+{
+    let mut n = at;
+    let mut i: usize = 0;
+    while i < packages.len() {
+        out[n] = wide(location);
+        n += 1;
         i += 1;
     }
     n
@@ -147,6 +165,26 @@ pub fn offers(items: &mut [u64], graph: Graph, kind: Kind) -> usize
         let b = bundles[i];
         i += 1;
         n = append_offer(items, n, b, kind);
+    }
+    n
+}
+
+// Puts, for each package that the bundles of a graph bring, the exporter's location, and gives the count.
+pub fn owners(items: &mut [u64], graph: Graph) -> usize
+    requires { ⌜ Valid graph ⌝ }
+    requires { ⌜ length (now items) ≡ Tables.most-entries ⌝ }
+    ensures { λ r. ⌜ Tables.Holding (Tables.owners (meaning graph .bundles)) (now (items .exit)) r ⌝ }
+{
+    let bundles = graph.bundle_places();
+    let count = graph.bundle_count();
+    let mut n: usize = 0;
+    let mut i: usize = 0;
+    while i < count {
+        let b = bundles[i];
+        i += 1;
+        let given = b.packages.count;
+        let packages = b.packages.items;
+        n = append_owner(items, n, b.location, &packages[..given]);
     }
     n
 }
@@ -267,6 +305,32 @@ pub fn place_of(table: &[u64], links: &[u16], number: u64) -> Place
         i = next_of(links, i);
         if e / WIDTH == number {
             return Place::Within((e % WIDTH) as u32);
+        }
+    }
+    Place::Nowhere
+}
+
+// The place of the first entry that has a number, and a location beside it.
+pub fn place_beside(
+    table: &[u64],
+    links: &[u16],
+    owned: &[u64],
+    location: u64,
+    number: u64,
+) -> Place
+    requires { ⌜ Chains.Chained (now table) (now links) ⌝ }
+    requires { ⌜ length (now owned) ≡ length (now table) ⌝ }
+    ensures { λ r. ⌜ r ≡ Tables.place-beside (now (table .entry)) (now (owned .entry)) location number ⌝ }
+{
+    let mut i = first_of(links, number);
+    while i < table.len() {
+        let e = table[i];
+        let owner = owned[i];
+        i = next_of(links, i);
+        if e / WIDTH == number {
+            if owner == location {
+                return Place::Within((e % WIDTH) as u32);
+            }
         }
     }
     Place::Nowhere

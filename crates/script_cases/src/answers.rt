@@ -1,5 +1,5 @@
 // The answers, as text. The answer of a call with a buffer has three words: the number, the count, and what the buffer holds; `-` is
-// written where there is no count and where the buffer has no place.
+// written where there is no count and where the buffer has no place. That of resolve has a word for each of its two buffers.
 use crate::buffers::PLACES;
 use crate::buffers::ROOM;
 use region_archive::Written;
@@ -58,8 +58,8 @@ fn show_place(i: usize, number: u32) {
     io::print_decimal(1, number as u64);
 }
 
-// The first places, with a comma between two: so many, or all; and the end of the line.
-pub fn show_places(places: &[u32; PLACES], count: usize) {
+// The first places, with a comma between two: so many, or all; and what follows them.
+pub fn show_places(places: &[u32; PLACES], count: usize, after: &[u8]) {
     let mut i: usize = 0;
     while i < PLACES {
         if i == count {
@@ -68,5 +68,5 @@ pub fn show_places(places: &[u32; PLACES], count: usize) {
         show_place(i, places[i]);
         i += 1;
     }
-    show_end(i);
+    show_end(i, after);
 }

@@ -1,7 +1,8 @@
 // The hooks:
-//   bfind, resolve or sfind LOCATION PLACES CANDIDATES
+//   bfind or sfind LOCATION PLACES CANDIDATES
+//   resolve LOCATION PLACES,PLACES EXPORTERS PACKAGES
 //   bevent or sevent PLACES ITEM LISTENERS
-// PLACES is how many places the buffer has.
+// PLACES is how many places the buffer has; resolve has two.
 ghost use Rattle.region_graph.specs.Record.{Valid};
 use crate::answers::show_kept;
 use crate::answers::show_places;
@@ -11,7 +12,6 @@ use region_graph::Graph;
 use region_routes::Kept;
 use region_routes::bundle_event;
 use region_routes::bundle_find;
-use region_routes::resolve;
 use region_routes::service_event;
 use region_routes::service_find;
 use script_text::is;
@@ -19,7 +19,7 @@ use script_text::list;
 use script_text::value;
 use script_text::word;
 
-// The hook of a line, with its candidates or listeners.
+// The hook of a line but resolve, with its candidates or listeners.
 fn kept(g: Graph, line: &[u8], numbers: &[u32], out: &mut [u32]) -> Kept
     requires { ⌜ Valid g ⌝ }
 {
@@ -27,9 +27,6 @@ fn kept(g: Graph, line: &[u8], numbers: &[u32], out: &mut [u32]) -> Kept
     let item = value(line, 2);
     if is(line, b"bfind") {
         return bundle_find(g, location, numbers, out);
-    }
-    if is(line, b"resolve") {
-        return resolve(g, location, numbers, out);
     }
     if is(line, b"sfind") {
         return service_find(g, location, numbers, out);
@@ -50,5 +47,32 @@ pub fn hook(g: Graph, line: &[u8], count: u32)
     let m = fill(&mut places, count);
     let answer = kept(g, line, &numbers[..n], &mut places[..m]);
     show_kept(answer);
-    show_places(&places, m);
+    show_places(&places, m, b"\n");
+}
+
+// Resolve, with its answer. The answer has the places of both buffers.
+pub fn resolve(g: Graph, line: &[u8])
+    requires { ⌜ Valid g ⌝ }
+{
+    let mut exporters = [0u32; PLACES];
+    let e = list(word(line, 3), &mut exporters);
+    let mut packages = [0u32; PLACES];
+    let p = list(word(line, 4), &mut packages);
+    let mut counts = [0u32; 2];
+    list(word(line, 2), &mut counts);
+    let mut out_exporters = [0u32; PLACES];
+    let m = fill(&mut out_exporters, counts[0]);
+    let mut out_packages = [0u32; PLACES];
+    let n = fill(&mut out_packages, counts[1]);
+    let answer = region_routes::resolve(
+        g,
+        value(line, 1),
+        &exporters[..e],
+        &packages[..p],
+        &mut out_exporters[..m],
+        &mut out_packages[..n],
+    );
+    show_kept(answer);
+    show_places(&out_exporters, m, b" ");
+    show_places(&out_packages, n, b"\n");
 }

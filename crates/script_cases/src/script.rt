@@ -11,6 +11,7 @@ use crate::calls::call;
 use crate::files::File;
 use crate::files::next_file;
 use crate::hooks::hook;
+use crate::hooks::resolve;
 use crate::words::is_event;
 use crate::words::is_find;
 use crate::words::is_silent;
@@ -57,6 +58,10 @@ fn asked_hook(g: Graph, line: &[u8]) -> bool
     }
     if is_event(line) {
         hook(g, line, value(line, 1));
+        return true;
+    }
+    if is(line, b"resolve") {
+        resolve(g, line);
         return true;
     }
     false

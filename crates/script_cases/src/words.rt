@@ -7,9 +7,6 @@ pub fn is_find(line: &[u8]) -> bool {
     if is(line, b"bfind") {
         return true;
     }
-    if is(line, b"resolve") {
-        return true;
-    }
     is(line, b"sfind")
 }
 

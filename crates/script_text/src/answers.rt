@@ -20,13 +20,13 @@ pub fn show_bytes(bytes: &[u8], count: usize) {
         show_byte(bytes[i]);
         i += 1;
     }
-    show_end(i);
+    show_end(i, b"\n");
 }
 
-// Ends the line after so many bytes or places, with `-` where there is none.
-pub fn show_end(count: usize) {
+// What follows so many bytes or places, with `-` before it where there is none.
+pub fn show_end(count: usize, after: &[u8]) {
     if count == 0 {
         io::write_all(1, b"-");
     }
-    io::write_all(1, b"\n");
+    io::write_all(1, after);
 }

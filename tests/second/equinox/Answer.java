@@ -65,12 +65,13 @@ final class Answer {
     private String query(String[] words) {
         List<Long> given = World.list(words[3]);
         long first = Long.parseLong(words[1]);
+        if (words[0].equals("resolve")) {
+            return resolve(first, World.list(words[2]), given, World.list(words[4]));
+        }
         long second = Long.parseLong(words[2]);
         switch (words[0]) {
             case "bfind":
                 return shown(world.bundleFind(first, given), second);
-            case "resolve":
-                return shown(world.resolve(first, given), second);
             case "sfind":
                 return shown(world.serviceFind(first, given), second);
             case "bevent":
@@ -82,11 +83,25 @@ final class Answer {
         }
     }
 
-    /** The answer to an accepted query with so many places for its output. */
+    /** The answer to an accepted resolve, with the places of each output list. */
+    private String resolve(long asker, List<Long> places, List<Long> exporters, List<Long> packages) {
+        List<Integer> kept = world.resolve(asker, exporters, packages);
+        return "0 " + kept.size() + " " + output(at(kept, exporters), places.get(0)) + " " + output(at(kept, packages), places.get(1));
+    }
+
+    private static List<Long> at(List<Integer> places, List<Long> numbers) {
+        return places.stream().map(numbers::get).collect(Collectors.toList());
+    }
+
+    /** The answer to another accepted query with so many places for its output. */
     private static String shown(List<Long> kept, long places) {
+        return "0 " + kept.size() + " " + output(kept, places);
+    }
+
+    /** An output list with so many places that starts with what is kept. */
+    private static String output(List<Long> kept, long places) {
         List<Long> out = new ArrayList<>(kept);
         LongStream.range(kept.size(), places).forEach(i -> out.add(FILL + i));
-        String list = out.isEmpty() ? "-" : out.stream().map(String::valueOf).collect(Collectors.joining(","));
-        return "0 " + kept.size() + " " + list;
+        return out.isEmpty() ? "-" : out.stream().map(String::valueOf).collect(Collectors.joining(","));
     }
 }

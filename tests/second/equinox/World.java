@@ -11,6 +11,7 @@ import java.util.function.Consumer;
 import java.util.function.Function;
 import java.util.function.Predicate;
 import java.util.stream.Collectors;
+import java.util.stream.IntStream;
 import org.eclipse.equinox.internal.region.StandardRegionDigraph;
 import org.eclipse.equinox.region.Region;
 import org.eclipse.equinox.region.RegionDigraph;
@@ -23,7 +24,7 @@ import org.osgi.framework.Constants;
 import org.osgi.framework.InvalidSyntaxException;
 import org.osgi.framework.ServiceEvent;
 import org.osgi.framework.hooks.resolver.ResolverHook;
-import org.osgi.framework.wiring.BundleRequirement;
+import org.osgi.framework.wiring.BundleCapability;
 
 /** Equinox's digraph with the bundles installed in it. Queries are answered by Equinox's own hooks. */
 final class World {
@@ -139,9 +140,23 @@ final class World {
         return seen(candidates, b -> b.bundles, items -> digraph.getBundleFindHook().find(asker, items));
     }
 
-    List<Long> resolve(long location, List<Long> candidates) {
-        BundleRequirement asker = bundles.get(location).requirement;
-        return seen(candidates, b -> b.packages, items -> resolverHook().filterMatches(asker, items));
+    /** The places of the candidates, which the shorter list counts, whose capability the hook leaves: that of this very exporter. */
+    List<Integer> resolve(long location, List<Long> exporters, List<Long> packages) {
+        List<BundleCapability> candidates = new ArrayList<>();
+        for (int i = 0; i < Math.min(exporters.size(), packages.size()); i++) {
+            candidates.add(capability(exporters.get(i), packages.get(i)));
+        }
+        Set<BundleCapability> left = new HashSet<>(candidates);
+        left.remove(null);
+        resolverHook().filterMatches(bundles.get(location).requirement, left);
+        return IntStream.range(0, candidates.size()).filter(i -> left.contains(candidates.get(i))).boxed()
+                .collect(Collectors.toList());
+    }
+
+    /** What stands for a candidate; null where the exporter is not installed, or does not have the package. */
+    private BundleCapability capability(long exporter, long number) {
+        Installed bundle = bundles.get(exporter);
+        return bundle == null ? null : bundle.packages.get(number);
     }
 
     List<Long> serviceFind(long location, List<Long> candidates) {

@@ -1,8 +1,8 @@
 #!/usr/bin/env python3
 """compare.py GRAPHS CLASSPATH [DRIVER]: what bundles see in random graphs, by the second program, by Equinox and by the engine.
 
-Makes GRAPHS graphs by seed, asks each the finds of every installed bundle and events with many listeners, and compares the
-answers line by line. Prints the counts. Exit status 1 on a difference.
+Makes GRAPHS graphs by seed, asks each the finds and a resolve of every installed bundle and events with many listeners, and compares
+the answers line by line. Prints the counts. Exit status 1 on a difference.
 """
 
 import collections
@@ -14,13 +14,15 @@ import sys
 HERE = os.path.dirname(os.path.abspath(__file__))
 sys.path.insert(0, os.path.join(HERE, ".."))
 import cases  # noqa: E402
+import candidates  # noqa: E402
 import gen2  # noqa: E402
 import oracle2  # noqa: E402
 from cases import EVENTS, FINDS, LEVEL  # noqa: E402
 
 CHANGES = tuple(oracle2.CHANGES)
-QUERIES = (*FINDS, *EVENTS)
+QUERIES = (*FINDS, "resolve", *EVENTS)
 UNHELD = [77, 91]
+MIXED = 12
 MOST_SHOWN = 10
 BLOCK = 500
 
@@ -36,19 +38,36 @@ def some(rnd, pool, most):
     return numbers + [rnd.choice(numbers) for _ in range(rnd.choice([0, 0, 2]))] if numbers else numbers
 
 
+def resolve_line(rnd, graph, location):
+    """A resolve with exporters and their packages, and with others; at times one of the two lists is longer, or an output list."""
+    mixed = [tuple(rnd.choice(items_of(graph, kind)) for kind in (oracle2.BUNDLE, oracle2.PACKAGE)) for _ in range(MIXED)]
+    lists = oracle2.turned(some(rnd, candidates.exported(graph) + mixed, 36), 2)
+    rooms = [len(lists[0]) + rnd.choice([0, 0, 1]) for _ in lists]
+    rnd.choice(lists).extend(rnd.choice([[], [], [0, 1]]))
+    return candidates.line(location, rooms, *lists)
+
+
 def queries(rnd, script):
-    """The three finds for every bundle, and events with every bundle as a listener."""
+    """The finds and a resolve for every bundle, and events with every bundle as a listener."""
     graph = script.g
     for location in sorted(graph.B):
         for call, kind in FINDS.items():
-            candidates = some(rnd, items_of(graph, kind), 24)
-            script.put("%s %d %d %s" % (call, location, len(candidates) + rnd.choice([0, 0, 1]), oracle2.show(candidates)))
+            numbers = some(rnd, items_of(graph, kind), 24)
+            script.put("%s %d %d %s" % (call, location, len(numbers) + rnd.choice([0, 0, 1]), oracle2.show(numbers)))
+        script.put(resolve_line(rnd, graph, location))
     listeners = sorted(graph.B) * rnd.choice([1, 2])
     rnd.shuffle(listeners)
     for call, kind in EVENTS.items():
         pool = items_of(graph, kind)
         for item in rnd.sample(pool, min(6, len(pool))):
             script.put("%s %d %d %s" % (call, len(listeners), item, oracle2.show(listeners)))
+
+
+def some_graph(rnd, number):
+    """A graph of any sort, or one in which many bundles export few packages."""
+    if number % 4 == 2:
+        return candidates.crowded_graph(rnd, LEVEL)
+    return gen2.any_graph(rnd, LEVEL, large=number % 4 == 3)
 
 
 def lines_of(number):
@@ -59,7 +78,7 @@ def lines_of(number):
     if number % 4 == 0:
         gen2.CALL_SCENARIOS[rnd.choice(["mix", "question-10", "cycle", "phantom"])](script, rnd)
     else:
-        for call in oracle2.graph_calls(gen2.any_graph(rnd, LEVEL, large=number % 4 == 3)):
+        for call in oracle2.graph_calls(some_graph(rnd, number)):
             script.call(*call)
         for _ in range(rnd.choice([0, 6])):
             script.change((1, 1, 2, 2, 3, 2))
@@ -103,7 +122,7 @@ class Totals:
     """What was compared so far."""
 
     def __init__(self):
-        self.wrong = 0
+        self.wrong = self.candidates = self.offered = 0
         self.asked = collections.Counter()
         # (call, document 01's number) -> how often Equinox accepts, and how often it refuses
         self.tried = collections.defaultdict(lambda: [0, 0])
@@ -115,6 +134,13 @@ class Totals:
             count[0] += int(words[2])
             count[1] += int(words[3])
 
+    def count(self, lines, answers):
+        """Counts the queries, the candidates of the resolves, and those that are offered."""
+        self.asked.update(map(call_of, lines))
+        for words, answer in ((line.split(" "), answer) for line, answer in zip(lines, answers) if call_of(line) == "resolve"):
+            self.candidates += min(len(oracle2.parse_list(part)) for part in words[3:])
+            self.offered += int(answer.split(" ")[1])
+
     def refused(self):
         """Accepted changes that Equinox refuses."""
         return sum(count[1] for (_, number), count in self.tried.items() if number == 0)
@@ -124,6 +150,7 @@ class Totals:
         for (call, number), count in sorted(self.tried.items()):
             print("  %-10s %2d: %d %d" % (call, number, *count))
         counts = ", ".join("%d %s" % (self.asked[call], call) for call in QUERIES)
+        print("resolve: %d candidates, %d offered" % (self.candidates, self.offered))
         print("%d graphs: %s; %d accepted changes that Equinox refuses, %d answers that differ%s"
               % (graphs, counts, self.refused(), self.wrong, "" if driver else " (without the engine)"))
 
@@ -137,7 +164,7 @@ def block(numbers, classpath, driver, totals):
     totals.wrong += differences("Equinox", asked, expected, got)
     if driver:
         totals.wrong += differences("engine", lines, answers, run([driver], lines)[0])
-    totals.asked.update(map(call_of, asked))
+    totals.count(asked, expected)
     totals.note(notes)
     for note in [n for n in notes if n.startswith("refused")][:MOST_SHOWN]:
         print(note)

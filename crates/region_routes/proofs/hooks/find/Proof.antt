@@ -1,6 +1,7 @@
 use borrow.Author.Needs.{needs}
+use mathlib.Core.List.{List}
 use mathlib.Core.Path.{_≡_, sym, _∙_}
-use Prim.Native.Nat.{_<_, _≤_}
+use Prim.Native.Nat.{ℕ, _<_, _≤_}
 use lib.ListN.{length}
 use Rattle.region_graph.specs.Size.{regions}
 use Rattle.region_graph.specs.Lists.{keep}
@@ -27,7 +28,8 @@ asked c =
     let s = c .before .before .before .before .before .before .before in
     (s .pre, (region-inside (meaning (s .args .graph)) (s .pre .good) (s .args .location) (place (c .before)), c .if1 .left))
 
-answers : (c : tie.Else1) (a : Outcome Kept) → (let s = c .before .before .before .before .before .before .before .args in let m = meaning (s .graph) in
+answers : (c : tie.Else1) (a : Outcome Kept (List ℕ)) → (let s = c .before .before .before .before .before .before .before .args in
+    let m = meaning (s .graph) in
     a ≡ kept-outcome (keep (λ n. sees m (item (kind-number (s .kind)) n) (c .before .before .place .given .0 .0)) (s .candidates .now)) (s .out .now)
     → a ≡ find-outcome m (s .kind) (s .location) (s .candidates .now) (s .out .now))
 answers c a e =

@@ -45,7 +45,7 @@ wanted c = item (start c .args .kind) (start c .args .number)
 room : (c : tie.Else2) → regions ≤ length (start c .args .out .now)
 room c = omega (arith, c .if2 .left)
 
-answers : (c : tie.Else2) {a : Outcome Routed} → (let s = start c .args in
+answers : (c : tie.Else2) {a : Outcome Routed (List ℕ)} → (let s = start c .args in
     a ≡ shown (chosen (model c) (wanted c) (region (c .before .before))) (s .out .now)
     → a ≡ route-outcome (model c) (s .location) (s .kind) (s .number) (s .out .now))
 answers c e =

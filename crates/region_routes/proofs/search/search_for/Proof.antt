@@ -1,9 +1,6 @@
 use borrow.Author.Needs.{needs}
-use Rattle.region_graph.specs.Size.{regions}
-use Rattle.region_graph.specs.Items.{holds}
 use Rattle.region_graph.specs.Record.{meaning}
-use Rattle.region_graph.proofs.Bits.{set-below-lt}
-use Rattle.region_routes.proofs.Judging.{predecessors-sets}
+use Rattle.region_routes.proofs.Judging.{predecessors-sets, end-set-small}
 use Rattle.region_routes.proofs.search.search_for.Statement.{statement}
 use Rattle.region_routes.proofs.search.search_for.Tie as tie
 
@@ -12,13 +9,13 @@ search-requires c κs =
     let s = c .before .before .before in
     let m = meaning (s .args .graph) in (
       rw (c .before .before .predecessors .ensures) (predecessors-sets m (s .args .item)),
-      rw (c .before .holders .ensures) (set-below-lt regions (holds m (s .args .item))),
+      rw (c .before .end-set .ensures) (end-set-small m (s .args .item) (s .args .ends)),
     )
 
 returns : tie.Need-returns
 returns c = (
   c .before .before .before .predecessors .ensures,
-  rw (c .before .before .holders .ensures) at (rw (c .before .before .before .predecessors .ensures) at (c .search .ensures)),
+  rw (c .before .before .end-set .ensures) at (rw (c .before .before .before .predecessors .ensures) at (c .search .ensures)),
 )
 
 pub search-for-spec : {M : Type 1} → statement M

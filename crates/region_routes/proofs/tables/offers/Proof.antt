@@ -6,7 +6,7 @@ use Rattle.region_graph.specs.Record.{meaning, bundle-in, no-bundle}
 use Rattle.region_routes.specs.Hooks.{kind-number}
 use Rattle.region_routes.specs.Tables.{offer}
 use Rattle.region_routes.proofs.TableLoops.{Gathering, gathering-start, gathering-next, gathering-end}
-use Rattle.region_routes.proofs.TableLaws.{OffersFrom, offers-from, offers-asked}
+use Rattle.region_routes.proofs.TableLaws.{BundlesFrom, bundles-from, bundles-asked, offers-few}
 use Rattle.region_routes.proofs.tables.offers.Statement.{statement}
 use Rattle.region_routes.proofs.tables.offers.Tie as tie
 
@@ -17,16 +17,18 @@ abbrev μ-loop : tie.MeasureT-loop
 μ-loop items₀ kind bundles count n₀ i₀ items n i = count - i
 
 from : (c : tie.After-bundle-count Inv-loop μ-loop) → (let s = c .before .before .before in
-    OffersFrom (meaning (s .args .graph)) (s .pre .0 .good) (kind-number (s .args .kind)) (c .before .bundle-places .result) (c .bundle-count .result))
+    BundlesFrom (meaning (s .args .graph)) (s .pre .0 .good) (offer (kind-number (s .args .kind))) (c .before .bundle-places .result) (c .bundle-count .result))
 from c =
     let s = c .before .before .before in
-    offers-from (meaning (s .args .graph)) (s .pre .0 .good) (kind-number (s .args .kind)) (c .before .bundle-places .ensures) (c .bundle-count .ensures)
+    let m = meaning (s .args .graph) in
+    let k = kind-number (s .args .kind) in
+    bundles-from m (s .pre .0 .good) (offer k) (offers-few m (s .pre .0 .good) k) (c .before .bundle-places .ensures) (c .bundle-count .ensures)
 
 append-offer-requires : tie.Need-append-offer-requires Inv-loop μ-loop
 append-offer-requires c κs =
     let t = c .before .before in
     let s = t .before .before .before .before .before in
-    offers-asked (meaning (s .args .graph)) (s .pre .0 .good) (kind-number (s .args .kind)) (from (t .before .before)) (t .before .loop .inv) _
+    bundles-asked (meaning (s .args .graph)) (s .pre .0 .good) (offer (kind-number (s .args .kind))) (from (t .before .before)) (t .before .loop .inv) _
     (t .loop-test .taken)
 
 loop-again : tie.Need-loop-again Inv-loop μ-loop

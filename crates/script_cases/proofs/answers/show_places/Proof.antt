@@ -4,10 +4,10 @@ use Rattle.script_cases.proofs.answers.show_places.Statement.{statement
 use Rattle.script_cases.proofs.answers.show_places.Tie as tie
 
 abbrev Inv-loop : tie.InvT-loop
-Inv-loop places count i₀ i = Unit {0}
+Inv-loop places count after i₀ i = Unit {0}
 
 abbrev μ-loop : tie.MeasureT-loop
-μ-loop places count i₀ i = 128 - i
+μ-loop places count after i₀ i = 128 - i
 
 pub show-places-spec : {M : Type 1} → statement M
 show-places-spec =

@@ -5,14 +5,14 @@ use Rattle.script_text.proofs.answers.show_bytes.Statement.{statement}
 use Rattle.script_text.proofs.answers.show_bytes.Tie as tie
 
 abbrev Inv-loop : tie.InvT-loop
-Inv-loop bytes count i₀ i = Unit {0}
+Inv-loop bytes count i₀ after i = Unit {0}
 
 abbrev μ-loop : tie.MeasureT-loop
-μ-loop bytes count i₀ i = length bytes - i
+μ-loop bytes count i₀ after i = length bytes - i
 
 pub show-bytes-spec : {M : Type 1} → statement M
 show-bytes-spec =
     tie.close
     (tie.spec
     Inv-loop μ-loop (λ c. search needs) (λ c. search needs) (λ c κs. search needs) (λ c. search needs) (λ c. search needs) (λ c. search needs)
-    (λ c κs. search needs) (λ c. search needs))
+    (λ c. search needs) (λ c κs. search needs) (λ c. search needs))

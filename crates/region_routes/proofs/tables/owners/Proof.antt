@@ -25,6 +25,13 @@ from c =
     let m = meaning (s .args .graph) in
     bundles-from m (s .pre .0 .good) owner (owners-few m (s .pre .0 .good)) (c .before .bundle-places .ensures) (c .bundle-count .ensures)
 
+-- one bundle's exporters are put
+loop-again : tie.Need-loop-again Inv-loop μ-loop
+unfolding provided-of
+loop-again c =
+    let t = c .before .before .before .before .before .before .before in
+    gathering-next (from (t .before .before)) (t .before .loop .inv) _ no-bundle (t .loop-test .taken) (search needs) (c .before .before .append-owner .ensures)
+
 -- the bundle at the loop's place is stored in the one way, and there is room for its entries
 asked : (c : tie.In-loop Inv-loop μ-loop) (e : StoredBundle) → (let b = getD (c .before .before .before .bundle-places .result) (c .before .loop .i) e in
     BundleStored b × (c .before .loop .n + length (owner (bundle-in b)) ≤ length (c .before .loop .items)))
@@ -38,12 +45,6 @@ packages-inside c = packages-within _ (asked (c .before .before .before) _ .0)
 append-owner-requires : tie.Need-append-owner-requires Inv-loop μ-loop
 unfolding provided-of
 append-owner-requires c κs = asked (c .before .before .before .before) _ .1
-
-loop-again : tie.Need-loop-again Inv-loop μ-loop
-unfolding provided-of
-loop-again c =
-    let t = c .before .before .before .before .before .before .before in
-    gathering-next (from (t .before .before)) (t .before .loop .inv) _ no-bundle (t .loop-test .taken) (search needs) (c .before .before .append-owner .ensures)
 
 pub owners-spec : {M : Type 1} → statement M
 owners-spec =

@@ -34,6 +34,10 @@ static const uint32_t FIRST_OFFERED = 505;
 static const uint32_t listed[LISTED] = {504, 505, 506, 507, 508, 509, 510, 511};
 static const uint32_t listed_to_15[LISTED] = {505, 506, 507, 508, 509, 510, 511, 1000};
 
+/* The version of the packages in the graph "ranges", and what its entries pass. Other packages have version 0, and other entries
+   pass every version. */
+enum { VERSION = 5, LOWEST = 1, HIGHEST = 9 };
+
 /* A file in memory. */
 typedef struct {
     uint8_t bytes[REGION_LONGEST_IMAGE];
@@ -51,11 +55,16 @@ static uint32_t exporters[LIST];
 static uint32_t listeners[LIST];
 static uint32_t kept[LIST];
 static uint32_t kept_packages[LIST];
+static uint16_t kept_versions[LIST];
 static uint32_t provided[PROVIDED];
+static uint16_t versions[LIST];
+static uint16_t lowest[LISTED];
+static uint16_t highest[LISTED];
 static uint32_t hidden;
 static uint8_t bytes[REGION_LONGEST_IMAGE];
 static file g;
 static file longest;
+static file longest_3;
 static file g_names;
 static uint8_t sheet[SHEET];
 
@@ -171,12 +180,25 @@ static int64_t name_in(const uint8_t *in, size_t length, uint32_t kind, uint32_t
 /* A resolve of exporters with packages. */
 static int64_t resolve(const uint32_t *from, const uint32_t *packages, size_t count)
 {
-    return region_resolve_v3(&graph, kept, LIST, kept_packages, LIST, ASKER, from, count, packages, count);
+    return region_resolve_v4(&graph, kept, LIST, kept_packages, LIST, kept_versions, LIST, ASKER, from, count, packages, count,
+                             versions, count);
+}
+
+/* A route for a package. */
+static int64_t route(uint32_t location, uint32_t package)
+{
+    return region_route_v4(&graph, bytes, sizeof bytes, location, REGION_KIND_PACKAGE, package, versions[0]);
+}
+
+/* A query of a file for a package of version 0. */
+static int64_t query(const file *f, uint32_t location, uint32_t package)
+{
+    return archive_query_v4(f->bytes, f->length, location, REGION_KIND_PACKAGE, package, 0);
 }
 
 /* clang-format off */
-static int64_t route_seen(void) { return region_route(&graph, bytes, sizeof bytes, ASKER, REGION_KIND_PACKAGE, SEEN_ITEM); }
-static int64_t route_hidden(void) { return region_route(&graph, bytes, sizeof bytes, ASKER, REGION_KIND_PACKAGE, hidden); }
+static int64_t route_seen(void) { return route(ASKER, SEEN_ITEM); }
+static int64_t route_hidden(void) { return route(ASKER, hidden); }
 static int64_t find_1_seen(void) { return region_service_find(&graph, kept, LIST, ASKER, &SEEN_ITEM, 1); }
 static int64_t find_1_hidden(void) { return region_service_find(&graph, kept, LIST, ASKER, &hidden, 1); }
 static int64_t find_1000(void) { return region_service_find(&graph, kept, LIST, ASKER, candidates, LIST); }
@@ -186,21 +208,25 @@ static int64_t resolve_3(void) { return resolve(exporters + FIRST_OFFERED, candi
 static int64_t resolve_4(void) { return resolve(exporters + FIRST_OFFERED, candidates + FIRST_OFFERED, 4); }
 static int64_t resolve_1000(void) { return resolve(exporters, candidates, LIST); }
 static int64_t event_1000(void) { return region_service_event(&graph, kept, LIST, listeners, LIST, SEEN_ITEM); }
-static int64_t route_48(void) { return region_route(&graph, bytes, sizeof bytes, ASKER + FIRST_OF_ROW, REGION_KIND_PACKAGE, SEEN_ITEM); }
+static int64_t route_48(void) { return route(ASKER + FIRST_OF_ROW, SEEN_ITEM); }
 static uint32_t uninstall(region_graph *to) { return region_uninstall(to, ASKER + 32); }
-static uint32_t install(region_graph *to) { return region_install(to, 0, ASKER + 32, provided, PROVIDED, provided, PROVIDED); }
+static uint32_t install(region_graph *to) {
+    return region_install_v4(to, 0, ASKER + 32, provided, PROVIDED, versions, PROVIDED, provided, PROVIDED);
+}
 static uint32_t disconnect(region_graph *to) { return region_disconnect(to, 7, 9); }
 static uint32_t connect_listed(region_graph *to) {
-    return region_connect(to, 7, 9, listed, LISTED, false, listed, LISTED, false, listed, LISTED);
+    return region_connect_v4(to, 7, 9, listed, LISTED, false, listed, LISTED, lowest, LISTED, highest, LISTED, false, listed, LISTED);
 }
 static uint32_t remove_region(region_graph *to) { return region_remove(to, 9); }
 static uint32_t add_region(region_graph *to) { return region_add(to, 9); }
 static int64_t refused_add(void) { return region_add(&graph, 9); }
 static int64_t refused_install(void) { return install(&graph); }
 static int64_t read_longest(void) { return region_read(&graph, longest.bytes, longest.length); }
-static int64_t write_longest(void) { return region_write(&graph, bytes, sizeof bytes); }
-static int64_t query_g(void) { return archive_query(g.bytes, g.length, 10, REGION_KIND_PACKAGE, 1); }
-static int64_t query_longest(void) { return archive_query(longest.bytes, longest.length, 1000, REGION_KIND_PACKAGE, 600); }
+static int64_t write_longest(void) { return region_write(&graph, longest_3.bytes, sizeof longest_3.bytes); }
+static int64_t read_longest_3(void) { return region_read(&graph, longest_3.bytes, longest_3.length); }
+static int64_t query_g(void) { return query(&g, 10, 1); }
+static int64_t query_longest(void) { return query(&longest, 1000, 600); }
+static int64_t query_longest_3(void) { return query(&longest_3, 1000, 600); }
 static int64_t name_g(void) { return name_in(g_names.bytes, g_names.length, REGION_KIND_REGION, 1); }
 static int64_t name_first(void) { return name_in(sheet, SHEET, REGION_KIND_BUNDLE, 0); }
 static int64_t name_last(void) { return name_in(sheet, SHEET, REGION_KIND_BUNDLE, ENTRIES - 1); }
@@ -215,11 +241,26 @@ static void provide(uint32_t i)
     }
 }
 
+/* Makes the packages that are installed and asked for from now on those of a version, and the entries those of a range. */
+static void set_versions(uint16_t version, uint16_t from, uint16_t to)
+{
+    for (size_t i = 0; i < LIST; i++) {
+        versions[i] = version;
+    }
+    for (size_t i = 0; i < LISTED; i++) {
+        lowest[i] = from;
+        highest[i] = to;
+    }
+}
+
 static void connect_full(uint32_t source, uint32_t target, bool all)
 {
     const uint32_t *numbers = target == 15 ? listed_to_15 : listed;
     size_t count = all ? 0 : LISTED;
-    must(region_connect(&graph, source, target, numbers, count, all, numbers, count, all, numbers, count) == 0, "connect");
+    must(region_connect_v4(&graph, source, target, numbers, count, all, numbers, count, lowest, count, highest, count, all, numbers,
+                           count)
+             == 0,
+         "connect");
 }
 
 /* Regions from 0 on, and 64 bundles in them in turn. */
@@ -230,7 +271,8 @@ static void add_regions(uint32_t count)
     }
     for (uint32_t i = 0; i < REGION_MOST_BUNDLES; i++) {
         provide(i);
-        must(region_install(&graph, i % count, ASKER + i, provided, PROVIDED, provided, PROVIDED) == 0, "install");
+        must(region_install_v4(&graph, i % count, ASKER + i, provided, PROVIDED, versions, PROVIDED, provided, PROVIDED) == 0,
+             "install");
     }
 }
 
@@ -280,20 +322,39 @@ static void make_sheet(void)
     }
 }
 
-static void queries(const char *filters, uint32_t hidden_item)
+/* Routes and resolves for packages. */
+static void packages(const char *filters, uint32_t hidden_item)
 {
     hidden = hidden_item;
     best("route_seen", filters, route_seen);
     best("route_hidden", filters, route_hidden);
-    best("find_1_seen", filters, find_1_seen);
-    best("find_1_hidden", filters, find_1_hidden);
-    best("find_1000", filters, find_1000);
     best("resolve_1_seen", filters, resolve_1_seen);
     best("resolve_1_hidden", filters, resolve_1_hidden);
     best("resolve_3", filters, resolve_3);
     best("resolve_4", filters, resolve_4);
     best("resolve_1000", filters, resolve_1000);
+}
+
+/* Finds and events for services. */
+static void services(const char *filters, uint32_t hidden_item)
+{
+    hidden = hidden_item;
+    best("find_1_seen", filters, find_1_seen);
+    best("find_1_hidden", filters, find_1_hidden);
+    best("find_1000", filters, find_1000);
     best("event_1000", filters, event_1000);
+}
+
+/* The longest archive of version 1, and the same graph as version 3. */
+static void archives(void)
+{
+    best("read_longest", "", read_longest);
+    best("write_longest", "", write_longest);
+    longest_3.length = (size_t)write_longest();
+    best("read_longest_3", "", read_longest_3);
+    best("query_g", "", query_g);
+    best("query_longest", "", query_longest);
+    best("query_longest_3", "", query_longest_3);
 }
 
 static void take(file *f, const char *folder, const char *name)
@@ -319,20 +380,24 @@ int main(int count, char **arguments)
         exporters[i] = ASKER + candidates[i] / PROVIDED;
         listeners[i] = ASKER + i % REGION_MOST_BUNDLES;
     }
+    set_versions(0, 0, REGION_HIGHEST_VERSION);
     full_graph(true);
-    queries("_all", UNHELD_ITEM);
+    packages("_all", UNHELD_ITEM);
+    services("_all", UNHELD_ITEM);
     full_graph(false);
-    queries("_listed", HIDDEN_ITEM);
+    packages("_listed", HIDDEN_ITEM);
+    services("_listed", HIDDEN_ITEM);
     provide(32);
     best("refused_add", "", refused_add);
     best("refused_install", "", refused_install);
     best_pair("uninstall", uninstall, "install", install);
     best_pair("disconnect", disconnect, "connect", connect_listed);
     best_pair("remove", remove_region, "add", add_region);
-    best("read_longest", "", read_longest);
-    best("write_longest", "", write_longest);
-    best("query_g", "", query_g);
-    best("query_longest", "", query_longest);
+    archives();
+    set_versions(VERSION, LOWEST, HIGHEST);
+    full_graph(false);
+    packages("_ranges", HIDDEN_ITEM);
+    set_versions(0, 0, REGION_HIGHEST_VERSION);
     row_graph();
     best("route_48", "", route_48);
     best("name_g", "", name_g);

@@ -166,6 +166,35 @@ expect_line 'plates with names, region 16' 16 'region 16 lift\l\lbundle 20\l- pa
 expect_line 'plates with names, region 63' 63 'region 63 corner\l\lbundle 30 tray\l- packages: 2, 3\l- services: 5\l' examples/plates.archive "$work/places"
 expect_line 'plates with names, 16 to 63' '"16-63"' '16 -> 63\lbundle 30 tray\lpackages: 2, 3\lall services\l' examples/plates.archive "$work/places"
 
+# version 3: G, whose picture is the same, and packages in several versions, also with names and in a list that is cut
+same 'g as version 3' "$(draw examples/g-version-3.archive)" "$(draw examples/g.archive)"
+same versions "$(draw examples/versions.archive | content)" "digraph regions {
+  label=\"regions: 3, bundles: 3, connections: 2\\n$title\";
+  0 [C, label=\"region 0\\l\\lbundle 10\\l\"];
+  1 [C, label=\"region 1\\l\\lbundle 20\\l- packages: 1\\l\"];
+  2 [C, label=\"region 2\\l\\lbundle 30\\l- packages: 1, 1:7, 2:3\\l- services: 5\\l\"];
+  \"0-1\" [C, label=\"0 -> 1\\lpackages: 1, 2:0-2\\lall services\\l\"];
+  0 -> \"0-1\" [C, arrowhead=none];
+  \"0-1\" -> 1 [C];
+  \"1-2\" [C, label=\"1 -> 2\\lbundles: 30\\lpackages: 1:5-9, 2:3-3\\lservices: 5\\l\"];
+  1 -> \"1-2\" [C, arrowhead=none];
+  \"1-2\" -> 2 [C];
+}"
+{ entry 1 1 water; } | framed "$work/water"
+expect_line 'versions with names, region 2' 2 'region 2\l\lbundle 30\l- package 1 water\l- package 1:7 water\l- packages: 2:3\l- services: 5\l' examples/versions.archive "$work/water"
+expect_line 'versions with names, 1 to 2' '"1-2"' '1 -> 2\lbundles: 30\lpackage 1:5-9 water\lpackages: 2:3-3\lservices: 5\l' examples/versions.archive "$work/water"
+{
+    byte 2; byte 1; byte 2
+    byte 1
+    two 43; four 10; byte 2; byte 6
+    for version in 0 1 2 255 256 65535; do four 7; two "$version"; done
+    byte 0
+    byte 1
+    { list; byte 5; four 1; two 0; two 0; four 2; two 0; two 65534; four 3; two 1; two 65535; four 4; two 0; two 65535; four 5; two 0; two 9; list; } | connection 1 2
+} | framed "$work/ranges" 3
+expect_line 'six versions' 2 'region 2\l\lbundle 10\l- packages: 7, 7:1, 7:2, 7:255 and 2 more\l' "$work/ranges"
+expect_line 'five ranges' '"1-2"' '1 -> 2\lpackages: 1:0-0, 2:0-65534, 3:1-65535, 4 and 1 more\l' "$work/ranges"
+
 # every region, and a connection to the one before it from each of the last 48
 {
     byte 64
@@ -190,6 +219,7 @@ same 'last line of every region' "$(tail -n 2 "$work/text")" '  "63-62" -> 62 [C
 }'
 same 'every region as version 1' "$(draw "$work/early")" 'refused 17'
 same 'g as version 2' "$(draw examples/refused-17-version.archive)" 'refused 17'
+same 'a reversed range' "$(draw examples/refused-17-range.archive)" 'refused 17'
 
 # the lists of the longest archive, which are cut
 expect_line 'longest, region 0' 0 'region 0\l\lbundle 1000\l- packages: 0, 1, 2, 3 and 4 more\l- services: 0, 1, 2, 3 and 4 more\lbundle 1016\l- packages: 128, 129, 130, 131 and 4 more\l- services: 128, 129, 130, 131 and 4 more\lbundle 1032\l- packages: 256, 257, 258, 259 and 4 more\l- services: 256, 257, 258, 259 and 4 more\lbundle 1048\l- packages: 384, 385, 386, 387 and 4 more\l- services: 384, 385, 386, 387 and 4 more\l' examples/longest.archive

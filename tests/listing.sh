@@ -57,6 +57,7 @@ expect refused-15 examples/refused-15.archive 'refused 15'
 expect refused-16 examples/refused-16.archive 'refused 16'
 expect refused-17 examples/refused-17.archive 'refused 17'
 expect refused-17-version examples/refused-17-version.archive 'refused 17'
+expect refused-17-range examples/refused-17-range.archive 'refused 17'
 
 # version 2: region numbers above 15; under another version it is refused
 expect plates examples/plates.archive "$header
@@ -66,7 +67,9 @@ expect plates examples/plates.archive "$header
 { printf '\001'; tail -c +2 examples/plates.archive; } > "$work/early"
 expect 'plates with version 1' "$work/early" 'refused 17'
 { printf '\003'; tail -c +2 examples/plates.archive; } > "$work/third"
-expect 'plates with version 3' "$work/third" 'refused 15'
+expect 'plates with version 3' "$work/third" 'refused 17'
+{ printf '\004'; tail -c +2 examples/plates.archive; } > "$work/fourth"
+expect 'plates with version 4' "$work/fourth" 'refused 15'
 expect_alone 1 15 "$header"
 expect_alone 2 15 'refused 17'
 expect_alone 1 16 'refused 17'
@@ -74,6 +77,28 @@ expect_alone 2 16 "$header"
 expect_alone 2 63 "$header"
 expect_alone 2 64 'refused 17'
 expect_alone 1 64 'refused 17'
+expect_alone 3 0 "$header"
+expect_alone 3 15 "$header"
+expect_alone 3 63 "$header"
+expect_alone 3 64 'refused 17'
+expect_alone 4 15 'refused 15'
+expect_alone 0 15 'refused 15'
+
+# version 3: G, which sees the same; a package in several versions; two bundles with (1, 0), one of them with (1, 7) too: 2 packages
+expect g-version-3 examples/g-version-3.archive "$("$listing" < examples/g.archive)"
+expect versions examples/versions.archive "$header
+10 0 1 2 1
+20 1 2 3 1
+30 2 1 3 1"
+{
+    printf '\003\000\000\000\050\001\000\002'
+    printf '\000\015\000\000\000\012\000\001\000\000\000\001\000\000\000'
+    printf '\000\023\000\000\000\024\000\002\000\000\000\001\000\000\000\000\000\001\000\007\000'
+    byte 0
+} > "$work/pairs"
+expect 'pairs of number and version' "$work/pairs" "$header
+10 0 2 2 0
+20 0 2 2 0"
 
 : > "$work/none"
 expect no-bytes "$work/none" 'refused 15'
@@ -92,7 +117,7 @@ expect 65535-bytes "$work/under" 'refused 16'
 
 same 'lines of longest' "$("$listing" < examples/longest.archive | grep -c .)" 65
 
-# the same with every region, which is the longest image: the listing is the same
+# the same with every region, which is the longest file of version 2: the listing is the same
 {
     printf '\002\000\000\067\323'
     every_region

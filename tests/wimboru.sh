@@ -82,7 +82,15 @@ usage() {
     expect 2 '' list "$work"
     expect 2 '' list ''
     expect 2 '' query "$g" 10 1
-    expect 2 '' query "$g" 10 1 1 1
+    expect 2 '' query "$g" 10 1 1 1 1
+    expect 2 '' query "$g" 10 bundle 10 0
+    expect 2 '' query "$g" 10 0 10 0
+    expect 2 '' query "$g" 10 service 5 0
+    expect 2 '' query "$g" 10 3 5 0
+    expect 2 '' query "$g" 10 package 1 ''
+    for wrong in x -1 ' 1' 0x10 65536 4294967295 4294967296; do
+        expect 2 '' query "$g" 10 package 1 "$wrong"
+    done
     expect 2 '' query "$work/none" 10 1 1
     for wrong in '' x -1 +1 ' 1' 1.0 0x10 4294967296 18446744073709551617 99999999999999999999999; do
         expect 2 '' query "$g" "$wrong" 1 1
@@ -170,12 +178,19 @@ lists() {
 20 4 1 0 0" list "$examples/cyclic.archive"
     expect 0 "$header" list "$examples/empty.archive"
     expect 0 "$listing_plates" list "$plates"
+    expect 0 "$listing_g" list "$examples/g-version-3.archive"
+    expect 0 "$header
+10 0 1 2 1
+20 1 2 3 1
+30 2 1 3 1" list "$versions"
     expect 1 "refused 15: $question_15" list "$examples/refused-15.archive"
     expect 1 "refused 16: $question_16" list "$examples/refused-16.archive"
     expect 1 "refused 17: $question_17" list "$examples/refused-17.archive"
     expect 1 "refused 17: $question_17" list "$examples/refused-17-version.archive"
+    expect 1 "refused 17: $question_17" list "$examples/refused-17-range.archive"
     expect 1 "refused 17: $question_17" list "$work/early"
-    expect 1 "refused 15: $question_15" list "$work/third"
+    expect 1 "refused 17: $question_17" list "$work/third"
+    expect 1 "refused 15: $question_15" list "$work/fourth"
     same 'lines of longest' "$("$work/tree/wimboru" list "$examples/longest.archive" | grep -c .)" 65
 }
 
@@ -205,8 +220,30 @@ queries() {
     expect 0 seen query "$plates" 20 bundle 30
     expect 1 "refused 12: is the bundle installed?" query "$plates" 63 1 1
     expect 1 "refused 17: $question_17" query "$examples/refused-17-version.archive" 10 1 1
+    expect 1 "refused 17: $question_17" query "$examples/refused-17-range.archive" 10 1 1
     expect 1 "refused 17: $question_17" query "$work/early" 10 1 1
-    expect 1 "refused 15: $question_15" query "$work/third" 10 1 1
+    expect 1 "refused 17: $question_17" query "$work/third" 10 1 1
+    expect 1 "refused 15: $question_15" query "$work/fourth" 10 1 1
+}
+
+# The version of a package, 0 where it is left out; in files of versions 1 and 2 every package has version 0.
+versions() {
+    expect 0 seen query "$g" 10 package 1 0
+    expect 0 hidden query "$g" 10 package 1 1
+    expect 0 hidden query "$g" 10 1 1 65535
+    expect 0 seen query "$plates" 10 package 2 0
+    expect 0 hidden query "$plates" 10 package 2 7
+    expect 0 seen query "$examples/g-version-3.archive" 20 package 3
+    expect 0 hidden query "$examples/g-version-3.archive" 20 package 3 1
+    expect 0 seen query "$versions" 10 package 1
+    expect 0 seen query "$versions" 10 package 1 7
+    expect 0 seen query "$versions" 10 01 1 0000000000000000000007
+    expect 0 hidden query "$versions" 10 package 1 8
+    expect 0 hidden query "$versions" 10 package 2 3
+    expect 0 hidden query "$versions" 10 package 2
+    expect 0 seen query "$versions" 20 package 2 3
+    expect 0 hidden query "$versions" 20 package 2 65535
+    expect 1 "refused 12: is the bundle installed?" query "$versions" 11 package 1 7
 }
 
 # Sheets: names that look like a refusal, need quotes in a picture, or have spaces at their ends; no entries; a byte too many; and
@@ -235,10 +272,11 @@ make_sheets() {
     } > "$work/large"
 }
 
-# Archives: region numbers above 15 as version 1, and as no version.
+# Archives: one of version 2 as version 1, as version 3, and as no version.
 make_archives() {
     { printf '\001'; tail -c +2 "$plates"; } > "$work/early"
     { printf '\003'; tail -c +2 "$plates"; } > "$work/third"
+    { printf '\004'; tail -c +2 "$plates"; } > "$work/fourth"
 }
 
 names() {
@@ -341,8 +379,12 @@ drawn() {
     expect 1 "refused 16: $question_16" draw "$examples/refused-16.archive" "$broken"
     expect 1 "refused 17: $question_17" draw "$examples/refused-17.archive" "$sheet"
     expect 1 "refused 17: $question_17" draw "$examples/refused-17-version.archive"
+    same 'a version in a picture' "$("$work/tree/wimboru" draw "$versions" | grep -c 'packages: 1, 1:7, 2:3')" 1
+    same 'versions in a picture' "$("$work/tree/wimboru" draw "$versions" | grep -c 'packages: 1:5-9, 2:3-3')" 1
+    expect 1 "refused 17: $question_17" draw "$examples/refused-17-range.archive"
     expect 1 "refused 17: $question_17" draw "$work/early" "$sheet"
-    expect 1 "refused 15: $question_15" draw "$work/third"
+    expect 1 "refused 17: $question_17" draw "$work/third"
+    expect 1 "refused 15: $question_15" draw "$work/fourth"
     expect 1 "refused 18: $question_18" draw "$g" "$broken"
     expect 1 "refused 18: $question_18" draw "$g" /dev/null
     same 'a picture with a sheet of 94 KB' "$("$work/tree/wimboru" draw "$g" "$work/large" | grep -c 'bundle 20 20')" 1
@@ -374,6 +416,7 @@ files() {
 examples=$root/examples
 g=$examples/g.archive
 plates=$examples/plates.archive
+versions=$examples/versions.archive
 header='asker region bundles packages services'
 listing_g="$header
 10 0 1 1 0
@@ -389,7 +432,7 @@ broken="$work/broken sheet"
 picture='digraph {
 "sheet: none"
 }'
-question_15='are there at least 5 bytes, the first being 1 or 2?'
+question_15='are there at least 5 bytes, the first being 1, 2 or 3?'
 question_16='does the length field equal the count of bytes after it?'
 question_17='are those bytes the layout of an archive, to the end?'
 question_18='does the sheet keep its layout?'
@@ -410,6 +453,7 @@ builds
 failed_builds
 lists
 queries
+versions
 names
 named_lists
 draws

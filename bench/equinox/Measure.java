@@ -33,6 +33,9 @@ final class Measure {
     private static final long HIDDEN_ITEM = 504;
     private static final String LISTED = "504,505,506,507,508,509,510,511";
     private static final String LISTED_TO_15 = "505,506,507,508,509,510,511,1000";
+    /** Versions of 8 packages, and the ends of 8 entries that pass every version. */
+    private static final String LOWEST = "0,0,0,0,0,0,0,0";
+    private static final String HIGHEST = "65535,65535,65535,65535,65535,65535,65535,65535";
     private static final int HELD = 512;
     private static final int LIST = 1000;
 
@@ -40,7 +43,7 @@ final class Measure {
     }
 
     public static void main(String[] arguments) throws Exception {
-        World all = fullGraph(target -> "- * *");
+        World all = fullGraph(target -> "- * - - *");
         one("seen_all", all, SEEN_ITEM);
         lists("all", all);
         World listed = listedGraph();
@@ -59,8 +62,13 @@ final class Measure {
     private static World listedGraph() throws Exception {
         return fullGraph(target -> {
             String numbers = target == 15 ? LISTED_TO_15 : LISTED;
-            return numbers + " " + numbers + " " + numbers;
+            return filter(numbers);
         });
+    }
+
+    /** A filter that lists the same numbers in every part. */
+    private static String filter(String numbers) {
+        return numbers + " " + numbers + " " + LOWEST + " " + HIGHEST + " " + numbers;
     }
 
     /** 16 regions, 64 bundles, 48 connections; the filter of a connection by its target. */
@@ -71,7 +79,7 @@ final class Measure {
         }
         for (int i = 0; i < 64; i++) {
             String numbers = numbers(8 * i, 8);
-            world.change(words("install " + i % 16 + " " + (ASKER + i) + " " + numbers + " " + numbers));
+            world.change(words("install " + i % 16 + " " + (ASKER + i) + " " + numbers + " " + LOWEST + " " + numbers));
         }
         for (int region = 0; region < 16; region++) {
             for (int step = 1; step <= 3; step++) {
@@ -92,7 +100,7 @@ final class Measure {
 
     /** The capability that each number stands for; in these graphs every package has one exporter. */
     private static List<BundleCapability> packages(World world, List<Long> numbers) {
-        return numbers.stream().map(number -> holder(world, number).packages.get(number)).collect(Collectors.toList());
+        return numbers.stream().map(number -> holder(world, number).packages.get(List.of(number, 0L))).collect(Collectors.toList());
     }
 
     /** And so the service. */
@@ -143,7 +151,7 @@ final class Measure {
         long id = Installed.id(ASKER + 32);
         bestPair(copies, "uninstall", world -> region(world, 0).removeBundle(id), "install", world -> region(world, 0).addBundle(id));
         RegionFilter filter =
-                World.filter(copies.get(0).digraph, words("connect 7 9 " + LISTED + " " + LISTED + " " + LISTED));
+                World.filter(copies.get(0).digraph, words("connect 7 9 " + filter(LISTED)));
         bestPair(copies,
                 "disconnect", world -> world.digraph.replaceConnection(region(world, 7), null, region(world, 9)),
                 "connect", world -> world.digraph.connect(region(world, 7), filter, region(world, 9)));

@@ -4,21 +4,21 @@
 #include "host.h"
 #include "images.h"
 
-/* G by its calls in another order has the same image, which is the file's. */
+/* G by its calls in another order has the same image, which is the file's of version 3. */
 static void order_of_calls(void)
 {
     build_g();
-    CHECK(same_image(image_of(graph), load("g.archive")));
+    CHECK(same_image(image_of(graph), load("g-version-3.archive")));
     lend();
     ACCEPTED(region_add(graph, 2));
-    ACCEPTED(region_install(graph, 2, 30, LIST(1, 2, 3), NONE));
+    ACCEPTED(region_install_v4(graph, 2, 30, PACKAGES(1, 2, 3), NONE));
     ACCEPTED(region_add(graph, 1));
-    ACCEPTED(region_connect(graph, 1, 2, NONE, false, LIST(1, 3), false, NONE));
+    ACCEPTED(region_connect_v4(graph, 1, 2, NONE, false, ENTRIES(1, 3), false, NONE));
     ACCEPTED(region_add(graph, 0));
-    ACCEPTED(region_connect(graph, 0, 1, NONE, false, LIST(1, 2), false, NONE));
-    ACCEPTED(region_install(graph, 1, 20, LIST(1), NONE));
-    ACCEPTED(region_install(graph, 0, 10, NONE, NONE));
-    CHECK(same_image(image_of(graph), load("g.archive")));
+    ACCEPTED(region_connect_v4(graph, 0, 1, NONE, false, ENTRIES(1, 2), false, NONE));
+    ACCEPTED(region_install_v4(graph, 1, 20, PACKAGES(1), NONE));
+    ACCEPTED(region_install_v4(graph, 0, 10, NO_PACKAGES, NONE));
+    CHECK(same_image(image_of(graph), load("g-version-3.archive")));
 }
 
 /* A region leaves with its bundles and its connections, and comes back with none. */
@@ -28,8 +28,8 @@ static void removed(void)
     region_empty(&left);
     CHECK(region_add(&left, 0) == REGION_NOT_REFUSED);
     CHECK(region_add(&left, 2) == REGION_NOT_REFUSED);
-    CHECK(region_install(&left, 0, 10, NONE, NONE) == REGION_NOT_REFUSED);
-    CHECK(region_install(&left, 2, 30, LIST(1, 2, 3), NONE) == REGION_NOT_REFUSED);
+    CHECK(region_install_v4(&left, 0, 10, NO_PACKAGES, NONE) == REGION_NOT_REFUSED);
+    CHECK(region_install_v4(&left, 2, 30, PACKAGES(1, 2, 3), NONE) == REGION_NOT_REFUSED);
     build_g();
     ACCEPTED(region_remove(graph, 1));
     CHECK(same_graph(graph, &left));
@@ -45,11 +45,11 @@ static void put_back(void)
     build_g();
     ACCEPTED(region_uninstall(graph, 20));
     UNCHANGED(REGION_NOT_INSTALLED, region_uninstall(graph, 20));
-    ACCEPTED(region_install(graph, 1, 20, LIST(1), NONE));
+    ACCEPTED(region_install_v4(graph, 1, 20, PACKAGES(1), NONE));
     ACCEPTED(region_disconnect(graph, 0, 1));
     UNCHANGED(REGION_NOT_CONNECTED, region_disconnect(graph, 0, 1));
-    ACCEPTED(region_connect(graph, 0, 1, NONE, false, LIST(1, 2), false, NONE));
-    CHECK(same_image(image_of(graph), load("g.archive")));
+    ACCEPTED(region_connect_v4(graph, 0, 1, NONE, false, ENTRIES(1, 2), false, NONE));
+    CHECK(same_image(image_of(graph), load("g-version-3.archive")));
 }
 
 /* Where a part is "all", the list beside it is not asked about and not kept. Each flag counts for its own part. */
@@ -59,13 +59,14 @@ static void all_of_a_kind(void)
     static region_graph other;
     regions(0, 2);
     other = *graph;
-    ACCEPTED(region_connect(graph, 0, 1, NONE, true, descending, REGION_MOST_LISTED + 1, false, LIST(5)));
-    ACCEPTED(region_connect(graph, 1, 0, NONE, false, LIST(5), true, descending, REGION_MOST_LISTED + 1));
-    CHECK(region_connect(&other, 0, 1, NONE, true, NONE, false, LIST(5)) == REGION_NOT_REFUSED);
-    CHECK(region_connect(&other, 1, 0, NONE, false, LIST(5), true, NONE) == REGION_NOT_REFUSED);
+    ACCEPTED(region_connect_v4(graph, 0, 1, NONE, true, descending, REGION_MOST_LISTED + 1, zeros, REGION_MOST_LISTED + 1, tops,
+                               REGION_MOST_LISTED + 1, false, LIST(5)));
+    ACCEPTED(region_connect_v4(graph, 1, 0, NONE, false, ENTRIES(5), true, descending, REGION_MOST_LISTED + 1));
+    CHECK(region_connect_v4(&other, 0, 1, NONE, true, NO_ENTRIES, false, LIST(5)) == REGION_NOT_REFUSED);
+    CHECK(region_connect_v4(&other, 1, 0, NONE, false, ENTRIES(5), true, NONE) == REGION_NOT_REFUSED);
     CHECK(same_graph(graph, &other));
-    ACCEPTED(region_install(graph, 0, 10, NONE, NONE));
-    ACCEPTED(region_install(graph, 1, 20, LIST(5, 6), LIST(5, 6)));
+    ACCEPTED(region_install_v4(graph, 0, 10, NO_PACKAGES, NONE));
+    ACCEPTED(region_install_v4(graph, 1, 20, PACKAGES(5, 6), LIST(5, 6)));
     OFFERS(10, {20, 5, true}, {20, 6, true});
     KEEPS(region_service_find(graph, lent.places, PLACES, 10, LIST(5, 6)), 5);
 }
@@ -78,10 +79,11 @@ static void longest_lists(void)
         listed[i] = i + 1 < REGION_MOST_LISTED ? i : UINT32_MAX;
     }
     regions(0, 2);
-    ACCEPTED(region_install(graph, 0, UINT32_MAX, listed, REGION_MOST_PROVIDED, listed, REGION_MOST_PROVIDED));
-    ACCEPTED(region_install(graph, 1, 0, LIST(UINT32_MAX), LIST(UINT32_MAX)));
-    ACCEPTED(region_connect(graph, 0, 1, listed, REGION_MOST_LISTED, false, listed, REGION_MOST_LISTED, false, listed,
-                            REGION_MOST_LISTED));
+    ACCEPTED(region_install_v4(graph, 0, UINT32_MAX, listed, REGION_MOST_PROVIDED, zeros, REGION_MOST_PROVIDED, listed,
+                               REGION_MOST_PROVIDED));
+    ACCEPTED(region_install_v4(graph, 1, 0, PACKAGES(UINT32_MAX), LIST(UINT32_MAX)));
+    ACCEPTED(region_connect_v4(graph, 0, 1, listed, REGION_MOST_LISTED, false, listed, REGION_MOST_LISTED, zeros,
+                               REGION_MOST_LISTED, tops, REGION_MOST_LISTED, false, listed, REGION_MOST_LISTED));
     KEEPS(region_bundle_find(graph, lent.places, PLACES, UINT32_MAX, LIST(UINT32_MAX, 0, 1)), UINT32_MAX, 0);
     OFFERS(UINT32_MAX, {0, UINT32_MAX, true}, {UINT32_MAX, 7, true}, {UINT32_MAX, 8, false}, {UINT32_MAX, UINT32_MAX, false});
     KEEPS(region_service_find(graph, lent.places, PLACES, UINT32_MAX, LIST(UINT32_MAX, 7, 8)), UINT32_MAX, 7);
@@ -91,11 +93,11 @@ static void longest_lists(void)
 static void case_g9(void)
 {
     regions(1, 3);
-    ACCEPTED(region_install(graph, 1, 20, NONE, NONE));
-    ACCEPTED(region_connect(graph, 1, 2, LIST(20), false, NONE, false, NONE));
+    ACCEPTED(region_install_v4(graph, 1, 20, NO_PACKAGES, NONE));
+    ACCEPTED(region_connect_v4(graph, 1, 2, LIST(20), false, NO_ENTRIES, false, NONE));
     ACCEPTED(region_uninstall(graph, 20));
-    UNCHANGED(10, region_install(graph, 1, 20, NONE, NONE));
-    ACCEPTED(region_install(graph, 2, 20, NONE, NONE));
+    UNCHANGED(10, region_install_v4(graph, 1, 20, NO_PACKAGES, NONE));
+    ACCEPTED(region_install_v4(graph, 2, 20, NO_PACKAGES, NONE));
 }
 
 static void case_g10(void)

@@ -5,6 +5,8 @@
 
 struct lent lent;
 region_graph *const graph = &lent.graph;
+uint16_t zeros[PLACES];
+uint16_t tops[PLACES];
 
 static struct lent expected;
 static uint8_t pattern;
@@ -12,12 +14,18 @@ static unsigned long passed;
 static unsigned long failed;
 
 /* No bytes between the parts: every byte that is lent is in a part, and is compared. */
-static_assert(sizeof(struct lent) == 6 * GUARD + sizeof(region_graph) + 2 * PLACES * sizeof(uint32_t) + BYTES + sizeof(size_t),
+static_assert(sizeof(struct lent)
+                  == 7 * GUARD + sizeof(region_graph) + 2 * PLACES * sizeof(uint32_t) + PLACES * sizeof(uint16_t) + BYTES
+                         + sizeof(size_t),
               "parts with gaps");
 
 void set_pattern(uint8_t byte)
 {
     pattern = byte;
+    for (size_t i = 0; i < PLACES; i++) {
+        zeros[i] = 0;
+        tops[i] = REGION_HIGHEST_VERSION;
+    }
 }
 
 void lend(void)
@@ -30,6 +38,7 @@ void expect_same(void)
 {
     memset(lent.places, pattern, sizeof lent.places);
     memset(lent.others, pattern, sizeof lent.others);
+    memset(lent.versions, pattern, sizeof lent.versions);
     memset(lent.bytes, pattern, sizeof lent.bytes);
     memset(&lent.start, pattern, sizeof lent.start);
     memcpy(&expected, &lent, sizeof lent);
@@ -43,6 +52,11 @@ void expect_numbers(const uint32_t *numbers, size_t count)
 void expect_others(const uint32_t *numbers, size_t count)
 {
     memcpy(expected.others, numbers, count * sizeof *numbers);
+}
+
+void expect_versions(const uint16_t *versions, size_t count)
+{
+    memcpy(expected.versions, versions, count * sizeof *versions);
 }
 
 void expect_bytes(const uint8_t *bytes, size_t count)

@@ -21,8 +21,10 @@ struct lent {
     uint8_t between[GUARD];
     uint32_t places[PLACES];
     uint8_t beside[GUARD];
-    uint32_t others[PLACES]; /* the second output list of a call that has two */
+    uint32_t others[PLACES]; /* the second output list of resolve */
     uint8_t behind[GUARD];
+    uint16_t versions[PLACES]; /* its third output list */
+    uint8_t beneath[GUARD];
     uint8_t bytes[BYTES];
     uint8_t beyond[GUARD];
     size_t start;
@@ -34,10 +36,14 @@ extern struct lent lent;
 /* The record that is lent, as most calls take it. */
 extern region_graph *const graph;
 
+/* Lists of as many versions as any test needs: all 0, and all the highest. */
+extern uint16_t zeros[PLACES];
+extern uint16_t tops[PLACES];
+
 /* Fills what is lent with a pattern, and makes the record empty. */
 void lend(void);
 
-/* What lend fills with. */
+/* What lend fills with. It comes before all else, and makes the lists of versions. */
 void set_pattern(uint8_t byte);
 
 /* Fills the buffers and the start with the pattern, then says what is to be lent after a call: what is lent now, but for numbers or
@@ -45,6 +51,7 @@ void set_pattern(uint8_t byte);
 void expect_same(void);
 void expect_numbers(const uint32_t *numbers, size_t count);
 void expect_others(const uint32_t *numbers, size_t count);
+void expect_versions(const uint16_t *versions, size_t count);
 void expect_bytes(const uint8_t *bytes, size_t count);
 void expect_start(size_t start);
 
@@ -66,6 +73,13 @@ bool all_passed(void);
 #define COUNT(...) (sizeof((uint32_t[]){__VA_ARGS__}) / sizeof(uint32_t))
 #define LIST(...) (const uint32_t[]){__VA_ARGS__}, COUNT(__VA_ARGS__)
 #define NONE NULL, 0
+#define VERSIONS(...) (const uint16_t[]){__VA_ARGS__}, COUNT(__VA_ARGS__)
+
+/* Packages of version 0 as the four arguments that a call takes, and entries that pass every version as the six. */
+#define PACKAGES(...) LIST(__VA_ARGS__), zeros, COUNT(__VA_ARGS__)
+#define ENTRIES(...) LIST(__VA_ARGS__), zeros, COUNT(__VA_ARGS__), tops, COUNT(__VA_ARGS__)
+#define NO_PACKAGES NONE, NONE
+#define NO_ENTRIES NONE, NONE, NONE
 
 /* A call with its answer, which changes no byte of the record or of a buffer. */
 #define UNCHANGED(answer, call) \

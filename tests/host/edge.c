@@ -29,6 +29,11 @@ uint32_t *numbers_at(uint8_t *end, const uint32_t *numbers, size_t count)
     return memcpy(end - count * sizeof *numbers, numbers, count * sizeof *numbers);
 }
 
+uint16_t *versions_at(uint8_t *end, const uint16_t *versions, size_t count)
+{
+    return memcpy(end - count * sizeof *versions, versions, count * sizeof *versions);
+}
+
 uint8_t *bytes_at(uint8_t *end, const uint8_t *bytes, size_t count)
 {
     return memcpy(end - count, bytes, count);

@@ -12,9 +12,10 @@ enum {
 uint8_t *edge(void);
 void release(uint8_t *end);
 
-/* A record, a list of numbers, or bytes, that end at an edge. */
+/* A record, a list of numbers or of versions, or bytes, that end at an edge. */
 region_graph *record_at(uint8_t *end);
 uint32_t *numbers_at(uint8_t *end, const uint32_t *numbers, size_t count);
+uint16_t *versions_at(uint8_t *end, const uint16_t *versions, size_t count);
 uint8_t *bytes_at(uint8_t *end, const uint8_t *bytes, size_t count);
 
 #endif

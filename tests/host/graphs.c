@@ -14,11 +14,11 @@ void put_g(region_graph *record)
     CHECK(region_add(record, 0) == REGION_NOT_REFUSED);
     CHECK(region_add(record, 1) == REGION_NOT_REFUSED);
     CHECK(region_add(record, 2) == REGION_NOT_REFUSED);
-    CHECK(region_install(record, 0, 10, NONE, NONE) == REGION_NOT_REFUSED);
-    CHECK(region_install(record, 1, 20, LIST(1), NONE) == REGION_NOT_REFUSED);
-    CHECK(region_install(record, 2, 30, LIST(1, 2, 3), NONE) == REGION_NOT_REFUSED);
-    CHECK(region_connect(record, 0, 1, NONE, false, LIST(1, 2), false, NONE) == REGION_NOT_REFUSED);
-    CHECK(region_connect(record, 1, 2, NONE, false, LIST(1, 3), false, NONE) == REGION_NOT_REFUSED);
+    CHECK(region_install_v4(record, 0, 10, NO_PACKAGES, NONE) == REGION_NOT_REFUSED);
+    CHECK(region_install_v4(record, 1, 20, PACKAGES(1), NONE) == REGION_NOT_REFUSED);
+    CHECK(region_install_v4(record, 2, 30, PACKAGES(1, 2, 3), NONE) == REGION_NOT_REFUSED);
+    CHECK(region_connect_v4(record, 0, 1, NONE, false, ENTRIES(1, 2), false, NONE) == REGION_NOT_REFUSED);
+    CHECK(region_connect_v4(record, 1, 2, NONE, false, ENTRIES(1, 3), false, NONE) == REGION_NOT_REFUSED);
 }
 
 void build_g(void)
@@ -33,24 +33,24 @@ void build_g(void)
 void build_cycle(void)
 {
     regions(3, 5);
-    ACCEPTED(region_install(graph, 3, 10, NONE, NONE));
-    ACCEPTED(region_install(graph, 4, 20, NONE, NONE));
-    ACCEPTED(region_connect(graph, 3, 4, NONE, false, NONE, false, LIST(77)));
-    ACCEPTED(region_connect(graph, 4, 3, NONE, false, NONE, false, LIST(77)));
+    ACCEPTED(region_install_v4(graph, 3, 10, NO_PACKAGES, NONE));
+    ACCEPTED(region_install_v4(graph, 4, 20, NO_PACKAGES, NONE));
+    ACCEPTED(region_connect_v4(graph, 3, 4, NONE, false, NO_ENTRIES, false, LIST(77)));
+    ACCEPTED(region_connect_v4(graph, 4, 3, NONE, false, NO_ENTRIES, false, LIST(77)));
 }
 
 /* A connection that passes all services. */
 static void open_services(uint32_t source, uint32_t target)
 {
-    ACCEPTED(region_connect(graph, source, target, NONE, false, NONE, true, NONE));
+    ACCEPTED(region_connect_v4(graph, source, target, NONE, false, NO_ENTRIES, true, NONE));
 }
 
 /* Every region, bundle 10 in one, and bundle 20, which publishes service 5, in another. */
 static void asker_and_holder(uint32_t asker, uint32_t holder)
 {
     regions(0, REGION_REGIONS);
-    ACCEPTED(region_install(graph, asker, 10, NONE, NONE));
-    ACCEPTED(region_install(graph, holder, 20, NONE, LIST(5)));
+    ACCEPTED(region_install_v4(graph, asker, 10, NO_PACKAGES, NONE));
+    ACCEPTED(region_install_v4(graph, holder, 20, NO_PACKAGES, LIST(5)));
 }
 
 void build_diamond(void)
@@ -85,7 +85,7 @@ void build_chain(void)
 void fill_bundles(uint32_t region, uint32_t count)
 {
     for (uint32_t i = 0; i < count; i++) {
-        ACCEPTED(region_install(graph, region, 1000 + i, NONE, NONE));
+        ACCEPTED(region_install_v4(graph, region, 1000 + i, NO_PACKAGES, NONE));
     }
 }
 
@@ -94,7 +94,7 @@ void fill_connections(void)
     regions(0, REGION_REGIONS);
     for (uint32_t source = REGION_REGIONS - 16; source < REGION_REGIONS; source++) {
         for (uint32_t step = 1; step <= 3; step++) {
-            ACCEPTED(region_connect(graph, source, (source + step) % REGION_REGIONS, NONE, false, NONE, false, NONE));
+            ACCEPTED(region_connect_v4(graph, source, (source + step) % REGION_REGIONS, NONE, false, NO_ENTRIES, false, NONE));
         }
     }
 }

@@ -15,6 +15,7 @@ static void test_all(void)
     test_queries();
     test_resolve();
     test_offers();
+    test_versions();
     test_isolation();
     test_archives();
     test_names();

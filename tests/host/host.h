@@ -10,6 +10,7 @@ void test_regions(void);
 void test_queries(void);
 void test_resolve(void);
 void test_offers(void);
+void test_versions(void);
 void test_isolation(void);
 void test_archives(void);
 void test_names(void);

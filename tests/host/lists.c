@@ -7,13 +7,19 @@
 static void null_lists_of_changes(void)
 {
     regions(0, 2);
-    ACCEPTED(region_install(graph, 0, 10, NULL, 0, LIST(1)));
-    ACCEPTED(region_install(graph, 0, 20, LIST(1), NULL, 0));
-    ACCEPTED(region_install(graph, 1, 30, NULL, 0, NULL, 0));
-    ACCEPTED(region_connect(graph, 0, 1, NULL, 0, false, NULL, 0, false, NULL, 0));
-    ACCEPTED(region_connect(graph, 1, 0, NULL, 0, true, NULL, 0, true, NULL, 0));
+    ACCEPTED(region_install_v4(graph, 0, 10, NONE, NONE, LIST(1)));
+    ACCEPTED(region_install_v4(graph, 0, 20, PACKAGES(1), NONE));
+    ACCEPTED(region_install_v4(graph, 1, 30, NONE, NONE, NONE));
+    ACCEPTED(region_install_v4(graph, 1, 40, LIST(1), NONE, NONE));
+    ACCEPTED(region_install_v4(graph, 1, 50, NONE, VERSIONS(1), NONE));
+    ACCEPTED(region_connect_v4(graph, 0, 1, NONE, false, NONE, NONE, NONE, false, NONE));
+    ACCEPTED(region_connect_v4(graph, 1, 0, NONE, true, NONE, NONE, NONE, true, NONE));
+    ACCEPTED(region_disconnect(graph, 0, 1));
+    ACCEPTED(region_connect_v4(graph, 0, 1, NONE, false, LIST(1), VERSIONS(1), NONE, false, NONE));
+    ACCEPTED(region_disconnect(graph, 0, 1));
+    ACCEPTED(region_connect_v4(graph, 0, 1, NONE, false, NONE, VERSIONS(1), VERSIONS(0), false, NONE));
     UNCHANGED(REGION_NOT_AN_ARCHIVE, region_read(graph, NULL, 0));
-    UNCHANGED(REGION_NOT_AN_ARCHIVE, archive_query(NULL, 0, 10, 0, 10));
+    UNCHANGED(REGION_NOT_AN_ARCHIVE, archive_query_v4(NULL, 0, 10, 0, 10, 0));
 }
 
 static void null_find(find_call *find)
@@ -24,20 +30,31 @@ static void null_find(find_call *find)
     UNCHANGED(-REGION_NOT_INSTALLED, find(graph, NULL, 0, 11, NULL, 0));
 }
 
-/* Each list of resolve, alone and with others. */
-static void null_resolve(void)
+/* The lists of resolve, alone and with others. */
+static void null_lists_of_resolve(void)
 {
-    UNCHANGED(0, region_resolve_v3(graph, NULL, 0, NULL, 0, 10, NULL, 0, NULL, 0));
-    UNCHANGED(0, region_resolve_v3(graph, lent.places, 4, lent.others, 4, 10, NULL, 0, NULL, 0));
-    UNCHANGED(0, region_resolve_v3(graph, lent.places, 4, lent.others, 4, 10, NULL, 0, LIST(1, 2, 3, 4)));
-    UNCHANGED(0, region_resolve_v3(graph, lent.places, 4, lent.others, 4, 10, LIST(30, 30, 30, 30), NULL, 0));
-    UNCHANGED(0, region_resolve_v3(graph, NULL, 0, NULL, 0, 10, LIST(30), NULL, 0));
-    UNCHANGED(0, region_resolve_v3(graph, NULL, 0, lent.others, 4, 10, NULL, 0, LIST(1)));
-    UNCHANGED(0, region_resolve_v3(graph, lent.places, 4, NULL, 0, 10, NULL, 0, LIST(1)));
-    UNCHANGED(-REGION_NO_PLACE, region_resolve_v3(graph, NULL, 0, lent.others, 4, 10, LIST(30), LIST(1)));
-    UNCHANGED(-REGION_NO_PLACE, region_resolve_v3(graph, lent.places, 4, NULL, 0, 10, LIST(30), LIST(1)));
-    UNCHANGED(-REGION_NO_PLACE, region_resolve_v3(graph, NULL, 0, NULL, 0, 10, LIST(30, 30, 30, 30), LIST(1, 1, 1, 1)));
-    UNCHANGED(-REGION_NOT_INSTALLED, region_resolve_v3(graph, NULL, 0, NULL, 0, 11, NULL, 0, NULL, 0));
+    UNCHANGED(0, region_resolve_v4(graph, NONE, NONE, NONE, 10, NONE, NONE, NONE));
+    UNCHANGED(0, region_resolve_v4(graph, lent.places, 4, lent.others, 4, lent.versions, 4, 10, NONE, NONE, NONE));
+    UNCHANGED(0, region_resolve_v4(graph, lent.places, 4, lent.others, 4, lent.versions, 4, 10, NONE, PACKAGES(1, 2, 3, 4)));
+    UNCHANGED(0, region_resolve_v4(graph, lent.places, 4, lent.others, 4, lent.versions, 4, 10, LIST(30, 30, 30, 30), NONE,
+                                   VERSIONS(0, 0, 0, 0)));
+    UNCHANGED(0, region_resolve_v4(graph, lent.places, 4, lent.others, 4, lent.versions, 4, 10, LIST(30, 30, 30, 30),
+                                   LIST(1, 2, 3, 4), NONE));
+    UNCHANGED(0, region_resolve_v4(graph, NONE, NONE, NONE, 10, LIST(30), NONE, NONE));
+    UNCHANGED(0, region_resolve_v4(graph, NONE, NONE, NONE, 10, LIST(30), LIST(1), NONE));
+    UNCHANGED(-REGION_NOT_INSTALLED, region_resolve_v4(graph, NONE, NONE, NONE, 11, NONE, NONE, NONE));
+}
+
+/* So its output lists. */
+static void null_outputs_of_resolve(void)
+{
+    UNCHANGED(0, region_resolve_v4(graph, NONE, lent.others, 4, lent.versions, 4, 10, NONE, PACKAGES(1)));
+    UNCHANGED(0, region_resolve_v4(graph, lent.places, 4, NONE, lent.versions, 4, 10, NONE, PACKAGES(1)));
+    UNCHANGED(0, region_resolve_v4(graph, lent.places, 4, lent.others, 4, NONE, 10, NONE, PACKAGES(1)));
+    UNCHANGED(-REGION_NO_PLACE, region_resolve_v4(graph, NONE, lent.others, 4, lent.versions, 4, 10, LIST(30), PACKAGES(1)));
+    UNCHANGED(-REGION_NO_PLACE, region_resolve_v4(graph, lent.places, 4, NONE, lent.versions, 4, 10, LIST(30), PACKAGES(1)));
+    UNCHANGED(-REGION_NO_PLACE, region_resolve_v4(graph, lent.places, 4, lent.others, 4, NONE, 10, LIST(30), PACKAGES(1)));
+    UNCHANGED(-REGION_NO_PLACE, region_resolve_v4(graph, NONE, NONE, NONE, 10, LIST(30, 30, 30, 30), PACKAGES(1, 1, 1, 1)));
 }
 
 static void null_event(event_call *event)
@@ -51,9 +68,10 @@ static void null_buffers(void)
 {
     build_g();
     UNCHANGED(-REGION_NO_PLACE, region_write(graph, NULL, 0));
-    UNCHANGED(-REGION_NO_PLACE, region_route(graph, NULL, 0, 10, REGION_KIND_BUNDLE, 10));
+    UNCHANGED(-REGION_NO_PLACE, region_route_v4(graph, NULL, 0, 10, REGION_KIND_BUNDLE, 10, 0));
     null_find(region_bundle_find);
-    null_resolve();
+    null_lists_of_resolve();
+    null_outputs_of_resolve();
     null_find(region_service_find);
     null_event(region_bundle_event);
     null_event(region_service_event);
@@ -67,31 +85,53 @@ static void overlapping(void)
     region_empty(&apart);
     CHECK(region_add(&apart, 0) == REGION_NOT_REFUSED);
     CHECK(region_add(&apart, 1) == REGION_NOT_REFUSED);
-    CHECK(region_install(&apart, 0, 10, LIST(1, 2, 3, 4), LIST(1, 2, 3, 4)) == REGION_NOT_REFUSED);
-    CHECK(region_install(&apart, 0, 20, LIST(1, 2, 3), LIST(2, 3, 4)) == REGION_NOT_REFUSED);
-    CHECK(region_connect(&apart, 0, 1, LIST(1, 2), false, LIST(1, 2, 3), false, LIST(3, 4)) == REGION_NOT_REFUSED);
+    CHECK(region_install_v4(&apart, 0, 10, PACKAGES(1, 2, 3, 4), LIST(1, 2, 3, 4)) == REGION_NOT_REFUSED);
+    CHECK(region_install_v4(&apart, 0, 20, PACKAGES(1, 2, 3), LIST(2, 3, 4)) == REGION_NOT_REFUSED);
+    CHECK(region_connect_v4(&apart, 0, 1, LIST(1, 2), false, ENTRIES(1, 2, 3), false, LIST(3, 4)) == REGION_NOT_REFUSED);
     regions(0, 2);
-    ACCEPTED(region_install(graph, 0, 10, list, 4, list, 4));
-    ACCEPTED(region_install(graph, 0, 20, list, 3, list + 1, 3));
-    ACCEPTED(region_connect(graph, 0, 1, list, 2, false, list, 3, false, list + 2, 2));
+    ACCEPTED(region_install_v4(graph, 0, 10, list, 4, zeros, 4, list, 4));
+    ACCEPTED(region_install_v4(graph, 0, 20, list, 3, zeros, 3, list + 1, 3));
+    ACCEPTED(region_connect_v4(graph, 0, 1, list, 2, false, list, 3, zeros, 3, tops, 3, false, list + 2, 2));
     CHECK(same_graph(graph, &apart));
 }
 
-/* So with the two input lists of resolve: one that is both the exporters and the packages, and two that share numbers. */
+/* One list of versions as those of packages, and as the lowest and the highest. */
+static void overlapping_versions(void)
+{
+    const uint16_t versions[] = {3, 4, 5};
+    static region_graph apart;
+    regions(0, 2);
+    apart = *graph;
+    CHECK(region_install_v4(&apart, 0, 10, LIST(1, 1, 1), VERSIONS(3, 4, 5), NONE) == REGION_NOT_REFUSED);
+    CHECK(region_connect_v4(&apart, 0, 1, NONE, false, LIST(1, 2), VERSIONS(3, 4), VERSIONS(3, 4), false, NONE)
+          == REGION_NOT_REFUSED);
+    CHECK(region_connect_v4(&apart, 1, 0, NONE, false, LIST(1, 2), VERSIONS(3, 4), VERSIONS(4, 5), false, NONE)
+          == REGION_NOT_REFUSED);
+    ACCEPTED(region_install_v4(graph, 0, 10, LIST(1, 1, 1), versions, 3, NONE));
+    ACCEPTED(region_connect_v4(graph, 0, 1, NONE, false, LIST(1, 2), versions, 2, versions, 2, false, NONE));
+    ACCEPTED(region_connect_v4(graph, 1, 0, NONE, false, LIST(1, 2), versions, 2, versions + 1, 2, false, NONE));
+    CHECK(same_graph(graph, &apart));
+}
+
+/* So with the input lists of resolve: one that is both the exporters and the packages, and two that share numbers. */
 static void overlapping_candidates(void)
 {
     const uint32_t both[] = {1, 1, 2, 2, 1};
     regions(0, 1);
-    ACCEPTED(region_install(graph, 0, 1, LIST(1, 2), NONE));
+    ACCEPTED(region_install_v4(graph, 0, 1, PACKAGES(1, 2), NONE));
     expect_same();
     expect_numbers(LIST(1, 1, 1));
     expect_others(LIST(1, 1, 1));
-    WRITES(3, region_resolve_v3(graph, lent.places, PLACES, lent.others, PLACES, 1, both, 5, both, 5));
+    expect_versions(zeros, 3);
+    WRITES(3, region_resolve_v4(graph, lent.places, PLACES, lent.others, PLACES, lent.versions, PLACES, 1, both, 5, both, 5, zeros,
+                                5));
     for (size_t count = 2; count <= 4; count++) {
         expect_same();
         expect_numbers(LIST(1, 1));
         expect_others(LIST(1, 2));
-        WRITES(2, region_resolve_v3(graph, lent.places, PLACES, lent.others, PLACES, 1, both, count, both + 1, count));
+        expect_versions(zeros, 2);
+        WRITES(2, region_resolve_v4(graph, lent.places, PLACES, lent.others, PLACES, lent.versions, PLACES, 1, both, count,
+                                    both + 1, count, zeros, count));
     }
 }
 
@@ -142,6 +182,7 @@ void test_lists(void)
     null_lists_of_changes();
     null_buffers();
     overlapping();
+    overlapping_versions();
     overlapping_candidates();
     twelve();
     many(PLACES);

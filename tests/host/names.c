@@ -257,7 +257,7 @@ static void damages(void)
 static void kinds_of_items(void)
 {
     build_g();
-    UNCHANGED(-REGION_NOT_A_KIND, region_route(graph, lent.bytes, BYTES, 10, REGION_KIND_REGION, 0));
+    UNCHANGED(-REGION_NOT_A_KIND, region_route_v4(graph, lent.bytes, BYTES, 10, REGION_KIND_REGION, 0, 0));
 }
 
 void test_names(void)

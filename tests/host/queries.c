@@ -5,7 +5,7 @@
 /* A route call on the lent record, with all the bytes that are lent. */
 static int64_t route(uint32_t location, uint32_t kind, uint32_t item)
 {
-    return region_route(graph, lent.bytes, BYTES, location, kind, item);
+    return region_route_v4(graph, lent.bytes, BYTES, location, kind, item, 0);
 }
 
 static void cases_g3_to_g6(void)
@@ -55,13 +55,13 @@ static void longest_route(void)
     build_chain();
     expect_same();
     expect_bytes(visited, sizeof visited);
-    WRITES(48, region_route(graph, lent.bytes, 64, 10, REGION_KIND_SERVICE, 5));
-    UNCHANGED(-REGION_NO_PLACE, region_route(graph, lent.bytes, 63, 10, REGION_KIND_SERVICE, 5));
-    UNCHANGED(-REGION_NO_PLACE, region_route(graph, lent.bytes, 49, 10, REGION_KIND_SERVICE, 5));
+    WRITES(48, region_route_v4(graph, lent.bytes, 64, 10, REGION_KIND_SERVICE, 5, 0));
+    UNCHANGED(-REGION_NO_PLACE, region_route_v4(graph, lent.bytes, 63, 10, REGION_KIND_SERVICE, 5, 0));
+    UNCHANGED(-REGION_NO_PLACE, region_route_v4(graph, lent.bytes, 49, 10, REGION_KIND_SERVICE, 5, 0));
     KEEPS(region_service_find(graph, lent.places, PLACES, 10, LIST(5, 6, 5)), 5, 5);
     KEEPS(region_service_event(graph, lent.places, PLACES, LIST(20, 10, 10, 20), 5), 20, 10, 10, 20);
     ACCEPTED(region_disconnect(graph, 38, 39));
-    UNCHANGED(-REGION_HIDDEN, region_route(graph, lent.bytes, 64, 10, REGION_KIND_SERVICE, 5));
+    UNCHANGED(-REGION_HIDDEN, region_route_v4(graph, lent.bytes, 64, 10, REGION_KIND_SERVICE, 5, 0));
     KEEPS(region_service_event(graph, lent.places, PLACES, LIST(20, 10, 10, 20), 5), 20, 20);
 }
 
@@ -83,7 +83,7 @@ static void kept(void)
 static void bundles_pass(void)
 {
     build_g();
-    ACCEPTED(region_connect(graph, 2, 1, LIST(20), false, NONE, false, NONE));
+    ACCEPTED(region_connect_v4(graph, 2, 1, LIST(20), false, NO_ENTRIES, false, NONE));
     ROUTES(route(30, REGION_KIND_BUNDLE, 20), 2, 1);
     KEEPS(region_bundle_find(graph, lent.places, PLACES, 30, LIST(10, 20, 30)), 20, 30);
     KEEPS(region_bundle_event(graph, lent.places, PLACES, LIST(10, 20, 30), 20), 20, 30);
@@ -96,21 +96,21 @@ static void refused_routes(void)
     UNCHANGED(-REGION_NOT_INSTALLED, route(11, 3, 1));
     UNCHANGED(-REGION_NOT_A_KIND, route(10, 3, 1));
     UNCHANGED(-REGION_NOT_A_KIND, route(10, UINT32_MAX, 1));
-    UNCHANGED(-REGION_NO_PLACE, region_route(graph, lent.bytes, 63, 10, REGION_KIND_PACKAGE, 1));
-    UNCHANGED(-REGION_NO_PLACE, region_route(graph, lent.bytes, 63, 10, REGION_KIND_PACKAGE, 3));
-    UNCHANGED(-REGION_NO_PLACE, region_route(graph, lent.bytes, 63, 10, REGION_KIND_BUNDLE, 10));
-    UNCHANGED(-REGION_NO_PLACE, region_route(graph, lent.bytes, 16, 10, REGION_KIND_BUNDLE, 10));
-    UNCHANGED(-REGION_NO_PLACE, region_route(graph, lent.bytes, 0, 10, REGION_KIND_BUNDLE, 10));
-    ROUTES(region_route(graph, lent.bytes, 64, 10, REGION_KIND_BUNDLE, 10), 0);
-    UNCHANGED(-REGION_NOT_A_KIND, region_route(graph, lent.bytes, 63, 10, 3, 1));
-    UNCHANGED(-REGION_NOT_INSTALLED, region_route(graph, lent.bytes, 63, 11, 3, 1));
+    UNCHANGED(-REGION_NO_PLACE, region_route_v4(graph, lent.bytes, 63, 10, REGION_KIND_PACKAGE, 1, 0));
+    UNCHANGED(-REGION_NO_PLACE, region_route_v4(graph, lent.bytes, 63, 10, REGION_KIND_PACKAGE, 3, 0));
+    UNCHANGED(-REGION_NO_PLACE, region_route_v4(graph, lent.bytes, 63, 10, REGION_KIND_BUNDLE, 10, 0));
+    UNCHANGED(-REGION_NO_PLACE, region_route_v4(graph, lent.bytes, 16, 10, REGION_KIND_BUNDLE, 10, 0));
+    UNCHANGED(-REGION_NO_PLACE, region_route_v4(graph, lent.bytes, 0, 10, REGION_KIND_BUNDLE, 10, 0));
+    ROUTES(region_route_v4(graph, lent.bytes, 64, 10, REGION_KIND_BUNDLE, 10, 0), 0);
+    UNCHANGED(-REGION_NOT_A_KIND, region_route_v4(graph, lent.bytes, 63, 10, 3, 1, 0));
+    UNCHANGED(-REGION_NOT_INSTALLED, region_route_v4(graph, lent.bytes, 63, 11, 3, 1, 0));
 }
 
 /* Bundle 10 publishes service 10, so that both finds see item 10. */
 static void build_tens(void)
 {
     regions(0, 1);
-    ACCEPTED(region_install(graph, 0, 10, NONE, LIST(10)));
+    ACCEPTED(region_install_v4(graph, 0, 10, NO_PACKAGES, LIST(10)));
 }
 
 static void refused_finds(find_call *find)

@@ -48,14 +48,14 @@ static void size(void)
 
 /* The library has the interface of the header. The table has the bytes of the record, of a route's buffer and of the longest image at
    each version, from 1 on, and only grows: where one of them is another, so is the version. Version 3 has the bytes of version 2,
-   and resolve with other arguments. */
+   and resolve with other arguments; version 4 has versions of packages. */
 static void version(void)
 {
     static const struct {
         size_t record;
         size_t route;
         size_t image;
-    } bytes[] = {{16408, 16, 14248}, {16408, 64, 14296}, {16408, 64, 14296}};
+    } bytes[] = {{16408, 16, 14248}, {16408, 64, 14296}, {16408, 64, 14296}, {20504, 64, 18392}};
     const size_t versions = sizeof bytes / sizeof bytes[0];
     CHECK(region_library_matches());
     CHECK(region_interface_version() == WIMBORU_VERSION);
@@ -74,9 +74,9 @@ static void alignment(void)
     for (size_t offset = 0; offset < 64; offset += 8) {
         region_graph *record = (region_graph *)(void *)(memory + offset);
         put_g(record);
-        CHECK(same_image(image_of(record), load("g.archive")));
+        CHECK(same_image(image_of(record), load("g-version-3.archive")));
         lend();
-        ROUTES(region_route(record, lent.bytes, REGION_ROUTE_BYTES, 20, REGION_KIND_PACKAGE, 3), 1, 2);
+        ROUTES(region_route_v4(record, lent.bytes, REGION_ROUTE_BYTES, 20, REGION_KIND_PACKAGE, 3, 0), 1, 2);
     }
 }
 
@@ -98,7 +98,7 @@ static void copy_of_chain(void)
     region_graph other = *graph;
     CHECK(same_graph(&other, graph));
     UNCHANGED(REGION_NOT_REFUSED, region_remove(&other, 63));
-    UNCHANGED(-REGION_HIDDEN, region_route(&other, lent.bytes, REGION_ROUTE_BYTES, 10, REGION_KIND_SERVICE, 5));
+    UNCHANGED(-REGION_HIDDEN, region_route_v4(&other, lent.bytes, REGION_ROUTE_BYTES, 10, REGION_KIND_SERVICE, 5, 0));
     KEEPS(region_service_find(graph, lent.places, PLACES, 10, LIST(5)), 5);
     UNCHANGED(REGION_NOT_REFUSED, region_add(&other, 63));
     UNCHANGED(REGION_USED, region_add(graph, 63));

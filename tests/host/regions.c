@@ -1,4 +1,4 @@
-/* Region numbers up to the last one, and the version that they give an image. */
+/* Region numbers up to the last one. */
 #include "candidates.h"
 #include "graphs.h"
 #include "host.h"
@@ -15,26 +15,26 @@ static void expect_image(const uint8_t *bytes, size_t length)
 /* A region alone. */
 static void alone(uint8_t region)
 {
-    const uint8_t image[] = {region < 16 ? 1 : 2, 0, 0, 0, 4, 1, region, 0, 0};
+    const uint8_t image[] = {3, 0, 0, 0, 4, 1, region, 0, 0};
     lend();
     ACCEPTED(region_add(graph, region));
     UNCHANGED(REGION_USED, region_add(graph, region));
     expect_image(image, sizeof image);
-    ACCEPTED(region_install(graph, region, 10, NONE, NONE));
+    ACCEPTED(region_install_v4(graph, region, 10, NO_PACKAGES, NONE));
     ACCEPTED(region_remove(graph, region));
     UNCHANGED(REGION_NO_SUCH_REGION, region_remove(graph, region));
     UNCHANGED(REGION_NOT_INSTALLED, region_uninstall(graph, 10));
-    CHECK(same_image(image_of(graph), load("empty.archive")));
+    CHECK(same_image(image_of(graph), as_version_3(load("empty.archive"))));
 }
 
 /* Every query of bundle 10 sees over the connection to bundle 20, and no query sees the other way. */
 static void seen_over(uint8_t source, uint8_t target)
 {
-    ROUTES(region_route(graph, lent.bytes, REGION_ROUTE_BYTES, 10, REGION_KIND_BUNDLE, 20), source, target);
-    ROUTES(region_route(graph, lent.bytes, REGION_ROUTE_BYTES, 10, REGION_KIND_PACKAGE, 2), source, target);
-    ROUTES(region_route(graph, lent.bytes, REGION_ROUTE_BYTES, 10, REGION_KIND_SERVICE, 6), source, target);
-    ROUTES(region_route(graph, lent.bytes, REGION_ROUTE_BYTES, 20, REGION_KIND_SERVICE, 6), target);
-    UNCHANGED(-REGION_HIDDEN, region_route(graph, lent.bytes, REGION_ROUTE_BYTES, 20, REGION_KIND_BUNDLE, 10));
+    ROUTES(region_route_v4(graph, lent.bytes, REGION_ROUTE_BYTES, 10, REGION_KIND_BUNDLE, 20, 0), source, target);
+    ROUTES(region_route_v4(graph, lent.bytes, REGION_ROUTE_BYTES, 10, REGION_KIND_PACKAGE, 2, 0), source, target);
+    ROUTES(region_route_v4(graph, lent.bytes, REGION_ROUTE_BYTES, 10, REGION_KIND_SERVICE, 6, 0), source, target);
+    ROUTES(region_route_v4(graph, lent.bytes, REGION_ROUTE_BYTES, 20, REGION_KIND_SERVICE, 6, 0), target);
+    UNCHANGED(-REGION_HIDDEN, region_route_v4(graph, lent.bytes, REGION_ROUTE_BYTES, 20, REGION_KIND_BUNDLE, 10, 0));
     KEEPS(region_bundle_find(graph, lent.places, PLACES, 10, LIST(20, 10, 30)), 20, 10);
     OFFERS(10, {20, 2, true}, {10, 1, true}, {20, 3, false});
     OFFERS(20, {20, 2, true}, {10, 1, false});
@@ -50,16 +50,16 @@ static void pair(uint8_t source, uint8_t target)
     lend();
     ACCEPTED(region_add(graph, source));
     ACCEPTED(region_add(graph, target));
-    ACCEPTED(region_install(graph, source, 10, LIST(1), LIST(5)));
-    ACCEPTED(region_install(graph, target, 20, LIST(2), LIST(6)));
-    ACCEPTED(region_connect(graph, source, target, LIST(20), false, LIST(2), false, LIST(6)));
-    UNCHANGED(REGION_CONNECTED, region_connect(graph, source, target, NONE, false, NONE, false, NONE));
+    ACCEPTED(region_install_v4(graph, source, 10, PACKAGES(1), LIST(5)));
+    ACCEPTED(region_install_v4(graph, target, 20, PACKAGES(2), LIST(6)));
+    ACCEPTED(region_connect_v4(graph, source, target, LIST(20), false, ENTRIES(2), false, LIST(6)));
+    UNCHANGED(REGION_CONNECTED, region_connect_v4(graph, source, target, NONE, false, NO_ENTRIES, false, NONE));
     UNCHANGED(REGION_NOT_CONNECTED, region_disconnect(graph, target, source));
     UNCHANGED(REGION_ENDS_EQUAL, region_disconnect(graph, target, target));
     seen_over(source, target);
     ACCEPTED(region_disconnect(graph, source, target));
     UNCHANGED(REGION_NOT_CONNECTED, region_disconnect(graph, source, target));
-    UNCHANGED(-REGION_HIDDEN, region_route(graph, lent.bytes, REGION_ROUTE_BYTES, 10, REGION_KIND_BUNDLE, 20));
+    UNCHANGED(-REGION_HIDDEN, region_route_v4(graph, lent.bytes, REGION_ROUTE_BYTES, 10, REGION_KIND_BUNDLE, 20, 0));
     KEEPS(region_service_event(graph, lent.places, PLACES, LIST(20, 10, 20), 6), 20, 20);
 }
 
@@ -73,18 +73,18 @@ static void every_region(void)
     }
 }
 
-/* Regions 62 and 63 connected both ways beside region 15: the image is of version 2 until the last of the two is removed. */
+/* Regions 62 and 63 connected both ways beside region 15, until the last of the two is removed. */
 static void last_two(void)
 {
-    const uint8_t both[] = {2, 0, 0, 0, 20, 3, 15, 62, 63, 0, 2, 0, 5, 62, 63, 0, 0, 0, 0, 5, 63, 62, 0, 0, 0};
-    const uint8_t one[] = {2, 0, 0, 0, 5, 2, 15, 62, 0, 0};
-    const uint8_t none[] = {1, 0, 0, 0, 4, 1, 15, 0, 0};
+    const uint8_t both[] = {3, 0, 0, 0, 20, 3, 15, 62, 63, 0, 2, 0, 5, 62, 63, 0, 0, 0, 0, 5, 63, 62, 0, 0, 0};
+    const uint8_t one[] = {3, 0, 0, 0, 5, 2, 15, 62, 0, 0};
+    const uint8_t none[] = {3, 0, 0, 0, 4, 1, 15, 0, 0};
     regions(15, 16);
     expect_image(none, sizeof none);
     ACCEPTED(region_add(graph, 63));
     ACCEPTED(region_add(graph, 62));
-    ACCEPTED(region_connect(graph, 63, 62, NONE, false, NONE, false, NONE));
-    ACCEPTED(region_connect(graph, 62, 63, NONE, false, NONE, false, NONE));
+    ACCEPTED(region_connect_v4(graph, 63, 62, NONE, false, NO_ENTRIES, false, NONE));
+    ACCEPTED(region_connect_v4(graph, 62, 63, NONE, false, NO_ENTRIES, false, NONE));
     expect_image(both, sizeof both);
     ACCEPTED(region_remove(graph, 63));
     expect_image(one, sizeof one);
@@ -93,16 +93,16 @@ static void last_two(void)
     expect_image(none, sizeof none);
 }
 
-/* G is of version 1 again when a region that it had besides is removed. */
+/* G has its image again when a region that it had besides is removed. */
 static void g_and_last(void)
 {
     build_g();
     ACCEPTED(region_add(graph, 63));
-    ACCEPTED(region_connect(graph, 63, 2, NONE, true, NONE, true, NONE));
+    ACCEPTED(region_connect_v4(graph, 63, 2, NONE, true, NO_ENTRIES, true, NONE));
     struct image more = image_of(graph);
-    CHECK(more.length == 84 + 1 + 7 && more.bytes[0] == 2);
+    CHECK(more.length == 108 + 1 + 7);
     ACCEPTED(region_remove(graph, 63));
-    CHECK(same_image(image_of(graph), load("g.archive")));
+    CHECK(same_image(image_of(graph), load("g-version-3.archive")));
 }
 
 /* The graph of plates.archive by its calls. */
@@ -112,14 +112,14 @@ static void plates(void)
     ACCEPTED(region_add(graph, 63));
     ACCEPTED(region_add(graph, 16));
     ACCEPTED(region_add(graph, 0));
-    ACCEPTED(region_install(graph, 63, 30, LIST(2, 3), LIST(5)));
-    ACCEPTED(region_install(graph, 16, 20, LIST(1), NONE));
-    ACCEPTED(region_install(graph, 0, 10, NONE, NONE));
-    ACCEPTED(region_connect(graph, 16, 63, LIST(30), false, LIST(2, 3), true, NONE));
-    ACCEPTED(region_connect(graph, 0, 16, NONE, false, LIST(1, 2), false, NONE));
-    CHECK(same_image(image_of(graph), load("plates.archive")));
-    ROUTES(region_route(graph, lent.bytes, REGION_ROUTE_BYTES, 10, REGION_KIND_PACKAGE, 2), 0, 16, 63);
-    UNCHANGED(-REGION_HIDDEN, region_route(graph, lent.bytes, REGION_ROUTE_BYTES, 10, REGION_KIND_SERVICE, 5));
+    ACCEPTED(region_install_v4(graph, 63, 30, PACKAGES(2, 3), LIST(5)));
+    ACCEPTED(region_install_v4(graph, 16, 20, PACKAGES(1), NONE));
+    ACCEPTED(region_install_v4(graph, 0, 10, NO_PACKAGES, NONE));
+    ACCEPTED(region_connect_v4(graph, 16, 63, LIST(30), false, ENTRIES(2, 3), true, NONE));
+    ACCEPTED(region_connect_v4(graph, 0, 16, NONE, false, ENTRIES(1, 2), false, NONE));
+    CHECK(same_image(image_of(graph), as_version_3(load("plates.archive"))));
+    ROUTES(region_route_v4(graph, lent.bytes, REGION_ROUTE_BYTES, 10, REGION_KIND_PACKAGE, 2, 0), 0, 16, 63);
+    UNCHANGED(-REGION_HIDDEN, region_route_v4(graph, lent.bytes, REGION_ROUTE_BYTES, 10, REGION_KIND_SERVICE, 5, 0));
 }
 
 void test_regions(void)

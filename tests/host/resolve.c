@@ -1,13 +1,15 @@
-/* Request C-14: the candidates, exporters with packages, that a bundle is offered; every refusal, and the lengths of the lists. */
+/* Request C-14: the candidates, exporters with packages of version 0, that a bundle is offered; every refusal, and the lengths of the
+   lists. versions.c has other versions. */
 #include "candidates.h"
 #include "graphs.h"
 #include "host.h"
 
 /* A connection that passes these packages and nothing else. */
-#define PASSES(source, target, ...) ACCEPTED(region_connect(graph, source, target, NONE, false, LIST(__VA_ARGS__), false, NONE))
+#define PASSES(source, target, ...) \
+    ACCEPTED(region_connect_v4(graph, source, target, NONE, false, ENTRIES(__VA_ARGS__), false, NONE))
 
 /* A bundle that exports these packages. */
-#define EXPORTS(region, location, ...) ACCEPTED(region_install(graph, region, location, LIST(__VA_ARGS__), NONE))
+#define EXPORTS(region, location, ...) ACCEPTED(region_install_v4(graph, region, location, PACKAGES(__VA_ARGS__), NONE))
 
 /* Whether an output list has these three numbers. */
 static bool has(const uint32_t *list, uint32_t first, uint32_t second, uint32_t third)
@@ -20,13 +22,15 @@ static void cases_g1_and_g2(void)
 {
     uint32_t from[3] = {7, 7, 7};
     uint32_t packages[3] = {7, 7, 7};
+    uint16_t versions[3] = {7, 7, 7};
     build_g();
-    CHECK(region_resolve_v3(graph, from, 3, packages, 3, 10, LIST(30, 30, 30), LIST(1, 2, 3)) == 1);
-    CHECK(has(from, 30, 7, 7) && has(packages, 1, 7, 7));
+    CHECK(region_resolve_v4(graph, from, 3, packages, 3, versions, 3, 10, LIST(30, 30, 30), PACKAGES(1, 2, 3)) == 1);
+    CHECK(has(from, 30, 7, 7) && has(packages, 1, 7, 7) && versions[0] == 0 && versions[1] == 7 && versions[2] == 7);
     from[0] = 7;
     packages[0] = 7;
-    CHECK(region_resolve_v3(graph, from, 3, packages, 3, 20, LIST(30, 30, 30, 30), LIST(1, 2, 3)) == 2);
-    CHECK(has(from, 30, 30, 7) && has(packages, 1, 3, 7));
+    versions[0] = 7;
+    CHECK(region_resolve_v4(graph, from, 3, packages, 3, versions, 3, 20, LIST(30, 30, 30, 30), PACKAGES(1, 2, 3)) == 2);
+    CHECK(has(from, 30, 30, 7) && has(packages, 1, 3, 7) && versions[0] == 0 && versions[1] == 0 && versions[2] == 7);
     OFFERS(10, {30, 1, true}, {30, 2, false}, {30, 3, false});
     OFFERS(20, {30, 1, true}, {30, 2, false}, {30, 3, true});
     OFFERS(30, {30, 1, true}, {30, 2, true}, {30, 3, true}, {20, 1, false});
@@ -37,10 +41,10 @@ static void past_a_holder(void)
 {
     build_g();
     OFFERS(10, {20, 1, true}, {30, 1, true}, {10, 1, false});
-    ROUTES(region_route(graph, lent.bytes, BYTES, 10, REGION_KIND_PACKAGE, 1), 0, 1);
+    ROUTES(region_route_v4(graph, lent.bytes, BYTES, 10, REGION_KIND_PACKAGE, 1, 0), 0, 1);
     ACCEPTED(region_uninstall(graph, 20));
     OFFERS(10, {20, 1, false}, {30, 1, true});
-    ROUTES(region_route(graph, lent.bytes, BYTES, 10, REGION_KIND_PACKAGE, 1), 0, 1, 2);
+    ROUTES(region_route_v4(graph, lent.bytes, BYTES, 10, REGION_KIND_PACKAGE, 1, 0), 0, 1, 2);
     ACCEPTED(region_disconnect(graph, 1, 2));
     OFFERS(10, {20, 1, false}, {30, 1, false});
 }
@@ -49,7 +53,7 @@ static void past_a_holder(void)
 static void two_exporters(void)
 {
     regions(0, 10);
-    ACCEPTED(region_install(graph, 0, 10, NONE, NONE));
+    ACCEPTED(region_install_v4(graph, 0, 10, NO_PACKAGES, NONE));
     EXPORTS(1, 20, 1);
     EXPORTS(9, 90, 1);
     PASSES(0, 1, 1);
@@ -63,13 +67,13 @@ static void two_exporters(void)
 static void other_exporters(void)
 {
     regions(0, 3);
-    ACCEPTED(region_install(graph, 0, 10, NONE, NONE));
+    ACCEPTED(region_install_v4(graph, 0, 10, NO_PACKAGES, NONE));
     EXPORTS(1, 20, 1);
     EXPORTS(1, 21, 2);
-    ACCEPTED(region_install(graph, 1, 22, NONE, LIST(1)));
+    ACCEPTED(region_install_v4(graph, 1, 22, NO_PACKAGES, LIST(1)));
     EXPORTS(2, 30, 2);
     PASSES(0, 1, 1);
-    ACCEPTED(region_connect(graph, 0, 2, NONE, true, NONE, true, NONE));
+    ACCEPTED(region_connect_v4(graph, 0, 2, NONE, true, NO_ENTRIES, true, NONE));
     OFFERS(10, {77, 1, false}, {21, 1, false}, {22, 1, false}, {30, 1, false}, {1, 20, false}, {20, 20, false}, {1, 1, false});
     OFFERS(10, {20, 1, true}, {21, 2, false}, {30, 2, true}, {20, 2, false});
     ACCEPTED(region_uninstall(graph, 20));
@@ -82,7 +86,7 @@ static void other_exporters(void)
 static void own_region(void)
 {
     regions(0, 2);
-    ACCEPTED(region_install(graph, 0, 10, LIST(1), LIST(2)));
+    ACCEPTED(region_install_v4(graph, 0, 10, PACKAGES(1), LIST(2)));
     EXPORTS(0, 11, 5);
     EXPORTS(1, 20, 1, 5);
     OFFERS(10, {10, 1, true}, {11, 5, true}, {20, 1, false}, {20, 5, false}, {10, 2, false}, {10, 10, false}, {11, 1, false});
@@ -95,14 +99,14 @@ static void own_region(void)
 static void judged_together(void)
 {
     regions(0, 4);
-    ACCEPTED(region_install(graph, 0, 10, NONE, NONE));
+    ACCEPTED(region_install_v4(graph, 0, 10, NO_PACKAGES, NONE));
     EXPORTS(1, 20, 1);
     EXPORTS(2, 30, 1, 2);
-    ACCEPTED(region_install(graph, 3, 40, LIST(1, 3), LIST(1)));
+    ACCEPTED(region_install_v4(graph, 3, 40, PACKAGES(1, 3), LIST(1)));
     PASSES(0, 1, 1);
     PASSES(0, 2, 2);
-    ACCEPTED(region_connect(graph, 2, 3, LIST(40), false, LIST(1), true, NONE));
-    ACCEPTED(region_connect(graph, 0, 3, LIST(40), false, LIST(3), true, NONE));
+    ACCEPTED(region_connect_v4(graph, 2, 3, LIST(40), false, ENTRIES(1), true, NONE));
+    ACCEPTED(region_connect_v4(graph, 0, 3, LIST(40), false, ENTRIES(3), true, NONE));
     OFFERS(10, {20, 1, true}, {30, 1, false}, {30, 2, true}, {20, 2, false}, {40, 1, false}, {40, 3, true});
     OFFERS(30, {30, 1, true}, {40, 1, true}, {40, 3, false}, {20, 1, false});
     KEEPS(region_bundle_find(graph, lent.places, PLACES, 10, LIST(10, 20, 30, 40)), 10, 40);
@@ -112,12 +116,12 @@ static void judged_together(void)
 static void all_packages(void)
 {
     regions(0, 4);
-    ACCEPTED(region_install(graph, 0, 10, NONE, NONE));
+    ACCEPTED(region_install_v4(graph, 0, 10, NO_PACKAGES, NONE));
     EXPORTS(1, 20, 0, 1, 257, UINT32_MAX);
     EXPORTS(2, 30, 1, 257, 65537);
     EXPORTS(3, 40, 1, 257, 513);
-    ACCEPTED(region_connect(graph, 0, 1, NONE, true, NONE, false, NONE));
-    ACCEPTED(region_connect(graph, 1, 2, NONE, true, NONE, false, NONE));
+    ACCEPTED(region_connect_v4(graph, 0, 1, NONE, true, NO_ENTRIES, false, NONE));
+    ACCEPTED(region_connect_v4(graph, 1, 2, NONE, true, NO_ENTRIES, false, NONE));
     PASSES(2, 3, 257);
     OFFERS(10, {20, 0, true}, {20, 1, true}, {20, 257, true}, {20, UINT32_MAX, true}, {20, 2, false}, {20, 65537, false});
     OFFERS(10, {30, 1, true}, {30, 257, true}, {30, 65537, true}, {30, 513, false}, {30, 0, false}, {30, UINT32_MAX, false});
@@ -146,7 +150,7 @@ static void longest_route(void)
     const uint32_t last = REGION_REGIONS - 1;
     const uint32_t first = last - REGION_MOST_CONNECTIONS;
     regions(0, REGION_REGIONS);
-    ACCEPTED(region_install(graph, first, 10, NONE, NONE));
+    ACCEPTED(region_install_v4(graph, first, 10, NO_PACKAGES, NONE));
     EXPORTS(last, 20, 5, 6);
     EXPORTS(first + 1, 30, 5, 6);
     for (uint32_t region = first; region < last; region++) {
@@ -171,71 +175,93 @@ static void order(void)
     }
 }
 
-/* Lists with so many exporters and packages, to output lists with so many places. Every candidate is offered, also those that
-   memory behind the shorter list would give. */
-static void counted(size_t exporter_count, size_t package_count, size_t exporter_places, size_t package_places)
+/* The elements of the lists of resolve, in and out. */
+struct lengths {
+    size_t exporters;
+    size_t packages;
+    size_t versions;
+    size_t out_exporters;
+    size_t out_packages;
+    size_t out_versions;
+};
+
+/* Lists of such lengths, with so many candidates. Every candidate is offered, also those that memory behind the shorter lists would
+   give. */
+static void counted(size_t count, struct lengths n)
 {
     static const uint32_t exporters[] = {30, 20, 30, 30, 20, 30};
     static const uint32_t packages[] = {1, 1, 3, 1, 1, 3};
-    size_t count = exporter_count < package_count ? exporter_count : package_count;
     expect_same();
     expect_numbers(exporters, count);
     expect_others(packages, count);
-    WRITES(count, region_resolve_v3(graph, lent.places, exporter_places, lent.others, package_places, 20, exporters, exporter_count,
-                                    packages, package_count));
+    expect_versions(zeros, count);
+    WRITES(count, region_resolve_v4(graph, lent.places, n.out_exporters, lent.others, n.out_packages, lent.versions, n.out_versions,
+                                    20, exporters, n.exporters, packages, n.packages, zeros, n.versions));
 }
 
-/* The shorter input list counts the candidates, whatever the longer one has behind them. */
+/* The shortest input list counts the candidates, whatever the others have behind them. */
 static void lengths(void)
 {
     build_g();
     for (size_t count = 0; count <= 6; count++) {
         for (size_t other = count; other <= 6; other++) {
-            counted(count, other, count, count);
-            counted(other, count, count, count);
-            counted(count, other, PLACES, count);
-            counted(other, count, count, PLACES);
+            counted(count, (struct lengths){count, other, other, count, count, count});
+            counted(count, (struct lengths){other, count, other, count, count, count});
+            counted(count, (struct lengths){other, other, count, count, count, count});
+            counted(count, (struct lengths){count, count, other, PLACES, count, count});
+            counted(count, (struct lengths){count, other, count, count, PLACES, count});
+            counted(count, (struct lengths){other, count, count, count, count, PLACES});
         }
     }
     expect_same();
     expect_numbers(LIST(30, 30));
     expect_others(LIST(1, 3));
-    WRITES(2, region_resolve_v3(graph, lent.places, 2, lent.others, 2, 20, LIST(30, 30, 30, 20, 30), LIST(1, 3)));
+    expect_versions(zeros, 2);
+    WRITES(2, region_resolve_v4(graph, lent.places, 2, lent.others, 2, lent.versions, 2, 20, LIST(30, 30, 30, 20, 30), LIST(1, 3),
+                                VERSIONS(0, 0, 7)));
 }
 
-/* Question 14 asks both output lists, and neither is written where one is too short. */
+/* A resolve of bundle 10, or of another, for so many candidates, all (30, 1, 0) or those of an exporter that is none; to output lists
+   with so many places. */
+static int64_t resolve(uint32_t location, uint32_t exporter, size_t count, size_t exporters, size_t packages, size_t versions)
+{
+    const uint32_t from[] = {exporter, exporter, exporter, exporter, exporter};
+    const uint32_t ones[] = {1, 1, 1, 1, 1};
+    return region_resolve_v4(graph, lent.places, exporters, lent.others, packages, lent.versions, versions, location, from, count,
+                             ones, count, zeros, count);
+}
+
+/* Question 14 asks every output list, and none is written where one is too short. */
 static void refused_places(void)
 {
     build_g();
-    UNCHANGED(-REGION_NO_PLACE, region_resolve_v3(graph, lent.places, 2, lent.others, 1, 10, LIST(30, 30), LIST(1, 1)));
-    UNCHANGED(-REGION_NO_PLACE, region_resolve_v3(graph, lent.places, 1, lent.others, 2, 10, LIST(30, 30), LIST(1, 1)));
-    UNCHANGED(-REGION_NO_PLACE, region_resolve_v3(graph, lent.places, 0, lent.others, 1, 10, LIST(30), LIST(1)));
-    UNCHANGED(-REGION_NO_PLACE, region_resolve_v3(graph, lent.places, 1, lent.others, 0, 10, LIST(30), LIST(1)));
-    /* The candidates are counted, and not those that are kept; nor the places of the two lists together. */
-    UNCHANGED(-REGION_NO_PLACE, region_resolve_v3(graph, lent.places, 2, lent.others, 1, 10, LIST(30, 77), LIST(1, 1)));
-    UNCHANGED(-REGION_NO_PLACE, region_resolve_v3(graph, lent.places, PLACES, lent.others, 1, 10, LIST(77, 77), LIST(1, 1)));
-    UNCHANGED(-REGION_NO_PLACE, region_resolve_v3(graph, lent.places, 1, lent.others, PLACES, 10, LIST(77, 77), LIST(1, 1)));
-    UNCHANGED(0, region_resolve_v3(graph, lent.places, 2, lent.others, 2, 10, LIST(77, 77), LIST(1, 1)));
-    for (size_t places = 0; places < 5; places++) {
-        UNCHANGED(-REGION_NO_PLACE,
-                  region_resolve_v3(graph, lent.places, 5, lent.others, places, 10, LIST(30, 30, 30, 30, 30), LIST(1, 1, 1, 1, 1)));
-        UNCHANGED(-REGION_NO_PLACE,
-                  region_resolve_v3(graph, lent.places, places, lent.others, 5, 10, LIST(30, 30, 30, 30, 30), LIST(1, 1, 1, 1, 1)));
+    for (size_t count = 1; count <= 5; count++) {
+        for (size_t places = 0; places < count; places++) {
+            UNCHANGED(-REGION_NO_PLACE, resolve(10, 30, count, places, count, count));
+            UNCHANGED(-REGION_NO_PLACE, resolve(10, 30, count, count, places, count));
+            UNCHANGED(-REGION_NO_PLACE, resolve(10, 30, count, count, count, places));
+            UNCHANGED(-REGION_NO_PLACE, resolve(10, 30, count, places, places, PLACES));
+            UNCHANGED(-REGION_NO_PLACE, resolve(10, 30, count, places, places, places));
+        }
     }
+    /* The candidates are counted, and not those that are kept; nor the places of the lists together. */
+    UNCHANGED(-REGION_NO_PLACE, resolve(10, 77, 2, PLACES, 1, PLACES));
+    UNCHANGED(-REGION_NO_PLACE, resolve(10, 77, 2, 1, PLACES, PLACES));
+    UNCHANGED(-REGION_NO_PLACE, resolve(10, 77, 2, PLACES, PLACES, 1));
+    UNCHANGED(0, resolve(10, 77, 2, 2, 2, 2));
 }
 
 /* Question 12 is of the bundle that asks, and comes first. */
 static void refused_bundles(void)
 {
     build_g();
-    UNCHANGED(-REGION_NOT_INSTALLED, region_resolve_v3(graph, lent.places, 1, lent.others, 1, 11, LIST(30), LIST(1)));
-    UNCHANGED(-REGION_NOT_INSTALLED, region_resolve_v3(graph, lent.places, 0, lent.others, 1, 11, LIST(30), LIST(1)));
-    UNCHANGED(-REGION_NOT_INSTALLED, region_resolve_v3(graph, lent.places, 1, lent.others, 0, 11, LIST(30), LIST(1)));
-    UNCHANGED(-REGION_NOT_INSTALLED,
-              region_resolve_v3(graph, lent.places, 4, lent.others, 1, 11, LIST(30, 30, 30, 30), LIST(1, 1, 1, 1)));
-    UNCHANGED(-REGION_NOT_INSTALLED, region_resolve_v3(graph, NULL, 0, NULL, 0, 11, NONE, NONE));
+    UNCHANGED(-REGION_NOT_INSTALLED, resolve(11, 30, 1, 1, 1, 1));
+    UNCHANGED(-REGION_NOT_INSTALLED, resolve(11, 30, 1, 0, 1, 1));
+    UNCHANGED(-REGION_NOT_INSTALLED, resolve(11, 30, 1, 1, 0, 1));
+    UNCHANGED(-REGION_NOT_INSTALLED, resolve(11, 30, 4, 4, 4, 1));
+    UNCHANGED(-REGION_NOT_INSTALLED, region_resolve_v4(graph, NONE, NONE, NONE, 11, NONE, NO_PACKAGES));
     ACCEPTED(region_uninstall(graph, 10));
-    UNCHANGED(-REGION_NOT_INSTALLED, region_resolve_v3(graph, lent.places, 1, lent.others, 1, 10, LIST(30), LIST(1)));
+    UNCHANGED(-REGION_NOT_INSTALLED, resolve(10, 30, 1, 1, 1, 1));
 }
 
 void test_resolve(void)

@@ -25,9 +25,10 @@ static bool changes(region_graph *own)
 {
     region_empty(own);
     return region_read(own, longest.bytes, longest.length) == REGION_NOT_REFUSED
-        && region_uninstall(own, 1000) == REGION_NOT_REFUSED && region_install(own, 0, 1, NONE, NONE) == REGION_NOT_REFUSED
+        && region_uninstall(own, 1000) == REGION_NOT_REFUSED
+        && region_install_v4(own, 0, 1, NO_PACKAGES, NONE) == REGION_NOT_REFUSED
         && region_disconnect(own, 48, 49) == REGION_NOT_REFUSED
-        && region_connect(own, 48, 49, NONE, true, NONE, true, NONE) == REGION_NOT_REFUSED
+        && region_connect_v4(own, 48, 49, NONE, true, NO_ENTRIES, true, NONE) == REGION_NOT_REFUSED
         && region_remove(own, 63) == REGION_NOT_REFUSED && region_add(own, 63) == REGION_NOT_REFUSED;
 }
 
@@ -36,10 +37,12 @@ static bool resolves(void)
 {
     uint32_t kept[4];
     uint32_t packages[4];
-    return region_resolve_v3(graph, kept, 2, packages, 2, 1000, LIST(1001, 1002), LIST(8, 16)) == 1 && kept[0] == 1001
-        && packages[0] == 8
-        && region_resolve_v3(graph, kept, 4, packages, 4, 1001, LIST(1000, 1001, 1002, 1003), LIST(0, 8, 16, 16)) == 2
-        && kept[1] == 1002 && packages[1] == 16;
+    uint16_t versions[4];
+    return region_resolve_v4(graph, kept, 2, packages, 2, versions, 2, 1000, LIST(1001, 1002), PACKAGES(8, 16)) == 1
+        && kept[0] == 1001 && packages[0] == 8 && versions[0] == 0
+        && region_resolve_v4(graph, kept, 4, packages, 4, versions, 4, 1001, LIST(1000, 1001, 1002, 1003), PACKAGES(0, 8, 16, 16))
+               == 2
+        && kept[1] == 1002 && packages[1] == 16 && versions[1] == 0;
 }
 
 /* Each other query of the shared record, which holds the graph of the longest image. */
@@ -47,8 +50,8 @@ static bool queries(uint8_t *written)
 {
     uint8_t route[REGION_ROUTE_BYTES];
     uint32_t kept[2];
-    return archive_query(longest.bytes, longest.length, 1000, REGION_KIND_PACKAGE, 8) == REGION_SEEN
-        && region_route(graph, route, sizeof route, 1000, REGION_KIND_PACKAGE, 8) == 1
+    return archive_query_v4(longest.bytes, longest.length, 1000, REGION_KIND_PACKAGE, 8, 0) == REGION_SEEN
+        && region_route_v4(graph, route, sizeof route, 1000, REGION_KIND_PACKAGE, 8, 0) == 1
         && region_bundle_find(graph, kept, 2, 1000, LIST(1015, 1017)) == 1
         && region_service_find(graph, kept, 2, 1000, LIST(UINT32_MAX)) == 0
         && region_bundle_event(graph, kept, 2, LIST(1000, 1001), 1017) == 1

@@ -1,6 +1,6 @@
 """What is compared: the level, and the second program's cases with more of what the interface for C can be handed, with more queries
-of two graphs that agree on a set of regions, with more of the region numbers and of the versions of an archive, and with more
-candidates of a resolve (candidates.py)."""
+of two graphs that agree on a set of regions, with more of the region numbers and of the versions of an archive, with more candidates
+of a resolve (candidates.py), and with more packages by version (packages.py)."""
 
 import os
 import random
@@ -11,10 +11,11 @@ sys.path.insert(0, os.path.join(os.path.dirname(os.path.abspath(__file__)), "ora
 import candidates  # noqa: E402
 import gen2  # noqa: E402
 import oracle2  # noqa: E402
+import packages  # noqa: E402
 from candidates import closure  # noqa: E402
 
 # The level of the product: 10 is document 01 alone, a higher one the number of the last request of document 02 that it has.
-LEVEL = 14
+LEVEL = 15
 
 # gen2 has region numbers and kinds of one byte. The interface takes 32 bits.
 LARGE = (256, 65536, 2**31, 2**32 - 16, 2**32 - 1)
@@ -37,6 +38,11 @@ def numbers_held(graph, kind):
     return {item[0] if kind == oracle2.PACKAGE else item for item in oracle2.all_items(graph, kind)}
 
 
+def items_held(graph, kind):
+    """What bundles of a graph hold of a kind: numbers, those of packages with a version, the others with 0."""
+    return {item if kind == oracle2.PACKAGE else (item, 0) for item in oracle2.all_items(graph, kind)}
+
+
 class Script(gen2.Script):
     """A script under way, with large region numbers, and with images of the record after some of the refused changes."""
 
@@ -45,6 +51,7 @@ class Script(gen2.Script):
         self.notes = candidates.Notes()
 
     def put(self, line):
+        self.before = self.g
         answer = super().put(line)
         for pair in self.besides(line.split(" "), answer.split(" ")):
             if pair in BESIDES:
@@ -53,7 +60,9 @@ class Script(gen2.Script):
 
     def besides(self, words, answer):
         """What a line and its answer show besides the call and the number, those of BESIDES among it."""
-        return self.notes.of(self.g, words, answer) if words[0] == "resolve" else besides(words, answer)
+        if words[0] == "resolve":
+            return self.notes.of(self.g, words, answer)
+        return [*besides(words, answer), *packages.shown(self.before, words, answer)]
 
     def change(self, *weights):
         answer = super().change(*weights)
@@ -74,13 +83,13 @@ HIDDEN_ROUTE = "route, hidden"
 ROUTE_OF, ROUTE_IN, ADDED = "route of %d", "route, %d bytes", "add %d"
 MISLABELLED = "version %d for %d"
 REGIONS_IN = "image, version %d, %d regions"
-ABOVE_INSIDE, ABOVE_OUTSIDE, TWO_VERSIONS = "isolation, above 15 inside", "isolation, above 15 outside", "isolation, versions 1 and 2"
+ABOVE_INSIDE, ABOVE_OUTSIDE = "isolation, above 15 inside", "isolation, above 15 outside"
 AT_LIMITS = ([(ROUTE_IN % 63, 14), (ROUTE_IN % 64, 0), (ADDED % 64, 1), (MISLABELLED % (1, 2), 17), (MISLABELLED % (2, 1), 17)]
              + [(ADDED % region, 0) for region in EDGES])
-BESIDES = (AT_LIMITS + [(HIDDEN_ROUTE, 0), (ABOVE_INSIDE, 0), (ABOVE_OUTSIDE, 0), (TWO_VERSIONS, 0)]
+BESIDES = (AT_LIMITS + [(HIDDEN_ROUTE, 0), (ABOVE_INSIDE, 0), (ABOVE_OUTSIDE, 0)]
            + [(ROUTE_OF % count, 0) for count in (15, 16, 32, 47, 48)]
-           + [(REGIONS_IN % pair, 0) for pair in ((1, 0), (1, 1), (1, 16), (2, 1), (2, 16), (2, 17), (2, 63), (2, 64))]
-           + [(name, 0) for name in LED_OUT.values()] + candidates.SHOWN)
+           + [(REGIONS_IN % pair, 0) for pair in ((3, 0), (3, 1), (3, 16), (3, 17), (3, 63), (3, 64))]
+           + [(name, 0) for name in LED_OUT.values()] + candidates.SHOWN + packages.SHOWN)
 
 
 def of_route(room, number, count):
@@ -271,48 +280,49 @@ def leading_out(rnd, graph, inside):
     return oracle2.Graph(graph.R, graph.B, {**graph.F, pair: oracle2.Filter(tuple(outside[:16]), oracle2.ALL, oracle2.ALL)})
 
 
-def some_numbers(rnd, graphs, kind):
-    """Numbers of a kind that one of the graphs has, and some that none has, in any order."""
-    held = sorted(set().union(*(numbers_held(graph, kind) for graph in graphs)))
-    absent = [number for number in range(100) if number not in held]
-    numbers = rnd.sample(held, min(MOST_ASKED, len(held))) + rnd.sample(absent, ABSENT)
-    return rnd.sample(numbers, len(numbers))
+def some_items(rnd, graphs, kind):
+    """Items of a kind that one of the graphs has, and some that none has, in any order."""
+    held = sorted(set().union(*(items_held(graph, kind) for graph in graphs)))
+    absent = [(number, 0) for number in range(100) if (number, 0) not in held]
+    items = rnd.sample(held, min(MOST_ASKED, len(held))) + rnd.sample(absent, ABSENT)
+    return rnd.sample(items, len(items))
 
 
-def some_candidates(rnd, graphs, numbers):
+def some_candidates(rnd, graphs, items):
     """Candidates that one of the graphs has, whose exporters stand in the set or outside it, and others, in any order."""
     exported = sorted(set().union(*map(candidates.exported, graphs)))
     some = rnd.sample(exported, min(MOST_ASKED, len(exported)))
-    some += [(rnd.choice(numbers[oracle2.BUNDLE]), rnd.choice(numbers[oracle2.PACKAGE])) for _ in range(MIXED)]
+    some += [(rnd.choice(items[oracle2.BUNDLE])[0], *rnd.choice(items[oracle2.PACKAGE])) for _ in range(MIXED)]
     return rnd.sample(some, len(some))
 
 
-def find_lines(asker, numbers, offers):
+def find_lines(asker, items, offers):
     """Every find, and the resolve, of a bundle: with room, with just enough of it, with too little."""
     for call, kind in FINDS.items():
         for more in (2, 0, -1):
-            yield "%s %d %d %s" % (call, asker, len(numbers[kind]) + more, oracle2.show(numbers[kind]))
-    for more, other in ((2, 0), (0, 0), (-1, 0), (0, -1)):
-        yield candidates.line_of(asker, (len(offers) + more, len(offers) + other), offers)
-    yield candidates.line_of(asker, (1, 1), offers[:1])
+            yield "%s %d %d %s" % (call, asker, len(items[kind]) + more, oracle2.show([number for number, _ in items[kind]]))
+    for more in ((2, 0, 1), (0, 0, 0), (-1, 0, 0), (0, -1, 0), (0, 0, -1)):
+        yield candidates.line_of(asker, [len(offers) + each for each in more], offers)
+    yield candidates.line_of(asker, (1, 1, 1), offers[:1])
 
 
-def asker_lines(rnd, level, asker, numbers, offers):
-    """Every find, resolve and route of a bundle, and a route of no kind."""
-    yield from find_lines(asker, numbers, offers)
+def asker_lines(rnd, level, asker, items, offers):
+    """Every find, resolve and route of a bundle, and a route of no kind. The version of an item that is no package has no say."""
+    yield from find_lines(asker, items, offers)
     length = oracle2.route_bytes(level)
-    items = [(kind, number) for kind in KINDS for number in numbers[kind]]
-    for kind, number in items:
-        yield "route %d %d %d %d" % (asker, kind, number, length + rnd.choice((0, 0, 4)))
-    kind, number = rnd.choice(items)
-    yield "route %d %d %d %d" % (asker, kind, number, length - 1)
-    yield "route %d %d %d %d" % (asker, rnd.choice((3, 4, 255) + LARGE), number, length)
+    asked = [(kind, number, version if kind == oracle2.PACKAGE else rnd.choice((0, 1, oracle2.TOP_VERSION)))
+             for kind in KINDS for number, version in items[kind]]
+    for item in asked:
+        yield "route %d %d %d %d %d" % (asker, *item, length + rnd.choice((0, 0, 4)))
+    kind, number, version = rnd.choice(asked)
+    yield "route %d %d %d %d %d" % (asker, kind, number, version, length - 1)
+    yield "route %d %d %d %d %d" % (asker, rnd.choice((3, 4, 255) + LARGE), number, version, length)
 
 
-def event_lines(rnd, bundles, numbers):
+def event_lines(rnd, bundles, items):
     """Every event, with all bundles as listeners in any order, some of them twice: with room, and with too little."""
     for call, kind in EVENTS.items():
-        for number in numbers[kind]:
+        for number, _ in items[kind]:
             listeners = bundles + rnd.choices(bundles, k=2)
             rnd.shuffle(listeners)
             for more in (rnd.choice((0, 2)), -1):
@@ -320,25 +330,24 @@ def event_lines(rnd, bundles, numbers):
 
 
 def note_regions(coverage, first, second, inside):
-    """Notes regions that version 1 has no number for, of the set and outside it, and graphs with images of two versions."""
+    """Notes regions that version 1 has no number for, of the set and outside it."""
     above = {region for graph in (first, second) for region in graph.R if region > 15}
-    versions = [oracle2.old_version(graph) for graph in (first, second)]
-    for name, holds in ((ABOVE_INSIDE, above & inside), (ABOVE_OUTSIDE, above - inside), (TWO_VERSIONS, versions == [1, 2])):
+    for name, holds in ((ABOVE_INSIDE, above & inside), (ABOVE_OUTSIDE, above - inside)):
         if holds:
             coverage.note(name, 0)
 
 
 def case_isolation(s, rnd, i):
     """Two graphs that agree on a set of regions, and the six queries of every bundle of the set on the one and on the other; then the
-    same on the second with a connection that leads out of the set. So that a script stays short, up to MOST_ASKED numbers of a kind,
+    same on the second with a connection that leads out of the set. So that a script stays short, up to MOST_ASKED items of a kind,
     and candidates, are asked for, of those that the graphs have."""
     first, second, inside = agreeing(rnd, s.level, large=i % 3 == 0)
     note_regions(s.coverage, first, second, inside)
     bundles = sorted(within(first, inside).B)
-    numbers = {kind: some_numbers(rnd, (first, second), kind) for kind in KINDS}
-    offers = some_candidates(rnd, (first, second), numbers)
-    lines = [line for asker in bundles for line in asker_lines(rnd, s.level, asker, numbers, offers)]
-    lines += event_lines(rnd, bundles, numbers)
+    items = {kind: some_items(rnd, (first, second), kind) for kind in KINDS}
+    offers = some_candidates(rnd, (first, second), items)
+    lines = [line for asker in bundles for line in asker_lines(rnd, s.level, asker, items, offers)]
+    lines += event_lines(rnd, bundles, items)
     answers = []
     for graph in (first, second, leading_out(rnd, second, inside)):
         s.put("start " + oracle2.image(s.level, graph).hex())
@@ -349,9 +358,9 @@ def case_isolation(s, rnd, i):
             s.coverage.note(LED_OUT[line.split(" ")[0]], 0)
 
 
-# ---- region numbers up to 63, and two versions of an archive: request C-13
+# ---- region numbers up to 63, and versions of an archive: requests C-13 and C-15
 
-FRONTS = (0, 3, 4, 128, 255)    # versions that are not read
+FRONTS = (0, 4, 5, 128, 255)    # versions that are not read
 MOST_FILES = 30         # of a script
 
 
@@ -365,25 +374,25 @@ def put_images(s, rnd):
 def put_beyond(s, rnd):
     """Every call that takes a region, with a number that no region has; in some the other end is none either, or both are equal."""
     region, other = rnd.choice(BEYOND), rnd.choice(EDGES + BEYOND)
-    for call in (("add", region), ("remove", region), ("install", region, 7, [], None, []), ("disconnect", other, region),
+    for call in (("add", region), ("remove", region), ("install", region, 7, [], [], []), ("disconnect", other, region),
                  ("connect", region, other, [], oracle2.ALL, []), ("connect", other, region, [], oracle2.ALL, [])):
         s.call(*call)
 
 
 def case_numbers(s, rnd, i):
-    """Regions at the edges come, are connected and go again, in any order; the images show the version in between."""
+    """Regions at the edges come, are connected and go again, in any order; the images show them in between."""
     s.put("start empty")
     regions = rnd.sample(EDGES, rnd.randint(2, len(EDGES)))
     for region in regions:
         s.call("add", region)
-        s.call("install", region, 100 + region, [region], None, [5, 100 + region])
+        s.call("install", region, 100 + region, [region], [region], [5, 100 + region])
         put_images(s, rnd)
     for source, target in zip(regions, regions[1:] + regions[:1]):
         s.call("connect", source, target, [100 + target], oracle2.ALL, [5, 100 + target])
     put_beyond(s, rnd)
     for asker in regions:
         for kind, item in ((oracle2.PACKAGE, rnd.choice(EDGES)), (oracle2.SERVICE, 100 + rnd.choice(EDGES))):
-            s.put("route %d %d %d %d" % (100 + asker, kind, item, rnd.choice(ROUTE_ROOMS)))
+            s.put("route %d %d %d %d %d" % (100 + asker, kind, item, item, rnd.choice(ROUTE_ROOMS)))
     for region in rnd.sample(regions, len(regions)):
         s.call("disconnect", region, rnd.choice(EDGES))
         s.call("remove", region)
@@ -407,7 +416,7 @@ def chain_graph(rnd, i):
     regions = list(range(15, 64)) if i == 0 else rnd.sample(range(64), rnd.choice((4, 16, 17, 33, 48, 49, 49)))
     pairs = (line_of if i % 3 != 2 else diamonds_of)(regions)[:oracle2.MAX_CONNECTIONS]
     every = set(range(64)) if rnd.random() < 0.5 else set(regions)
-    bundles = {100 + region: oracle2.Bundle(region, ((region, 0),), (region,)) for region in every}
+    bundles = {100 + region: oracle2.Bundle(region, ((region, region),), (region,)) for region in every}
     named = tuple(sorted({*gen2.subset(rnd, bundles, 15), 100 + regions[-1]}))
     filters = {pair: oracle2.Filter(named, oracle2.ALL, oracle2.ALL) for pair in pairs}
     return oracle2.Graph(every, bundles, filters), regions
@@ -427,10 +436,10 @@ def case_chains(s, rnd, i):
         for asker, target in [(regions[0], regions[-1])] + [rnd.choices(regions, k=2) for _ in range(4)]:
             for kind, item in ((oracle2.BUNDLE, 100 + target), (oracle2.PACKAGE, target), (oracle2.SERVICE, target)):
                 for room in (64, rnd.choice(ROUTE_ROOMS)):
-                    s.put("route %d %d %d %d" % (100 + asker, kind, item, room))
+                    s.put("route %d %d %d %d %d" % (100 + asker, kind, item, target, room))
         asker, listeners = 100 + regions[0], [100 + region for region in regions]
         s.put("bfind %d %d %s" % (asker, len(listeners), oracle2.show(listeners)))
-        s.put(candidates.line(asker, [len(regions)] * 2, listeners, regions))
+        s.put(candidates.line(asker, [len(regions)] * 3, listeners, regions, regions))
         s.put("sfind %d %d %s" % (asker, len(regions), oracle2.show(regions)))
         s.put("sevent %d %d %s" % (len(listeners), regions[-1], oracle2.show(listeners)))
         s.call("disconnect", *rnd.choice(sorted(s.g.F)))
@@ -443,7 +452,7 @@ def labelled(front, regions, count=None):
     if len(regions) > 1 and regions[-1] % 2:
         graph = oracle2.Graph(regions, {10: oracle2.Bundle(regions[-1], ((1, 0),), (2,))},
                               {(regions[0], regions[-1]): oracle2.Filter((10,), oracle2.ALL, (2,))})
-    tree = gen2.Tree(graph, 2)
+    tree = gen2.Tree(graph, min(front, 3))
     tree.version, tree.regions, tree.rcount = front, list(regions), count
     return tree.bytes()
 
@@ -457,8 +466,8 @@ def region_lists(rnd):
 
 def case_versions(s, rnd, i):
     """Files with each front byte, read over one another."""
-    files = [labelled(front, list(regions)) for regions in region_lists(rnd) for front in (1, 2, rnd.choice(FRONTS))]
-    files += [labelled(2, list(range(64)), count) for count in (63, 65, 255)]
+    files = [labelled(front, list(regions)) for regions in region_lists(rnd) for front in (1, 2, 3, rnd.choice(FRONTS))]
+    files += [labelled(front, list(range(64)), count) for front in (2, 3) for count in (63, 65, 255)]
     put_archives(s, rnd, rnd.sample(files, MOST_FILES))
 
 
@@ -466,4 +475,5 @@ def case_versions(s, rnd, i):
 gen2.Script = Script
 gen2.CAPABILITIES.update({"wide": (10, case_wide, 1), "over": (10, case_over, 1), "names": (11, case_names, 3),
                           ISOLATION: (12, case_isolation, 3), "numbers": (13, case_numbers, 1), "chains": (13, case_chains, 1),
-                          "versions": (13, case_versions, 1), "candidates": (14, candidates.case_candidates, 2)})
+                          "versions": (13, case_versions, 1), "candidates": (14, candidates.case_candidates, 2),
+                          "packages": (15, packages.case_packages, 2)})

@@ -17,16 +17,21 @@
 #include "guarded.h"
 #include "wimboru.h"
 
-enum { FILLED_BYTE = 0xA5, MOST_ARGUMENTS = 5 };
+enum { FILLED_BYTE = 0xA5, FILLED_VERSION = 0xBE00, MOST_ARGUMENTS = 7 };
 static const uint32_t FILLED_PLACE = 0xDEAD0000u;
 
 /* One block of memory for each use in a call. */
-enum { RECORD, FIRST, SECOND, THIRD, OUTPUT, OTHER_OUTPUT, ARCHIVE, SHEET, ROOMS };
+enum { RECORD, FIRST, SECOND, THIRD, FOURTH, FIFTH, OUTPUT, OTHER_OUTPUT, VERSION_OUTPUT, ARCHIVE, SHEET, ROOMS };
 
 struct list {
     const uint32_t *items;
     size_t count;
     bool all;
+};
+
+struct versions {
+    const uint16_t *items;
+    size_t count;
 };
 
 struct file {
@@ -78,29 +83,67 @@ static uint32_t whole_number(const char *text)
     return value;
 }
 
+static uint16_t version(uint32_t value)
+{
+    if (value > REGION_HIGHEST_VERSION) {
+        stop("not a version", "");
+    }
+    return (uint16_t)value;
+}
+
+static bool is_all(const char *text)
+{
+    return strcmp(text, "*") == 0;
+}
+
+/* How many elements a list has; the sign "all" stands for a list that has none. */
+static size_t count_of(const char *text)
+{
+    size_t count = 1;
+
+    if (is_all(text) || strcmp(text, "-") == 0) {
+        return 0;
+    }
+    for (size_t i = 0; text[i] != '\0'; i++) {
+        count += text[i] == ',';
+    }
+    return count;
+}
+
+/* The first element of a list that has so many more, which are left. */
+static uint32_t next(const char **text, size_t more)
+{
+    char *rest;
+    uint32_t value = number(*text, &rest);
+
+    if (*rest != (more > 0 ? ',' : '\0')) {
+        stop("not a list", *text);
+    }
+    *text = rest + 1;
+    return value;
+}
+
 static struct list list(const char *text, int room)
 {
-    struct list result = {block(room, 0), 0, strcmp(text, "*") == 0};
-    uint32_t *items;
-    char *rest;
-    size_t i;
+    const size_t count = count_of(text);
+    uint32_t *items = block(room, count * sizeof *items);
+    struct list result = {items, count, is_all(text)};
 
-    if (result.all || strcmp(text, "-") == 0) {
-        return result;
+    for (size_t i = 0; i < count; i++) {
+        items[i] = next(&text, count - i - 1);
     }
-    result.count = 1;
-    for (i = 0; text[i] != '\0'; i++) {
-        result.count += text[i] == ',';
+    return result;
+}
+
+static struct versions versions(const char *text, int room)
+{
+    const size_t count = count_of(text);
+    uint16_t *items = block(room, count * sizeof *items);
+    struct versions result = {items, count};
+
+    for (size_t i = 0; i < count; i++) {
+        items[i] = version(next(&text, count - i - 1));
     }
-    items = block(room, result.count * sizeof *items);
-    for (i = 0; i < result.count; i++) {
-        items[i] = number(text, &rest);
-        if (*rest != (i + 1 < result.count ? ',' : '\0')) {
-            stop("not a list", text);
-        }
-        text = rest + 1;
-    }
-    result.items = items;
     return result;
 }
 
@@ -150,6 +193,16 @@ static uint32_t *place_buffer(uint32_t count, int room)
     return out;
 }
 
+static uint16_t *version_buffer(uint32_t count)
+{
+    uint16_t *out = block(VERSION_OUTPUT, count * sizeof *out);
+
+    for (uint32_t i = 0; i < count; i++) {
+        out[i] = (uint16_t)(FILLED_VERSION + i);
+    }
+    return out;
+}
+
 /* ---- answers ---- */
 
 static void print_number(uint32_t answer)
@@ -184,6 +237,14 @@ static void print_places(const uint32_t *places, size_t count, char after)
     printf(count == 0 ? "-%c" : "%c", after);
 }
 
+static void print_versions(const uint16_t *places, size_t count)
+{
+    for (size_t i = 0; i < count; i++) {
+        printf(i == 0 ? "%" PRIu16 : ",%" PRIu16, places[i]);
+    }
+    puts(count == 0 ? "-" : "");
+}
+
 /* ---- the lines ---- */
 
 static void lent(char **a)
@@ -215,10 +276,11 @@ static void remove_region(char **a)
 
 static void install(char **a)
 {
-    struct list packages = list(a[2], FIRST), services = list(a[3], SECOND);
+    struct list packages = list(a[2], FIRST), services = list(a[4], SECOND);
+    struct versions of = versions(a[3], THIRD);
 
-    print_number(region_install(graph, whole_number(a[0]), whole_number(a[1]), packages.items, packages.count, services.items,
-                                services.count));
+    print_number(region_install_v4(graph, whole_number(a[0]), whole_number(a[1]), packages.items, packages.count, of.items,
+                                   of.count, services.items, services.count));
 }
 
 static void uninstall(char **a)
@@ -228,10 +290,12 @@ static void uninstall(char **a)
 
 static void connect(char **a)
 {
-    struct list bundles = list(a[2], FIRST), packages = list(a[3], SECOND), services = list(a[4], THIRD);
+    struct list bundles = list(a[2], FIRST), packages = list(a[3], SECOND), services = list(a[6], THIRD);
+    struct versions lowest = versions(a[4], FOURTH), highest = versions(a[5], FIFTH);
 
-    print_number(region_connect(graph, whole_number(a[0]), whole_number(a[1]), bundles.items, bundles.count, packages.all,
-                                packages.items, packages.count, services.all, services.items, services.count));
+    print_number(region_connect_v4(graph, whole_number(a[0]), whole_number(a[1]), bundles.items, bundles.count, packages.all,
+                                   packages.items, packages.count, lowest.items, lowest.count, highest.items, highest.count,
+                                   services.all, services.items, services.count));
 }
 
 static void disconnect(char **a)
@@ -270,18 +334,23 @@ static void bundle_find(char **a)
 /* A count of places for each output list, then a list for each part of the candidates. */
 static void resolve(char **a)
 {
-    struct list counts = list(a[1], THIRD), exporters = list(a[2], FIRST), packages = list(a[3], SECOND);
+    struct list counts = list(a[1], FOURTH), exporters = list(a[2], FIRST), packages = list(a[3], SECOND);
+    struct versions of = versions(a[4], THIRD);
     uint32_t *out_exporters, *out_packages;
+    uint16_t *out_versions;
 
-    if (counts.count != 2) {
-        stop("not two counts of places", a[1]);
+    if (counts.count != 3) {
+        stop("not three counts of places", a[1]);
     }
     out_exporters = place_buffer(counts.items[0], OUTPUT);
     out_packages = place_buffer(counts.items[1], OTHER_OUTPUT);
-    print_result(region_resolve_v3(graph, out_exporters, counts.items[0], out_packages, counts.items[1], whole_number(a[0]),
-                                   exporters.items, exporters.count, packages.items, packages.count));
+    out_versions = version_buffer(counts.items[2]);
+    print_result(region_resolve_v4(graph, out_exporters, counts.items[0], out_packages, counts.items[1], out_versions,
+                                   counts.items[2], whole_number(a[0]), exporters.items, exporters.count, packages.items,
+                                   packages.count, of.items, of.count));
     print_places(out_exporters, counts.items[0], ' ');
-    print_places(out_packages, counts.items[1], '\n');
+    print_places(out_packages, counts.items[1], ' ');
+    print_versions(out_versions, counts.items[2]);
 }
 
 static void service_find(char **a)
@@ -301,10 +370,11 @@ static void service_event(char **a)
 
 static void route(char **a)
 {
-    uint32_t length = whole_number(a[3]);
+    uint32_t length = whole_number(a[4]);
     uint8_t *out = byte_buffer(length);
 
-    print_result(region_route(graph, out, length, whole_number(a[0]), whole_number(a[1]), whole_number(a[2])));
+    print_result(region_route_v4(graph, out, length, whole_number(a[0]), whole_number(a[1]), whole_number(a[2]),
+                                 version(whole_number(a[3]))));
     print_bytes(out, length);
 }
 
@@ -346,7 +416,8 @@ static void query(char **a)
 {
     struct file f = copy(archive);
 
-    print_number(archive_query(f.bytes, f.length, whole_number(a[0]), whole_number(a[1]), whole_number(a[2])));
+    print_number(archive_query_v4(f.bytes, f.length, whole_number(a[0]), whole_number(a[1]), whole_number(a[2]),
+                                  version(whole_number(a[3]))));
 }
 
 static void keep_sheet(char **a)
@@ -439,11 +510,11 @@ static const struct command {
     void (*run)(char **arguments);
 } commands[] = {
     {"start", 1, start},          {"lent", 1, lent},            {"write", 1, write_image},   {"image", 0, image},
-    {"archive", 1, keep_archive}, {"query", 3, query},          {"list", 0, list_archive},
-    {"add", 1, add},              {"remove", 1, remove_region}, {"install", 4, install},     {"uninstall", 1, uninstall},
-    {"connect", 5, connect},      {"disconnect", 2, disconnect},
-    {"bfind", 3, bundle_find},    {"resolve", 4, resolve},      {"sfind", 3, service_find},
-    {"bevent", 3, bundle_event},  {"sevent", 3, service_event}, {"route", 4, route},
+    {"archive", 1, keep_archive}, {"query", 4, query},          {"list", 0, list_archive},
+    {"add", 1, add},              {"remove", 1, remove_region}, {"install", 5, install},     {"uninstall", 1, uninstall},
+    {"connect", 7, connect},      {"disconnect", 2, disconnect},
+    {"bfind", 3, bundle_find},    {"resolve", 5, resolve},      {"sfind", 3, service_find},
+    {"bevent", 3, bundle_event},  {"sevent", 3, service_event}, {"route", 5, route},
     {"sheet", 1, keep_sheet},     {"lookup", 2, lookup},
 };
 /* clang-format on */

@@ -10,11 +10,13 @@
 #include "wimboru.h"
 
 /* The faults have the numbers from 1 up to this one; 0 is none. */
-enum { FAULTS = 103 };
-/* From this one on, up to OUTSIDE, they write a file that a reader of version 1 alone must find wrong. */
-enum { EARLY = 96 };
+enum { FAULTS = 134 };
+/* From this one on, up to OUTSIDE, they take a file of version 1 or 2 otherwise than a reader must that knows no other version. */
+enum { OLDER = 127 };
 /* From this one on they let a bundle learn what stands in regions that no connection leads to. */
-enum { OUTSIDE = 100 };
+enum { OUTSIDE = 131 };
+/* The longest list that a fault of a changing call takes. */
+enum { LONGEST = 4096 };
 
 #define CALL(type, name, ...) \
     type __real_##name(__VA_ARGS__); \
@@ -32,7 +34,111 @@ static bool not_installed(const region_graph *g, uint32_t location)
 {
     uint8_t out[REGION_ROUTE_BYTES];
 
-    return region_route(g, out, sizeof out, location, 0, location) == -REGION_NOT_INSTALLED;
+    return region_route_v4(g, out, sizeof out, location, 0, location, 0) == -REGION_NOT_INSTALLED;
+}
+
+static size_t smaller(size_t a, size_t b)
+{
+    return a < b ? a : b;
+}
+
+static size_t larger(size_t a, size_t b)
+{
+    return a < b ? b : a;
+}
+
+/* ---- lists of packages ---- */
+
+/* Copies of lists that stand at equal places, with zeros behind them. */
+struct columns {
+    size_t count;
+    uint32_t numbers[LONGEST];
+    uint16_t lowest[LONGEST];
+    uint16_t highest[LONGEST];
+};
+
+static struct columns columns;
+
+static void copy_column(uint16_t *to, const uint16_t *from, size_t count)
+{
+    memset(to, 0, sizeof columns.lowest);
+    memcpy(to, from, smaller(count, LONGEST) * sizeof *to);
+}
+
+static void copy_columns(const uint32_t *numbers, size_t count, const uint16_t *lowest, size_t lowest_count,
+                         const uint16_t *highest, size_t highest_count)
+{
+    memset(columns.numbers, 0, sizeof columns.numbers);
+    memcpy(columns.numbers, numbers, smaller(count, LONGEST) * sizeof *numbers);
+    copy_column(columns.lowest, lowest, lowest_count);
+    copy_column(columns.highest, highest, highest_count);
+    columns.count = smaller(smaller(count, LONGEST), smaller(lowest_count, highest_count));
+}
+
+static void swap_versions(uint16_t *a, uint16_t *b)
+{
+    uint16_t kept = *a;
+
+    *a = *b;
+    *b = kept;
+}
+
+/* Puts versions of one number that stand side by side in order. */
+static void sort_versions(void)
+{
+    for (size_t end = columns.count; end > 1; end--) {
+        for (size_t i = 1; i < end; i++) {
+            if (columns.numbers[i - 1] == columns.numbers[i] && columns.lowest[i - 1] > columns.lowest[i]) {
+                swap_versions(&columns.lowest[i - 1], &columns.lowest[i]);
+            }
+        }
+    }
+}
+
+/* Whether a number stands twice, side by side. */
+static bool has_twice(void)
+{
+    for (size_t i = 1; i < columns.count; i++) {
+        if (columns.numbers[i - 1] == columns.numbers[i]) {
+            return true;
+        }
+    }
+    return false;
+}
+
+/* Leaves the first entry of each number. */
+static void drop_twice(void)
+{
+    size_t kept = 0;
+
+    for (size_t i = 0; i < columns.count; i++) {
+        if (kept == 0 || columns.numbers[kept - 1] != columns.numbers[i]) {
+            columns.numbers[kept] = columns.numbers[i];
+            columns.lowest[kept] = columns.lowest[i];
+            columns.highest[kept++] = columns.highest[i];
+        }
+    }
+    columns.count = kept;
+}
+
+/* Whether the lowest version of an entry is above the highest by so many at least, among the first ones. */
+static bool is_reversed(size_t count, int by)
+{
+    for (size_t i = 0; i < smaller(count, LONGEST); i++) {
+        if (columns.lowest[i] >= columns.highest[i] + by) {
+            return true;
+        }
+    }
+    return false;
+}
+
+static void turn_ranges(void)
+{
+    for (size_t i = 0; i < columns.count; i++) {
+        if (columns.lowest[i] > columns.highest[i]) {
+            swap_versions(&columns.lowest[i], &columns.highest[i]);
+        }
+    }
 }
 
 /* ---- changing calls ---- */
@@ -71,15 +177,32 @@ CALL(uint32_t, region_remove, region_graph *g, uint32_t region)
     return number;
 }
 
-CALL(uint32_t, region_install, region_graph *g, uint32_t region, uint32_t location, const uint32_t *packages, size_t package_count,
-     const uint32_t *services, size_t service_count)
+CALL(uint32_t, region_install_v4, region_graph *g, uint32_t region, uint32_t location, const uint32_t *packages,
+     size_t package_count, const uint16_t *versions, size_t version_count, const uint32_t *services, size_t service_count)
 {
+    const size_t most = larger(package_count, version_count);
     uint32_t number;
 
+    copy_columns(packages, package_count, versions, version_count, versions, version_count);
     if (fault(5)) {
         package_count %= 256;
     }
-    number = __real_region_install(g, region, location, packages, package_count, services, service_count);
+    if (fault(97)) {
+        return __real_region_install_v4(g, region, location, columns.numbers, most, columns.lowest, most, services, service_count);
+    }
+    number =
+        __real_region_install_v4(g, region, location, packages, package_count, versions, version_count, services, service_count);
+    if (fault(96) && number == 0 && most > REGION_MOST_PROVIDED) {
+        return region_uninstall(g, location), 7;
+    }
+    if (fault(98) && number == 0 && has_twice()) {
+        return region_uninstall(g, location), 8;
+    }
+    if (fault(99) && number == 8) {
+        sort_versions();
+        return __real_region_install_v4(g, region, location, columns.numbers, columns.count, columns.lowest, columns.count,
+                                        services, service_count);
+    }
     if (fault(6) && number == 8 && !not_installed(g, location)) {
         return 9;
     }
@@ -110,17 +233,54 @@ CALL(uint32_t, region_uninstall, region_graph *g, uint32_t location)
     return number;
 }
 
-CALL(uint32_t, region_connect, region_graph *g, uint32_t source, uint32_t target, const uint32_t *bundles, size_t bundle_count,
-     bool all_packages, const uint32_t *packages, size_t package_count, bool all_services, const uint32_t *services,
-     size_t service_count)
+/* The number that a fault of the package part gives a connect that has another number. */
+static uint32_t refused_part(const region_graph *g, uint32_t number, size_t most, size_t range_count)
 {
-    uint32_t number;
+    if (fault(100) && number == 20 && g->connection_count == REGION_MOST_CONNECTIONS) {
+        return 11;
+    }
+    if (fault(101) && number == 8 && is_reversed(columns.count, 1)) {
+        return 20;
+    }
+    if (number != 0) {
+        return number;
+    }
+    if ((fault(103) && is_reversed(columns.count, 0)) || (fault(104) && is_reversed(range_count, 1))) {
+        return 20;
+    }
+    return fault(107) && most > REGION_MOST_LISTED ? 7 : 0;
+}
 
+CALL(uint32_t, region_connect_v4, region_graph *g, uint32_t source, uint32_t target, const uint32_t *bundles, size_t bundle_count,
+     bool all_packages, const uint32_t *packages, size_t package_count, const uint16_t *lowest, size_t lowest_count,
+     const uint16_t *highest, size_t highest_count, bool all_services, const uint32_t *services, size_t service_count)
+{
+    const size_t most = larger(package_count, larger(lowest_count, highest_count));
+    uint32_t number, other;
+
+    copy_columns(packages, package_count, lowest, lowest_count, highest, highest_count);
     if (fault(12) && bundle_count == 17) {
         bundle_count = 16;
     }
-    number = __real_region_connect(g, source, target, bundles, bundle_count, all_packages, packages, package_count, all_services,
-                                   services, service_count);
+    if (fault(106)) {
+        columns.count = most;
+    } else if (fault(102)) {
+        turn_ranges();
+    } else if (fault(105)) {
+        drop_twice();
+    }
+    if (fault(102) || fault(105) || fault(106)) {
+        packages = columns.numbers;
+        lowest = columns.lowest;
+        highest = columns.highest;
+        package_count = lowest_count = highest_count = columns.count;
+    }
+    number = __real_region_connect_v4(g, source, target, bundles, bundle_count, all_packages, packages, package_count, lowest,
+                                      lowest_count, highest, highest_count, all_services, services, service_count);
+    other = all_packages ? number : refused_part(g, number, most, smaller(lowest_count, highest_count));
+    if (other != number) {
+        return number == 0 ? region_disconnect(g, source, target) : 0, other;
+    }
     for (size_t i = 0; fault(13) && number == 0 && i < bundle_count; i++) {
         if (!not_installed(g, bundles[i])) {
             return region_disconnect(g, source, target), 10;
@@ -144,15 +304,16 @@ CALL(uint32_t, region_disconnect, region_graph *g, uint32_t source, uint32_t tar
 
 /* ---- what stands in other regions ---- */
 
-int64_t __real_region_route(const region_graph *g, uint8_t *out, size_t out_length, uint32_t location, uint32_t kind,
-                            uint32_t item);
+int64_t __real_region_route_v4(const region_graph *g, uint8_t *out, size_t out_length, uint32_t location, uint32_t kind,
+                               uint32_t item, uint16_t version);
 
-static bool holds(const region_graph *g, uint32_t region, uint32_t kind, uint32_t item)
+static bool holds(const region_graph *g, uint32_t region, uint32_t kind, uint32_t item, uint16_t version)
 {
     uint8_t out[REGION_ROUTE_BYTES];
 
     for (size_t i = 0; i < g->bundle_count; i++) {
-        if (g->bundles[i].region == region && __real_region_route(g, out, sizeof out, g->bundles[i].location, kind, item) == 0) {
+        if (g->bundles[i].region == region
+            && __real_region_route_v4(g, out, sizeof out, g->bundles[i].location, kind, item, version) == 0) {
             return true;
         }
     }
@@ -170,22 +331,22 @@ static size_t place_of(const region_graph *g, uint32_t location)
     return place;
 }
 
-/* Whether the bundle that stands before one in the record sees an item. */
+/* Whether the bundle that stands before one in the record sees an item that is no package. */
 static bool one_before_sees(const region_graph *g, uint32_t location, uint32_t kind, uint32_t item)
 {
     uint8_t out[REGION_ROUTE_BYTES];
     size_t place = place_of(g, location);
 
-    return __real_region_route(g, out, sizeof out, g->bundles[place == 0 ? 0 : place - 1].location, kind, item) >= 0;
+    return __real_region_route_v4(g, out, sizeof out, g->bundles[place == 0 ? 0 : place - 1].location, kind, item, 0) >= 0;
 }
 
 /* The route against one connection, which leads from a holder of the item to the bundle's region. */
-static int64_t route_against(const region_graph *g, uint8_t *out, uint32_t location, uint32_t kind, uint32_t item)
+static int64_t route_against(const region_graph *g, uint8_t *out, uint32_t location, uint32_t kind, uint32_t item, uint16_t version)
 {
     uint32_t region = g->bundles[place_of(g, location)].region;
 
     for (size_t i = 0; i < g->connection_count; i++) {
-        if (g->connections[i].target == region && holds(g, g->connections[i].source, kind, item)) {
+        if (g->connections[i].target == region && holds(g, g->connections[i].source, kind, item, version)) {
             out[0] = (uint8_t)region;
             out[1] = (uint8_t)g->connections[i].source;
             return 1;
@@ -223,11 +384,11 @@ CALL(int64_t, region_bundle_find, const region_graph *g, uint32_t *out, size_t o
     uint8_t route[REGION_ROUTE_BYTES];
     int64_t count = __real_region_bundle_find(g, out, out_count, location, candidates, candidate_count);
 
-    if (fault(100) && count >= 0) {
+    if (fault(131) && count >= 0) {
         count = 0;
         for (size_t i = 0; i < candidate_count; i++) {
-            if (__real_region_route(g, route, sizeof route, location, REGION_KIND_BUNDLE, candidates[i]) >= 0
-                || route_against(g, route, location, REGION_KIND_BUNDLE, candidates[i]) >= 0) {
+            if (__real_region_route_v4(g, route, sizeof route, location, REGION_KIND_BUNDLE, candidates[i], 0) >= 0
+                || route_against(g, route, location, REGION_KIND_BUNDLE, candidates[i], 0) >= 0) {
                 out[count++] = candidates[i];
             }
         }
@@ -244,7 +405,7 @@ CALL(int64_t, region_service_event, const region_graph *g, uint32_t *out, size_t
     if (fault(24) && listener_count > 1 && not_installed(g, listeners[listener_count - 1])) {
         listener_count--;
     }
-    if (fault(101) && listener_count <= out_count
+    if (fault(132) && listener_count <= out_count
         && __real_region_service_event(g, own, REGION_LONGEST_IMAGE, listeners, listener_count, service) >= 0) {
         for (size_t i = 0; i < listener_count; i++) {
             if (one_before_sees(g, listeners[i], REGION_KIND_SERVICE, service)) {
@@ -269,21 +430,40 @@ static const struct region_bundle *bundle_at(const region_graph *g, uint32_t loc
     return NULL;
 }
 
-static bool has(const uint32_t *items, size_t count, uint32_t number)
+/* A package, and whether two are the same. */
+struct package {
+    uint32_t number;
+    uint16_t version;
+};
+
+static struct package package_at(const struct region_packages *list, size_t place)
 {
-    for (size_t i = 0; i < count; i++) {
-        if (items[i] == number) {
+    return (struct package){list->numbers[place], list->versions[place]};
+}
+
+static bool is_same(struct package a, struct package b)
+{
+    return (fault(78) ? a.number % 256 == b.number % 256 : a.number == b.number) && (a.version == b.version || fault(115));
+}
+
+static bool has(const struct region_packages *list, struct package package)
+{
+    for (size_t i = 0; i < list->count; i++) {
+        if (is_same(package_at(list, i), package)) {
             return true;
         }
     }
     return false;
 }
 
-/* Whether a list has a number with the same lowest byte. */
-static bool has_byte(const uint32_t *items, size_t count, uint32_t number)
+static bool passes(const struct region_package_entries *part, struct package package)
 {
-    for (size_t i = 0; i < count; i++) {
-        if (items[i] % 256 == number % 256) {
+    if (part->count == REGION_EVERYTHING) {
+        return true;
+    }
+    for (size_t i = 0; i < part->count; i++) {
+        if (part->numbers[i] == package.number
+            && (fault(116) || (part->lowest[i] <= package.version && package.version <= part->highest[i]))) {
             return true;
         }
     }
@@ -296,12 +476,12 @@ static uint64_t one(uint32_t region)
 }
 
 /* The regions with a bundle that exports a package. */
-static uint64_t holders(const region_graph *g, uint32_t package)
+static uint64_t holders(const region_graph *g, struct package package)
 {
     uint64_t found = 0;
 
     for (size_t i = 0; i < g->bundle_count; i++) {
-        if (has(g->bundles[i].packages.items, g->bundles[i].packages.count, package)) {
+        if (has(&g->bundles[i].packages, package)) {
             found |= one(g->bundles[i].region);
         }
     }
@@ -309,7 +489,7 @@ static uint64_t holders(const region_graph *g, uint32_t package)
 }
 
 /* The regions that connections which pass a package reach from a region. */
-static uint64_t reached(const region_graph *g, uint32_t region, uint32_t package)
+static uint64_t reached(const region_graph *g, uint32_t region, struct package package)
 {
     const uint64_t ends = fault(80) ? holders(g, package) : 0;
     uint64_t found = one(region), before = 0;
@@ -318,9 +498,8 @@ static uint64_t reached(const region_graph *g, uint32_t region, uint32_t package
         before = found;
         for (size_t i = 0; i < g->connection_count; i++) {
             const struct region_connection *c = &g->connections[i];
-            bool passes = c->packages.count == REGION_EVERYTHING || has(c->packages.items, c->packages.count, package);
 
-            if (passes && (found & ~ends & one(c->source)) != 0) {
+            if (passes(&c->packages, package) && (found & ~ends & one(c->source)) != 0) {
                 found |= one(c->target);
             }
         }
@@ -332,14 +511,14 @@ static uint64_t reached(const region_graph *g, uint32_t region, uint32_t package
 static bool reached_for_any(const region_graph *g, uint32_t region, const struct region_bundle *exporter)
 {
     for (size_t i = 0; i < exporter->packages.count; i++) {
-        if ((reached(g, region, exporter->packages.items[i]) & one(exporter->region)) != 0) {
+        if ((reached(g, region, package_at(&exporter->packages, i)) & one(exporter->region)) != 0) {
             return true;
         }
     }
     return false;
 }
 
-static bool exports(const region_graph *g, const struct region_bundle *exporter, uint32_t package)
+static bool exports(const region_graph *g, const struct region_bundle *exporter, struct package package)
 {
     if (exporter == NULL) {
         return false;
@@ -347,13 +526,10 @@ static bool exports(const region_graph *g, const struct region_bundle *exporter,
     if (fault(77)) {
         return (holders(g, package) & one(exporter->region)) != 0;
     }
-    if (fault(78)) {
-        return has_byte(exporter->packages.items, exporter->packages.count, package);
-    }
-    return has(exporter->packages.items, exporter->packages.count, package);
+    return has(&exporter->packages, package);
 }
 
-static bool is_offered(const region_graph *g, const struct region_bundle *asker, uint32_t location, uint32_t package)
+static bool is_offered(const region_graph *g, const struct region_bundle *asker, uint32_t location, struct package package)
 {
     const struct region_bundle *exporter = bundle_at(g, location);
     const uint64_t regions = reached(g, asker->region, package);
@@ -366,7 +542,7 @@ static bool is_offered(const region_graph *g, const struct region_bundle *asker,
     if (!exports(g, exporter, package)) {
         return false;
     }
-    if (fault(103)) {
+    if (fault(134)) {
         return true;
     }
     if (fault(79)) {
@@ -375,7 +551,7 @@ static bool is_offered(const region_graph *g, const struct region_bundle *asker,
     if (fault(81)) {
         return seen && reached_for_any(g, asker->region, exporter);
     }
-    if (fault(82) && __real_region_route(g, out, sizeof out, asker->location, REGION_KIND_BUNDLE, location) < 0) {
+    if (fault(82) && __real_region_route_v4(g, out, sizeof out, asker->location, REGION_KIND_BUNDLE, location, 0) < 0) {
         return false;
     }
     return (regions & one(exporter->region)) != 0;
@@ -385,32 +561,40 @@ static bool is_offered(const region_graph *g, const struct region_bundle *asker,
 struct resolve {
     const uint32_t *exporters;
     const uint32_t *packages;
+    const uint16_t *versions;
     size_t count;
     uint32_t *out_exporters;
     uint32_t *out_packages;
+    uint16_t *out_versions;
     size_t out_exporter_count;
     size_t out_package_count;
+    size_t out_version_count;
 };
 
-static size_t smaller(size_t a, size_t b)
+/* How many candidates three lists have, by the shortest but for a fault; the outputs are those of the call. */
+static size_t counted(size_t exporter_count, size_t package_count, size_t version_count, const struct resolve *r)
 {
-    return a < b ? a : b;
-}
-
-/* How many candidates two lists have. */
-static size_t counted(size_t exporter_count, size_t package_count, size_t out_exporter_count, size_t out_package_count)
-{
-    size_t count = smaller(exporter_count, package_count);
+    const size_t two = smaller(exporter_count, package_count);
+    const size_t places = smaller(r->out_exporter_count, smaller(r->out_package_count, r->out_version_count));
 
     if (fault(86)) {
-        return exporter_count + package_count - count;
+        return larger(exporter_count, larger(package_count, version_count));
     }
-    return fault(87) ? smaller(count, smaller(out_exporter_count, out_package_count)) : count;
+    if (fault(117)) {
+        return two;
+    }
+    return fault(87) ? smaller(smaller(two, version_count), places) : smaller(two, version_count);
 }
 
 static bool is_place(const struct resolve *r, size_t count)
 {
-    return (count <= r->out_exporter_count || fault(85)) && (count <= r->out_package_count || fault(84));
+    return (count <= r->out_exporter_count || fault(85)) && (count <= r->out_package_count || fault(84))
+        && (count <= r->out_version_count || fault(118));
+}
+
+static struct package asked(const struct resolve *r, size_t place)
+{
+    return (struct package){r->packages[place], r->versions[place]};
 }
 
 static bool exporters_installed(const region_graph *g, const struct resolve *r)
@@ -428,7 +612,7 @@ static size_t count_offered(const region_graph *g, const struct region_bundle *a
     size_t count = 0;
 
     for (size_t i = 0; i < r->count; i++) {
-        count += is_offered(g, asker, r->exporters[i], r->packages[i]);
+        count += is_offered(g, asker, r->exporters[i], asked(r, i));
     }
     return count;
 }
@@ -448,11 +632,13 @@ static void write_candidate(const struct resolve *r, size_t from, size_t to)
 {
     r->out_exporters[to] = fault(89) || fault(90) ? r->packages[from] : r->exporters[from];
     r->out_packages[to] = fault(88) || fault(89) ? r->exporters[from] : r->packages[from];
+    r->out_versions[to] = fault(119) ? 0 : r->versions[from];
 }
 
 static bool is_again(const struct resolve *r, size_t at, size_t written)
 {
-    return written > 0 && r->out_exporters[written - 1] == r->exporters[at] && r->out_packages[written - 1] == r->packages[at];
+    return written > 0 && r->out_exporters[written - 1] == r->exporters[at] && r->out_packages[written - 1] == r->packages[at]
+        && r->out_versions[written - 1] == r->versions[at];
 }
 
 static size_t write_offered(const region_graph *g, const struct region_bundle *asker, const struct resolve *r)
@@ -460,7 +646,7 @@ static size_t write_offered(const region_graph *g, const struct region_bundle *a
     size_t written = 0;
 
     for (size_t i = 0; i < r->count; i++) {
-        if (is_offered(g, asker, r->exporters[i], r->packages[i]) && !(fault(95) && is_again(r, i, written))) {
+        if (is_offered(g, asker, r->exporters[i], asked(r, i)) && !(fault(95) && is_again(r, i, written))) {
             write_candidate(r, i, written++);
         }
     }
@@ -470,23 +656,31 @@ static size_t write_offered(const region_graph *g, const struct region_bundle *a
     if (fault(92) && written < r->out_package_count) {
         r->out_packages[written] = 0;
     }
+    if (fault(120) && written < r->out_version_count) {
+        r->out_versions[written] = 0;
+    }
     return written;
 }
 
-CALL(int64_t, region_resolve_v3, const region_graph *g, uint32_t *out_exporters, size_t out_exporter_count, uint32_t *out_packages,
-     size_t out_package_count, uint32_t location, const uint32_t *exporters, size_t exporter_count, const uint32_t *packages,
-     size_t package_count)
+CALL(int64_t, region_resolve_v4, const region_graph *g, uint32_t *out_exporters, size_t out_exporter_count, uint32_t *out_packages,
+     size_t out_package_count, uint16_t *out_versions, size_t out_version_count, uint32_t location, const uint32_t *exporters,
+     size_t exporter_count, const uint32_t *packages, size_t package_count, const uint16_t *versions, size_t version_count)
 {
     const struct region_bundle *asker = bundle_at(g, location);
-    const size_t count = counted(exporter_count, package_count, out_exporter_count, out_package_count);
-    const struct resolve r = {exporters, packages, count, out_exporters, out_packages, out_exporter_count, out_package_count};
-    int64_t refusal = resolve_refusal(g, asker, &r);
+    struct resolve r = {exporters,          packages,          versions,         0, out_exporters, out_packages, out_versions,
+                        out_exporter_count, out_package_count, out_version_count};
+    int64_t refusal;
 
+    r.count = counted(exporter_count, package_count, version_count, &r);
+    refusal = resolve_refusal(g, asker, &r);
     if (fault(93) && refusal == -REGION_NO_PLACE && out_exporter_count > 0) {
         out_exporters[0] = exporters[0];
     }
     if (fault(94) && refusal == -REGION_NO_PLACE && out_package_count > 0) {
         out_packages[0] = packages[0];
+    }
+    if (fault(121) && refusal == -REGION_NO_PLACE && out_version_count > 0) {
+        out_versions[0] = versions[0];
     }
     return refusal < 0 ? refusal : (int64_t)write_offered(g, asker, &r);
 }
@@ -499,11 +693,66 @@ static bool is_room(size_t out_length)
     return fault(29) || (fault(67) && out_length >= 16) || (fault(68) && out_length == REGION_ROUTE_BYTES - 1);
 }
 
-CALL(int64_t, region_route, const region_graph *g, uint8_t *out, size_t out_length, uint32_t location, uint32_t kind, uint32_t item)
+/* An entry as a fault of the passing test has it for a version: it passes all, or nothing, or what it passes. */
+static void alter_entry(struct region_package_entries *part, size_t place, uint16_t version)
 {
+    if (fault(111)) {
+        part->lowest[place] = 0;
+        part->highest[place] = REGION_HIGHEST_VERSION;
+    }
+    if ((fault(108) && part->highest[place] == version) || (fault(109) && part->lowest[place] == version)) {
+        part->lowest[place] = 1;
+        part->highest[place] = 0;
+    }
+}
+
+/* The graph as a fault has it for a package: with other entries, or with other versions of what is exported. */
+static region_graph altered(const region_graph *g, uint32_t number, uint16_t version)
+{
+    region_graph other = *g;
+
+    for (size_t i = 0; fault(110) && i < other.bundle_count; i++) {
+        for (size_t k = 0; k < other.bundles[i].packages.count; k++) {
+            if (other.bundles[i].packages.numbers[k] == number) {
+                other.bundles[i].packages.versions[k] = version;
+            }
+        }
+    }
+    for (size_t i = 0; i < other.connection_count; i++) {
+        struct region_package_entries *part = &other.connections[i].packages;
+
+        for (size_t k = 0; part->count != REGION_EVERYTHING && k < part->count; k++) {
+            if (part->numbers[k] == number) {
+                alter_entry(part, k, version);
+            }
+        }
+    }
+    return other;
+}
+
+/* Whether a fault looks at the version of an item that is no package. */
+static bool minds_version(uint32_t kind, uint16_t version)
+{
+    return version != 0 && ((fault(113) && kind == REGION_KIND_SERVICE) || (fault(114) && kind == REGION_KIND_BUNDLE));
+}
+
+CALL(int64_t, region_route_v4, const region_graph *g, uint8_t *out, size_t out_length, uint32_t location, uint32_t kind,
+     uint32_t item, uint16_t version)
+{
+    const region_graph changed = altered(g, item, version);
     uint8_t own[REGION_ROUTE_BYTES];
     region_graph other = *g;
     int64_t count, others;
+
+    if (kind == REGION_KIND_PACKAGE) {
+        g = &changed;
+    }
+    if (fault(112)) {
+        version %= 256;
+    }
+    if (minds_version(kind, version)) {
+        item = ~item;
+    }
 
     if (fault(25)) {
         kind %= 256;
@@ -511,18 +760,18 @@ CALL(int64_t, region_route, const region_graph *g, uint8_t *out, size_t out_leng
     if (fault(26)) {
         item &= 0xFFFFFF;
     }
-    count = __real_region_route(g, out, out_length, location, kind, item);
+    count = __real_region_route_v4(g, out, out_length, location, kind, item, version);
     if (fault(27) && count >= 0 && (size_t)count + 1 < out_length) {
         out[count + 1] = 0;
     }
     if (fault(28) && count == -REGION_HIDDEN) {
         out[0] = 0;
     }
-    if (fault(102) && count == -REGION_HIDDEN) {
-        return route_against(g, out, location, kind, item);
+    if (fault(133) && count == -REGION_HIDDEN) {
+        return route_against(g, out, location, kind, item, version);
     }
     if (count == -REGION_NO_PLACE && is_room(out_length)) {
-        count = __real_region_route(g, own, sizeof own, location, kind, item);
+        count = __real_region_route_v4(g, own, sizeof own, location, kind, item, version);
         if (count >= (int64_t)out_length) {
             return -REGION_NO_PLACE;
         }
@@ -530,7 +779,7 @@ CALL(int64_t, region_route, const region_graph *g, uint8_t *out, size_t out_leng
     }
     /* another route: of as many connections, or a longer one */
     if (count > 0 && region_disconnect(&other, out[0], out[1]) == 0) {
-        others = __real_region_route(&other, own, sizeof own, location, kind, item);
+        others = __real_region_route_v4(&other, own, sizeof own, location, kind, item, version);
         if ((fault(30) && others == count) || (fault(31) && others > count)) {
             return memcpy(out, own, (size_t)others + 1), others;
         }
@@ -583,8 +832,14 @@ static uint8_t front_of(const uint8_t *bytes, size_t length)
     const uint8_t front = bytes[0], right = version_of(bytes, length, 15);
     const bool known = front == 1 || front == 2;
 
-    if ((fault(72) && known) || (fault(73) && front == 2) || (fault(74) && front == 3)) {
+    if ((fault(72) && known) || (fault(73) && front == 2)) {
         return right;
+    }
+    if (fault(74) && front == 4) {
+        return 3;
+    }
+    if (fault(129) && known) {
+        return 4;
     }
     if (!known) {
         return front;
@@ -605,30 +860,121 @@ static const uint8_t *relabelled(const uint8_t *bytes, size_t length, uint8_t fr
     return copy;
 }
 
+/* The place behind the record that starts at a place of a file. */
+static size_t behind(const uint8_t *file, size_t at)
+{
+    return at + 2 + ((size_t)file[at] << 8 | file[at + 1]);
+}
+
+/* Turns the reversed ranges of the package part that starts at a place. */
+static void turn_part(uint8_t *file, size_t length, size_t at)
+{
+    size_t count = at < length && file[at] != REGION_EVERYTHING ? file[at] : 0;
+
+    for (at++; count > 0 && at + 8 <= length; count--, at += 8) {
+        const uint8_t lowest[2] = {file[at + 4], file[at + 5]};
+
+        if (memcmp(lowest, file + at + 6, 2) > 0) {
+            memcpy(file + at + 4, file + at + 6, 2);
+            memcpy(file + at + 6, lowest, 2);
+        }
+    }
+}
+
+/* Turns the reversed ranges of a file of version 3, up to where it breaks its layout. */
+static void turn_file(uint8_t *file, size_t length)
+{
+    size_t at = (size_t)FRONT + 1 + file[FRONT];
+    size_t bundles = at < length ? file[at] : 0;
+
+    for (at++; bundles > 0 && at + 1 < length; bundles--) {
+        at = behind(file, at);
+    }
+    for (at++; at + 4 < length; at = behind(file, at)) {
+        turn_part(file, length, at + 5 + (size_t)file[at + 4] * 4);
+    }
+}
+
+/* Whether a graph has no version of a package but 0, and no entry but those from 0 to 65535. */
+static bool is_unversioned(const region_graph *g)
+{
+    for (size_t i = 0; i < g->bundle_count; i++) {
+        for (size_t k = 0; k < g->bundles[i].packages.count; k++) {
+            if (g->bundles[i].packages.versions[k] != 0) {
+                return false;
+            }
+        }
+    }
+    for (size_t i = 0; i < g->connection_count; i++) {
+        const struct region_package_entries *part = &g->connections[i].packages;
+
+        for (size_t k = 0; part->count != REGION_EVERYTHING && k < part->count; k++) {
+            if (part->lowest[k] != 0 || part->highest[k] != REGION_HIGHEST_VERSION) {
+                return false;
+            }
+        }
+    }
+    return true;
+}
+
+uint32_t __real_region_read(region_graph *g, const uint8_t *bytes, size_t length);
+
+/* Whether a fault refuses a file of version 3 for its graph: one without versions, or one whose regions are those of version 1. */
+static bool is_refused(const uint8_t *bytes, size_t length)
+{
+    static region_graph read;
+
+    if (bytes[0] != 3 || !(fault(123) || fault(124)) || __real_region_read(&read, bytes, length) != 0) {
+        return false;
+    }
+    return fault(123) ? is_unversioned(&read) : version_of(bytes, length, 15) == 1;
+}
+
 /* The file as a fault of the reader takes it. */
 static const uint8_t *taken(const uint8_t *bytes, size_t length)
 {
-    return length <= FRONT ? bytes : relabelled(bytes, length, front_of(bytes, length));
+    static uint8_t copy[GUARDED_ROOM];
+    const bool refused = length > FRONT && is_refused(bytes, length);
+
+    if (length <= FRONT) {
+        return bytes;
+    }
+    if (!refused && !(fault(122) && bytes[0] == 3)) {
+        return relabelled(bytes, length, front_of(bytes, length));
+    }
+    memcpy(copy, bytes, length);
+    if (refused) {
+        copy[FRONT] = UINT8_MAX;
+    } else {
+        turn_file(copy, length);
+    }
+    return copy;
+}
+
+/* What a fault of the reader makes of the graph of a file of version 1 or 2. */
+static void change_older(region_graph *g)
+{
+    for (size_t i = 0; (fault(127) || fault(130)) && i < g->bundle_count; i++) {
+        for (size_t k = 0; k < g->bundles[i].packages.count; k++) {
+            g->bundles[i].packages.versions[k] = fault(127) ? REGION_HIGHEST_VERSION : 1;
+        }
+    }
+    for (size_t i = 0; fault(128) && i < g->connection_count; i++) {
+        for (size_t k = 0; k < REGION_MOST_LISTED; k++) {
+            g->connections[i].packages.highest[k] = 0;
+        }
+    }
+}
+
+static bool changes_older(const uint8_t *bytes, size_t length)
+{
+    return length > FRONT && bytes[0] < 3 && (fault(127) || fault(128) || fault(130));
 }
 
 /* The version that a fault of the writer puts in front. */
 static uint8_t written_version(const region_graph *g, uint8_t right)
 {
-    if (fault(96) && last_region(g) == 16) {
-        return 1;
-    }
-    if (fault(97)) {
-        return 2;
-    }
-    if (fault(98)) {
-        return __builtin_popcountll(g->regions) > 16 ? 2 : 1;
-    }
-    for (size_t i = 0; fault(99) && i < g->bundle_count; i++) {
-        if (g->bundles[i].region > 15) {
-            return 2;
-        }
-    }
-    return fault(99) ? 1 : right;
+    return fault(125) && is_unversioned(g) ? (last_region(g) > 15 ? 2 : 1) : right;
 }
 
 CALL(uint32_t, region_read, region_graph *g, const uint8_t *bytes, size_t length)
@@ -640,6 +986,9 @@ CALL(uint32_t, region_read, region_graph *g, const uint8_t *bytes, size_t length
         length %= 65536;
     }
     number = __real_region_read(g, taken(bytes, length), length);
+    if (number == 0 && changes_older(bytes, length)) {
+        change_older(g);
+    }
     if (fault(34) && number != 0) {
         region_empty(g);
     }
@@ -655,7 +1004,24 @@ CALL(uint32_t, region_read, region_graph *g, const uint8_t *bytes, size_t length
     return fault(38) && number == 15 && length == 5 ? 16 : number;
 }
 
-CALL(uint32_t, archive_query, const uint8_t *bytes, size_t length, uint32_t location, uint32_t kind, uint32_t item)
+/* The answer to a query by a read and a route, where a fault changes the graph of an older file. */
+static uint32_t query_changed(const uint8_t *file, size_t length, uint32_t location, uint32_t kind, uint32_t item, uint16_t version)
+{
+    static region_graph read;
+    uint8_t route[REGION_ROUTE_BYTES];
+    uint32_t number = __real_region_read(&read, file, length);
+    int64_t count;
+
+    if (number != 0) {
+        return number;
+    }
+    change_older(&read);
+    count = __real_region_route_v4(&read, route, sizeof route, location, kind, item, version);
+    return count >= 0 ? REGION_SEEN : (uint32_t)-count;
+}
+
+CALL(uint32_t, archive_query_v4, const uint8_t *bytes, size_t length, uint32_t location, uint32_t kind, uint32_t item,
+     uint16_t version)
 {
     const uint8_t *file = taken(bytes, length);
     uint32_t answer;
@@ -663,7 +1029,10 @@ CALL(uint32_t, archive_query, const uint8_t *bytes, size_t length, uint32_t loca
     if (fault(75) && length > FRONT && (bytes[0] == 1 || bytes[0] == 2)) {
         file = relabelled(bytes, length, version_of(bytes, length, 15));
     }
-    answer = __real_archive_query(file, length, location, fault(39) ? kind % 256 : kind, item);
+    if (changes_older(bytes, length)) {
+        return query_changed(file, length, location, kind, item, version);
+    }
+    answer = __real_archive_query_v4(file, length, location, fault(39) ? kind % 256 : kind, item, fault(126) ? 0 : version);
     if (fault(40) && answer == 12 && kind > 2) {
         return 13;
     }

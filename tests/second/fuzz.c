@@ -1,7 +1,9 @@
 /* Fuzzes the archive reader, the archive query and the lookup of names (libFuzzer). Each input is a file, which is read as an
    archive and as a name sheet. It ends the program where
 
-   - a refused read changes a byte of the record, or an accepted one does not write back the very bytes of the file;
+   - a refused read changes a byte of the record; an accepted one of version 3 does not write back the very bytes of the file; or
+     one of an older version does not write them with the versions that it gives packages and entries, or this is not read as the
+     same record;
    - the query's number is not the one that the read and the route call give together;
    - a refused lookup changes the start, or a found name is not one of the sheet's, or two lookups judge one sheet otherwise;
    - anything outside a lent block is touched, or a sanitizer finds a fault on this side.
@@ -9,9 +11,10 @@
    The library has no counters of its own, so the fuzzer is guided by what is seen from outside: the number of the read, the
    last byte that the reader touched before it refused (its place and its size), and the bytes of an accepted file (the same);
    and so for the lookup. The last byte touched is found by reading the file again with its end in memory that cannot be
-   touched: the readers leave at the first byte that breaks the layout (a wrong version after the regions), so an input that gets further, or breaks otherwise,
-   than all before it is kept and changed further. Most changed inputs get the version and the length that go with them, since
-   the readers refuse the others at once; some get the other version. */
+   touched: the readers leave at the first byte that breaks the layout (a wrong version after the regions), so an input that gets
+   further, or breaks otherwise, than all before it is kept and changed further. Most changed inputs get the length that goes with
+   them, and version 3 or the older one that goes with their regions, since the readers refuse the others at once; some get the
+   other older version. */
 #define _DEFAULT_SOURCE
 #include <setjmp.h>
 #include <signal.h>
@@ -28,7 +31,7 @@ enum { PLACES = 4096, SIZES = 8 };
 /* What libFuzzer takes as new, by the number of the read, or of a lookup that finds nothing. */
 __attribute__((section("__libfuzzer_extra_counters"))) static uint8_t counters[REGION_NO_ENTRY + 1][PLACES][SIZES];
 
-static struct guarded archive, written, record_room, start_room;
+static struct guarded archive, written, record_room, again_room, start_room;
 static region_graph *record;
 static region_graph before;
 
@@ -58,12 +61,14 @@ static void require(bool held, const char *what)
 static void make_record(void)
 {
     static const uint32_t numbers[] = {1, 2, 3};
+    static const uint16_t versions[] = {7, 0, 65535};
 
     record = guarded_high(record_room, sizeof *record);
     region_empty(record);
     require(region_add(record, 0) == 0 && region_add(record, 63) == 0, "add");
-    require(region_install(record, 63, 10, numbers, 3, numbers, 2) == 0, "install");
-    require(region_connect(record, 0, 63, numbers, 3, false, numbers, 1, true, NULL, 0) == 0, "connect");
+    require(region_install_v4(record, 63, 10, numbers, 3, versions, 3, numbers, 2) == 0, "install");
+    require(region_connect_v4(record, 0, 63, numbers, 3, false, numbers, 1, versions, 1, versions, 1, true, NULL, 0) == 0,
+            "connect");
     memcpy(&before, record, sizeof before);
 }
 
@@ -74,6 +79,7 @@ static void make_all(void)
     archive = guarded_make();
     written = guarded_make();
     record_room = guarded_make();
+    again_room = guarded_make();
     start_room = guarded_make();
     make_record();
     memset(&action, 0, sizeof action);
@@ -156,17 +162,44 @@ static void count(reader *read, const uint8_t *data, size_t size, uint32_t numbe
     }
 }
 
+/* The bytes that the image of the record has more than an older file: versions, each of them the one that the file must give. */
+static size_t versions_added(void)
+{
+    size_t bytes = 0;
+
+    for (size_t i = 0; i < record->bundle_count; i++) {
+        for (size_t k = 0; k < record->bundles[i].packages.count; k++, bytes += 2) {
+            require(record->bundles[i].packages.versions[k] == 0, "a version in an older file");
+        }
+    }
+    for (size_t i = 0; i < record->connection_count; i++) {
+        const struct region_package_entries *part = &record->connections[i].packages;
+
+        for (size_t k = 0; part->count != REGION_EVERYTHING && k < part->count; k++, bytes += 4) {
+            require(part->lowest[k] == 0 && part->highest[k] == REGION_HIGHEST_VERSION, "a range in an older file");
+        }
+    }
+    return bytes;
+}
+
 static void check_read(const uint8_t *file, size_t size, uint32_t number)
 {
     uint8_t *image = guarded_high(written, REGION_LONGEST_IMAGE);
+    region_graph *again = guarded_high(again_room, sizeof *again);
+    size_t length;
 
     require(number <= REGION_BROKEN_LAYOUT, "a number of no question");
     if (number != 0) {
         require(memcmp(record, &before, sizeof before) == 0, "a refused read changed the record");
-    } else {
-        require(region_write(record, image, REGION_LONGEST_IMAGE) == (int64_t)size, "the length of the image");
-        require(memcmp(image, file, size) == 0, "the image is not the file");
+        return;
     }
+    length = size + (file[0] < 3 ? versions_added() : 0);
+    require(region_write(record, image, REGION_LONGEST_IMAGE) == (int64_t)length, "the length of the image");
+    require(image[0] == 3, "the version of the image");
+    require(file[0] < 3 || memcmp(image, file, size) == 0, "the image is not the file");
+    memcpy(again, &before, sizeof before);
+    require(region_read(again, image, length) == 0, "the image is not read");
+    require(memcmp(again, record, sizeof *again) == 0, "the image is read as another record");
 }
 
 static uint32_t word(const uint8_t *file, size_t size, size_t at)
@@ -184,14 +217,15 @@ static void check_query(const uint8_t *file, size_t size, uint32_t number, size_
 {
     uint8_t regions[REGION_ROUTE_BYTES];
     uint32_t location = word(file, size, at), item = word(file, size, at + 6), kind = (uint32_t)(at % 4);
-    uint32_t answer = archive_query(file, size, location, kind, item);
+    uint16_t version = (uint16_t)(at % 3 == 0 ? 0 : word(file, size, at + 8));
+    uint32_t answer = archive_query_v4(file, size, location, kind, item, version);
     int64_t routed;
 
     if (number != 0) {
         require(answer == number, "the query's refusal is not the read's");
         return;
     }
-    routed = region_route(record, regions, sizeof regions, location, kind, item);
+    routed = region_route_v4(record, regions, sizeof regions, location, kind, item, version);
     require(routed >= 0 ? answer == REGION_SEEN : answer == (uint32_t)-routed, "the query's answer is not the route's");
 }
 
@@ -238,7 +272,7 @@ static uint32_t check_sheet(const uint8_t *file, size_t size)
     return judged;
 }
 
-/* The version that goes with the regions of a file of at least 5 bytes. */
+/* The older version that goes with the regions of a file of at least 5 bytes. */
 static uint8_t version_of(const uint8_t *data, size_t size)
 {
     for (size_t i = 6; i < size && i < 6u + data[5]; i++) {
@@ -258,7 +292,12 @@ size_t LLVMFuzzerCustomMutator(uint8_t *data, size_t size, size_t most, unsigned
     size_t changed = LLVMFuzzerMutate(data, size, most);
 
     if (changed >= 5 && seed % 8 != 0) {
-        data[0] = seed % 8 == 1 ? (uint8_t)(3 - version_of(data, changed)) : version_of(data, changed);
+        data[0] = version_of(data, changed);
+        if (seed % 8 == 1) {
+            data[0] = (uint8_t)(3 - data[0]);
+        } else if (seed % 8 > 3) {
+            data[0] = 3;
+        }
         for (int i = 0; i < 4; i++) {
             data[1 + i] = (uint8_t)((changed - 5) >> (24 - 8 * i));
         }

@@ -3,13 +3,15 @@
 use std::ops::RangeInclusive;
 
 use crate::graph::{
-    ascends, Bundle, Connection, Filter, Graph, Kind, Part, Refusal, RegionSet, MOST_BUNDLES, MOST_CONNECTIONS,
-    MOST_LISTED, MOST_PROVIDED, REGIONS,
+    ascends, Bundle, Connection, Entry, Filter, Graph, Item, Kind, Package, Part, Refusal, RegionSet, HIGHEST_VERSION,
+    MOST_BUNDLES, MOST_CONNECTIONS, MOST_LISTED, MOST_PROVIDED, REGIONS,
 };
 
 /// Version 1 has the regions below this number alone, version 2 has one that is not below it.
 const EARLY_REGIONS: u8 = 16;
-const VERSIONS: RangeInclusive<u8> = 1..=2;
+const VERSIONS: RangeInclusive<u8> = 1..=3;
+/// The version that has versions of packages, and is written.
+const VERSIONED: u8 = 3;
 const HEAD: usize = 5;
 const EVERYTHING: u8 = 255;
 const SEEN: u32 = 100;
@@ -24,7 +26,7 @@ impl Graph {
         if u32::from_be_bytes([head[1], head[2], head[3], head[4]]) as usize != body.len() {
             return Err(Refusal::WrongLength);
         }
-        Fields(body).graph(head[0]).ok_or(Refusal::BrokenLayout)
+        Fields(body, head[0]).graph().ok_or(Refusal::BrokenLayout)
     }
 
     /// Writes the image and gives its length.
@@ -35,7 +37,7 @@ impl Graph {
     }
 
     pub fn image(&self) -> Vec<u8> {
-        let mut image = vec![version(self.regions), 0, 0, 0, 0];
+        let mut image = vec![VERSIONED, 0, 0, 0, 0];
         image.push(self.regions.len() as u8);
         image.extend(self.regions.iter());
         image.push(self.bundles.len() as u8);
@@ -53,11 +55,11 @@ impl Graph {
 }
 
 /// 100 where the bundle sees the item in the graph of an archive, 101 where it does not, or a refusal's number.
-pub fn archive_query(bytes: &[u8], location: u32, kind: u32, item: u32) -> u32 {
+pub fn archive_query(bytes: &[u8], location: u32, kind: u32, number: u32, version: u16) -> u32 {
     let answer = || -> Result<bool, Refusal> {
         let graph = Graph::read(bytes)?;
         let region = graph.region_of(location)?;
-        Ok(graph.seers(Kind::try_from(kind)?, item).contains(region))
+        Ok(graph.seers(Item { kind: Kind::try_from(kind)?, number, version }).contains(region))
     };
     match answer() {
         Ok(true) => SEEN,
@@ -66,13 +68,9 @@ pub fn archive_query(bytes: &[u8], location: u32, kind: u32, item: u32) -> u32 {
     }
 }
 
-/// The version of a graph with these regions.
-fn version(regions: RegionSet) -> u8 {
-    if regions.reaches(EARLY_REGIONS) {
-        2
-    } else {
-        1
-    }
+/// Whether a file of a version may have these regions.
+fn fits(version: u8, regions: RegionSet) -> bool {
+    version == VERSIONED || (version == 2) == regions.reaches(EARLY_REGIONS)
 }
 
 fn put_record(image: &mut Vec<u8>, put: impl FnOnce(&mut Vec<u8>)) {
@@ -86,39 +84,51 @@ fn put_record(image: &mut Vec<u8>, put: impl FnOnce(&mut Vec<u8>)) {
 fn put_bundle(image: &mut Vec<u8>, bundle: &Bundle) {
     image.extend(bundle.location.to_be_bytes());
     image.push(bundle.region);
-    put_list(image, &bundle.packages);
-    put_list(image, &bundle.services);
+    put_list(image, &bundle.packages, put_package);
+    put_list(image, &bundle.services, put_number);
 }
 
 fn put_connection(image: &mut Vec<u8>, connection: &Connection) {
     image.extend([connection.source, connection.target]);
-    put_list(image, &connection.filter.bundles);
-    put_part(image, &connection.filter.packages);
-    put_part(image, &connection.filter.services);
+    put_list(image, &connection.filter.bundles, put_number);
+    put_part(image, &connection.filter.packages, put_entry);
+    put_part(image, &connection.filter.services, put_number);
 }
 
-fn put_list(image: &mut Vec<u8>, numbers: &[u32]) {
-    image.push(numbers.len() as u8);
-    for number in numbers {
-        image.extend(number.to_be_bytes());
-    }
+fn put_number(image: &mut Vec<u8>, number: &u32) {
+    image.extend(number.to_be_bytes());
 }
 
-fn put_part(image: &mut Vec<u8>, part: &Part) {
+fn put_package(image: &mut Vec<u8>, &(number, version): &Package) {
+    put_number(image, &number);
+    image.extend(version.to_be_bytes());
+}
+
+fn put_entry(image: &mut Vec<u8>, entry: &Entry) {
+    put_number(image, &entry.number);
+    image.extend(entry.lowest.to_be_bytes());
+    image.extend(entry.highest.to_be_bytes());
+}
+
+fn put_list<T>(image: &mut Vec<u8>, elements: &[T], put: impl Fn(&mut Vec<u8>, &T)) {
+    image.push(elements.len() as u8);
+    elements.iter().for_each(|element| put(image, element));
+}
+
+fn put_part<T>(image: &mut Vec<u8>, part: &Part<T>, put: impl Fn(&mut Vec<u8>, &T)) {
     match part {
         Part::All => image.push(EVERYTHING),
-        Part::Listed(numbers) => put_list(image, numbers),
+        Part::Listed(elements) => put_list(image, elements, put),
     }
 }
 
-/// The bytes that are still to be read. A reader gives `None` where they break the layout.
-struct Fields<'a>(&'a [u8]);
+/// The bytes that are still to be read, and the version of their file. A reader gives `None` where they break the layout.
+struct Fields<'a>(&'a [u8], u8);
 
 impl<'a> Fields<'a> {
-    /// The graph of a file of a version.
-    fn graph(mut self, first: u8) -> Option<Graph> {
+    fn graph(mut self) -> Option<Graph> {
         let regions = self.regions()?;
-        if version(regions) != first {
+        if !fits(self.1, regions) {
             return None;
         }
         let bundles = self.records(MOST_BUNDLES, |fields| fields.bundle(regions))?;
@@ -147,7 +157,7 @@ impl<'a> Fields<'a> {
         let mut records = Vec::with_capacity(count);
         for _ in 0..count {
             let length = u16::from_be_bytes(self.array()?);
-            let mut fields = Fields(self.bytes(usize::from(length))?);
+            let mut fields = Fields(self.bytes(usize::from(length))?, self.1);
             records.push(read(&mut fields)?);
             if !fields.0.is_empty() {
                 return None;
@@ -159,9 +169,9 @@ impl<'a> Fields<'a> {
     fn bundle(&mut self, regions: RegionSet) -> Option<Bundle> {
         let location = u32::from_be_bytes(self.array()?);
         let region = self.region(regions)?;
-        let packages = self.list(MOST_PROVIDED)?;
-        let services = self.list(MOST_PROVIDED)?;
-        Some(Bundle { location, region, packages, services })
+        let packages = self.list(MOST_PROVIDED, Fields::package)?;
+        let services = self.list(MOST_PROVIDED, Fields::number)?;
+        (ascends(&packages) && ascends(&services)).then_some(Bundle { location, region, packages, services })
     }
 
     fn connection(&mut self, regions: RegionSet) -> Option<Connection> {
@@ -170,28 +180,56 @@ impl<'a> Fields<'a> {
         if source == target {
             return None;
         }
-        let bundles = self.list(MOST_LISTED)?;
-        let packages = self.part()?;
-        let services = self.part()?;
-        Some(Connection { source, target, filter: Filter { bundles, packages, services } })
+        let bundles = self.list(MOST_LISTED, Fields::number)?;
+        let packages = self.part(Fields::entry)?;
+        let services = self.part(Fields::number)?;
+        let ordered = ascends(&bundles) && entries_hold(&packages) && numbers_hold(&services);
+        ordered.then_some(Connection { source, target, filter: Filter { bundles, packages, services } })
     }
 
-    fn part(&mut self) -> Option<Part> {
+    fn part<T>(&mut self, read: impl Fn(&mut Fields<'a>) -> Option<T>) -> Option<Part<T>> {
         if self.0.first() == Some(&EVERYTHING) {
             self.byte()?;
             return Some(Part::All);
         }
-        self.list(MOST_LISTED).map(Part::Listed)
+        self.list(MOST_LISTED, read).map(Part::Listed)
     }
 
-    fn list(&mut self, most: usize) -> Option<Vec<u32>> {
+    fn list<T>(&mut self, most: usize, read: impl Fn(&mut Fields<'a>) -> Option<T>) -> Option<Vec<T>> {
         let count = usize::from(self.byte()?);
         if count > most {
             return None;
         }
-        let numbers: Vec<u32> =
-            self.bytes(4 * count)?.chunks_exact(4).map(|b| u32::from_be_bytes([b[0], b[1], b[2], b[3]])).collect();
-        ascends(&numbers).then_some(numbers)
+        let mut elements = Vec::with_capacity(count);
+        for _ in 0..count {
+            elements.push(read(self)?);
+        }
+        Some(elements)
+    }
+
+    fn number(&mut self) -> Option<u32> {
+        self.array().map(u32::from_be_bytes)
+    }
+
+    /// An exported package; those of older files have version 0.
+    fn package(&mut self) -> Option<Package> {
+        let number = self.number()?;
+        Some((number, self.version_or(0)?))
+    }
+
+    /// An entry of a package part; those of older files pass every version.
+    fn entry(&mut self) -> Option<Entry> {
+        let number = self.number()?;
+        let lowest = self.version_or(0)?;
+        Some(Entry { number, lowest, highest: self.version_or(HIGHEST_VERSION)? })
+    }
+
+    /// The version that follows, or another where the file has none.
+    fn version_or(&mut self, other: u16) -> Option<u16> {
+        if self.1 < VERSIONED {
+            return Some(other);
+        }
+        self.array().map(u16::from_be_bytes)
     }
 
     fn region(&mut self, regions: RegionSet) -> Option<u8> {
@@ -213,6 +251,21 @@ impl<'a> Fields<'a> {
         let (bytes, rest) = self.0.split_at_checked(count)?;
         self.0 = rest;
         Some(bytes)
+    }
+}
+
+/// Whether there is one entry for a number, in order, and none is reversed.
+fn entries_hold(part: &Part<Entry>) -> bool {
+    match part {
+        Part::All => true,
+        Part::Listed(entries) => ascends_by(entries, |entry| entry.number) && !entries.iter().any(Entry::is_reversed),
+    }
+}
+
+fn numbers_hold(part: &Part<u32>) -> bool {
+    match part {
+        Part::All => true,
+        Part::Listed(numbers) => ascends(numbers),
     }
 }
 

@@ -1,12 +1,13 @@
-//! The region graph of document 01 and request C-13: regions, bundles, connections, and the six calls that change them.
+//! The region graph of document 01 and the requests C-13 and C-15: regions, bundles, connections, and the six calls that change them.
 
 pub const REGIONS: u32 = 64;
 pub const MOST_BUNDLES: usize = 64;
 pub const MOST_CONNECTIONS: usize = 48;
 pub const MOST_PROVIDED: usize = 8;
 pub const MOST_LISTED: usize = 16;
+pub const HIGHEST_VERSION: u16 = u16::MAX;
 
-/// The questions of document 01 and of request C-11, each named after the answer "no".
+/// The questions of document 01 and of the requests C-11 and C-15, each named after the answer "no".
 #[derive(Clone, Copy, Debug, PartialEq, Eq)]
 pub enum Refusal {
     NotARegion = 1,
@@ -28,6 +29,7 @@ pub enum Refusal {
     BrokenLayout,
     BrokenSheet,
     NoEntry,
+    RangeReversed,
 }
 
 #[derive(Clone, Copy, Debug, PartialEq, Eq)]
@@ -47,6 +49,35 @@ impl TryFrom<u32> for Kind {
             2 => Ok(Kind::Service),
             _ => Err(Refusal::NotAKind),
         }
+    }
+}
+
+/// What a bundle may see. The version is that of a package, and is not looked at for the other kinds.
+#[derive(Clone, Copy, Debug)]
+pub struct Item {
+    pub kind: Kind,
+    pub number: u32,
+    pub version: u16,
+}
+
+/// A number and a version; ordered by both.
+pub type Package = (u32, u16);
+
+/// What a filter passes of a number: the versions from the lowest to the highest.
+#[derive(Clone, Copy, Debug, PartialEq, Eq)]
+pub struct Entry {
+    pub number: u32,
+    pub lowest: u16,
+    pub highest: u16,
+}
+
+impl Entry {
+    pub fn is_reversed(&self) -> bool {
+        self.lowest > self.highest
+    }
+
+    fn passes(&self, version: u16) -> bool {
+        (self.lowest..=self.highest).contains(&version)
     }
 }
 
@@ -90,39 +121,39 @@ impl RegionSet {
 pub struct Bundle {
     pub location: u32,
     pub region: u8,
-    pub packages: Vec<u32>,
+    pub packages: Vec<Package>,
     pub services: Vec<u32>,
 }
 
 impl Bundle {
-    /// The items of a kind that the bundle brings into its region.
-    pub fn provides(&self, kind: Kind) -> &[u32] {
-        match kind {
-            Kind::Bundle => std::slice::from_ref(&self.location),
-            Kind::Package => &self.packages,
-            Kind::Service => &self.services,
+    /// Whether the bundle brings an item into its region.
+    pub fn provides(&self, item: Item) -> bool {
+        match item.kind {
+            Kind::Bundle => self.location == item.number,
+            Kind::Package => self.packages.binary_search(&(item.number, item.version)).is_ok(),
+            Kind::Service => self.services.binary_search(&item.number).is_ok(),
         }
     }
 }
 
 #[derive(Clone, Debug, PartialEq, Eq)]
-pub enum Part {
+pub enum Part<T> {
     All,
-    Listed(Vec<u32>),
+    Listed(Vec<T>),
 }
 
-impl Part {
-    fn passes(&self, item: u32) -> bool {
+impl<T> Part<T> {
+    fn passes(&self, listed: impl FnOnce(&[T]) -> bool) -> bool {
         match self {
             Part::All => true,
-            Part::Listed(numbers) => numbers.binary_search(&item).is_ok(),
+            Part::Listed(elements) => listed(elements),
         }
     }
 
-    fn listed(&self) -> &[u32] {
+    fn listed(&self) -> &[T] {
         match self {
             Part::All => &[],
-            Part::Listed(numbers) => numbers,
+            Part::Listed(elements) => elements,
         }
     }
 }
@@ -130,17 +161,33 @@ impl Part {
 #[derive(Clone, Debug, PartialEq, Eq)]
 pub struct Filter {
     pub bundles: Vec<u32>,
-    pub packages: Part,
-    pub services: Part,
+    pub packages: Part<Entry>,
+    pub services: Part<u32>,
 }
 
 impl Filter {
-    pub fn passes(&self, kind: Kind, item: u32) -> bool {
-        match kind {
-            Kind::Bundle => self.bundles.binary_search(&item).is_ok(),
-            Kind::Package => self.packages.passes(item),
-            Kind::Service => self.services.passes(item),
+    pub fn passes(&self, item: Item) -> bool {
+        let number = item.number;
+        match item.kind {
+            Kind::Bundle => self.bundles.binary_search(&number).is_ok(),
+            Kind::Package => self.packages.passes(|entries| {
+                let place = entries.binary_search_by_key(&number, |entry| entry.number);
+                place.is_ok_and(|place| entries[place].passes(item.version))
+            }),
+            Kind::Service => self.services.passes(|services| services.binary_search(&number).is_ok()),
         }
+    }
+
+    /// Questions 7, 8 and 20.
+    fn check(&self) -> Result<(), Refusal> {
+        let entries = self.packages.listed();
+        let numbers: Vec<u32> = entries.iter().map(|entry| entry.number).collect();
+        check_counts(&[self.bundles.len(), entries.len(), self.services.listed().len()], MOST_LISTED)?;
+        check_order(&[ascends(&self.bundles), ascends(&numbers), ascends(self.services.listed())])?;
+        if entries.iter().any(Entry::is_reversed) {
+            return Err(Refusal::RangeReversed);
+        }
+        Ok(())
     }
 }
 
@@ -183,13 +230,20 @@ impl Graph {
         Ok(())
     }
 
-    pub fn install(&mut self, region: u32, location: u32, packages: &[u32], services: &[u32]) -> Result<(), Refusal> {
+    pub fn install(
+        &mut self,
+        region: u32,
+        location: u32,
+        packages: &[Package],
+        services: &[u32],
+    ) -> Result<(), Refusal> {
         let region = self.known(region_number(region)?)?;
-        check_lists(&[packages, services], MOST_PROVIDED)?;
+        check_counts(&[packages.len(), services.len()], MOST_PROVIDED)?;
+        check_order(&[ascends(packages), ascends(services)])?;
         let Err(place) = self.place(location) else {
             return Err(Refusal::Installed);
         };
-        if self.leaving(region).iter().any(|c| c.filter.passes(Kind::Bundle, location)) {
+        if self.leaving(region).iter().any(|c| c.filter.bundles.binary_search(&location).is_ok()) {
             return Err(Refusal::Filtered);
         }
         if self.bundles.len() >= MOST_BUNDLES {
@@ -211,7 +265,7 @@ impl Graph {
         let Err(place) = self.connection(source, target) else {
             return Err(Refusal::Connected);
         };
-        check_lists(&[&filter.bundles, filter.packages.listed(), filter.services.listed()], MOST_LISTED)?;
+        filter.check()?;
         if self.connections.len() >= MOST_CONNECTIONS {
             return Err(Refusal::Full);
         }
@@ -278,14 +332,31 @@ fn region_number(region: u32) -> Result<u8, Refusal> {
     }
 }
 
-fn check_lists(lists: &[&[u32]], most: usize) -> Result<(), Refusal> {
-    if lists.iter().any(|list| list.len() > most) {
+/// Question 7 for lists with these counts.
+fn check_counts(counts: &[usize], most: usize) -> Result<(), Refusal> {
+    if counts.iter().any(|&count| count > most) {
         return Err(Refusal::ListTooLong);
     }
-    if !lists.iter().all(|list| ascends(list)) {
+    Ok(())
+}
+
+/// Question 8 for lists of which each is in order or not.
+fn check_order(ordered: &[bool]) -> Result<(), Refusal> {
+    if !ordered.iter().all(|&ordered| ordered) {
         return Err(Refusal::ListOutOfOrder);
     }
     Ok(())
+}
+
+/// The packages of a call that has their numbers and their versions in two lists; the shorter one counts them.
+pub fn packages(numbers: &[u32], versions: &[u16]) -> Vec<Package> {
+    numbers.iter().copied().zip(versions.iter().copied()).collect()
+}
+
+/// The entries of a call that has their parts in three lists; the shortest one counts them.
+pub fn entries(numbers: &[u32], lowest: &[u16], highest: &[u16]) -> Vec<Entry> {
+    let ranges = lowest.iter().zip(highest);
+    numbers.iter().zip(ranges).map(|(&number, (&lowest, &highest))| Entry { number, lowest, highest }).collect()
 }
 
 pub fn ascends<T: Ord>(list: &[T]) -> bool {

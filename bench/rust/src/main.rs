@@ -1,4 +1,4 @@
-//! A second implementation of document 01 and of the requests C-11, C-13 and C-14 in plain Rust, to compare the engine's
+//! A second implementation of document 01 and of the requests C-11 and C-13 to C-15 in plain Rust, to compare the engine's
 //! speed with.
 
 mod archive;

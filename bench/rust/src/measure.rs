@@ -7,9 +7,9 @@ use std::path::Path;
 use std::time::{Duration, Instant};
 
 use crate::archive::archive_query;
-use crate::graph::{Filter, Graph, Part, Refusal};
+use crate::graph::{Entry, Filter, Graph, Package, Part, Refusal, HIGHEST_VERSION};
 use crate::names;
-use crate::routes::ROUTE_BYTES;
+use crate::routes::{Candidates, Offers, ROUTE_BYTES};
 
 /// Short rounds, so that some of them pass without a break by the system.
 const ROUNDS: usize = 100;
@@ -32,13 +32,21 @@ const LISTED: [u32; 8] = [HIDDEN_ITEM, 505, 506, 507, 508, 509, 510, SEEN_ITEM];
 const LISTED_TO_15: [u32; 8] = [505, 506, 507, 508, 509, 510, SEEN_ITEM, UNHELD_ITEM];
 const HELD: u32 = 512;
 const LIST: u32 = 1000;
+/// The version of the packages in the graph "ranges", and what its entries pass; other packages have version 0.
+const VERSION: u16 = 5;
+const RANGE: (u16, u16) = (1, 9);
+const ANY: (u16, u16) = (0, HIGHEST_VERSION);
 /// Entries of the sheet that the program makes.
 const ENTRIES: u32 = 1000;
 
 pub fn run(examples: &Path) -> io::Result<()> {
-    queries("all", &full_graph(|_| ALL), UNHELD_ITEM);
-    let listed = full_graph(|target| filter(if target == 15 { &LISTED_TO_15 } else { &LISTED }));
-    queries("listed", &listed, HIDDEN_ITEM);
+    let all = full_graph(0, |_| ALL);
+    packages("all", &all, UNHELD_ITEM, 0);
+    services("all", &all, UNHELD_ITEM);
+    let listed = listed_graph(0, ANY);
+    packages("listed", &listed, HIDDEN_ITEM, 0);
+    services("listed", &listed, HIDDEN_ITEM);
+    packages("ranges", &listed_graph(VERSION, RANGE), HIDDEN_ITEM, VERSION);
     changes(&listed);
     archives(&std::fs::read(examples.join("g.archive"))?, &std::fs::read(examples.join("longest.archive"))?);
     long_route(&row_graph());
@@ -48,21 +56,26 @@ pub fn run(examples: &Path) -> io::Result<()> {
 
 const ALL: Filter = Filter { bundles: vec![], packages: Part::All, services: Part::All };
 
-fn filter(numbers: &[u32]) -> Filter {
-    let part = || Part::Listed(numbers.to_vec());
-    Filter { bundles: numbers.to_vec(), packages: part(), services: part() }
+fn filter(numbers: &[u32], (lowest, highest): (u16, u16)) -> Filter {
+    let entries = numbers.iter().map(|&number| Entry { number, lowest, highest }).collect();
+    let listed = || numbers.to_vec();
+    Filter { bundles: listed(), packages: Part::Listed(entries), services: Part::Listed(listed()) }
 }
 
-/// The packages, and the services, of bundle i.
+/// The services of bundle i, and its packages in a version.
 fn provided(i: u32) -> Vec<u32> {
     (8 * i..8 * i + 8).collect()
 }
 
+fn exported(i: u32, version: u16) -> Vec<Package> {
+    provided(i).into_iter().map(|number| (number, version)).collect()
+}
+
 /// 16 regions, 64 bundles, 48 connections; the filter of a connection by its target.
-fn full_graph(filter: impl Fn(u32) -> Filter) -> Graph {
+fn full_graph(version: u16, filter: impl Fn(u32) -> Filter) -> Graph {
     let mut graph = Graph::default();
     (0..16).for_each(|r| accepted(graph.add_region(r)));
-    (0..64).for_each(|i| accepted(graph.install(i % 16, ASKER + i, &provided(i), &provided(i))));
+    (0..64).for_each(|i| accepted(graph.install(i % 16, ASKER + i, &exported(i, version), &provided(i))));
     for r in 0..16 {
         for target in (1..=3).map(|step| (r + step) % 16) {
             accepted(graph.connect(r, target, &filter(target)));
@@ -71,12 +84,17 @@ fn full_graph(filter: impl Fn(u32) -> Filter) -> Graph {
     graph
 }
 
+/// The same with connections that list 8 numbers in each part, the packages with a range of versions.
+fn listed_graph(version: u16, range: (u16, u16)) -> Graph {
+    full_graph(version, |target| filter(if target == 15 { &LISTED_TO_15 } else { &LISTED }, range))
+}
+
 /// 64 regions with a bundle each; 48 connections, from region 15 to region 63 in a row, that pass all packages and services.
 fn row_graph() -> Graph {
     let mut graph = Graph::default();
     for i in 0..64 {
         accepted(graph.add_region(i));
-        accepted(graph.install(i, ASKER + i, &provided(i), &provided(i)));
+        accepted(graph.install(i, ASKER + i, &exported(i, 0), &provided(i)));
     }
     (15..63).for_each(|r| accepted(graph.connect(r, r + 1, &ALL)));
     graph
@@ -86,60 +104,73 @@ fn accepted(done: Result<(), Refusal>) {
     done.expect("the call is accepted");
 }
 
-fn queries(filters: &str, graph: &Graph, hidden: u32) {
+/// Routes and resolves for packages of a version.
+fn packages(filters: &str, graph: &Graph, hidden: u32, version: u16) {
     let mut bytes = [0; ROUTE_BYTES];
     for (name, item) in [("seen", SEEN_ITEM), ("hidden", hidden)] {
         best(&format!("route_{name}_{filters}"), || {
-            counted(graph.route(black_box(ASKER), 1, black_box(item), &mut bytes))
+            counted(graph.route(black_box(ASKER), 1, black_box(item), black_box(version), &mut bytes))
         });
     }
+    resolves(filters, graph, hidden, version);
+}
+
+/// The items of lists, in turn.
+fn in_turn() -> Vec<u32> {
+    (0..LIST).map(|i| i % HELD).collect()
+}
+
+/// Finds and events for services.
+fn services(filters: &str, graph: &Graph, hidden: u32) {
     let mut out = [0; LIST as usize];
     for (name, item) in [("seen", SEEN_ITEM), ("hidden", hidden)] {
         best(&format!("find_1_{name}_{filters}"), || {
             answer(graph.service_find(black_box(ASKER), black_box(&[item]), &mut out).map(|c| c as i64))
         });
     }
-    let candidates: Vec<u32> = (0..LIST).map(|i| i % HELD).collect();
+    let candidates = in_turn();
     best(&format!("find_1000_{filters}"), || {
         answer(graph.service_find(ASKER, black_box(&candidates), &mut out).map(|c| c as i64))
     });
-    resolves(filters, graph, hidden, &candidates);
     let listeners: Vec<u32> = (0..LIST).map(|i| ASKER + i % 64).collect();
     best(&format!("event_1000_{filters}"), || {
         answer(graph.service_event(black_box(&listeners), SEEN_ITEM, &mut out).map(|c| c as i64))
     });
 }
 
-fn resolves(filters: &str, graph: &Graph, hidden: u32, packages: &[u32]) {
-    let (mut out_exporters, mut out_packages) = ([0; LIST as usize], [0; LIST as usize]);
+fn resolves(filters: &str, graph: &Graph, hidden: u32, version: u16) {
+    let (mut out_exporters, mut out_packages, mut out_versions) =
+        ([0; LIST as usize], [0; LIST as usize], [0; LIST as usize]);
+    let mut out = Offers { exporters: &mut out_exporters, packages: &mut out_packages, versions: &mut out_versions };
+    let versions = [version; LIST as usize];
     let mut resolve = |exporters: &[u32], packages: &[u32]| {
-        let kept =
-            graph.resolve(ASKER, black_box(exporters), black_box(packages), &mut out_exporters, &mut out_packages);
-        answer(kept.map(|c| c as i64))
+        let candidates = Candidates { exporters, packages, versions: &versions[..packages.len()] };
+        answer(graph.resolve(ASKER, black_box(candidates), &mut out).map(|c| c as i64))
     };
     for (name, item) in [("seen", SEEN_ITEM), ("hidden", hidden)] {
         best(&format!("resolve_1_{name}_{filters}"), || resolve(&[EXPORTER], &[item]));
     }
+    let packages = in_turn();
     let exporters: Vec<u32> = packages.iter().map(|package| ASKER + package / 8).collect();
-    best(&format!("resolve_1000_{filters}"), || resolve(&exporters, packages));
+    best(&format!("resolve_1000_{filters}"), || resolve(&exporters, &packages));
 }
 
 /// The route of the bundle in region 15 to an item in region 63.
 fn long_route(graph: &Graph) {
     let mut bytes = [0; ROUTE_BYTES];
-    best("route_48", || counted(graph.route(black_box(ASKER + 15), 1, black_box(SEEN_ITEM), &mut bytes)));
+    best("route_48", || counted(graph.route(black_box(ASKER + 15), 1, black_box(SEEN_ITEM), 0, &mut bytes)));
 }
 
 fn changes(graph: &Graph) {
-    let filter = filter(&LISTED);
-    let numbers = provided(32);
+    let filter = filter(&LISTED, ANY);
+    let (packages, services) = (exported(32, 0), provided(32));
     let mut full = graph.clone();
     best("refused_add", || number(full.add_region(black_box(9))));
-    best("refused_install", || number(full.install(0, black_box(ASKER + 32), &numbers, &numbers)));
+    best("refused_install", || number(full.install(0, black_box(ASKER + 32), &packages, &services)));
     best_pair(
         graph,
         ("uninstall", |g| g.uninstall(black_box(ASKER + 32))),
-        ("install", |g| g.install(0, black_box(ASKER + 32), &numbers, &numbers)),
+        ("install", |g| g.install(0, black_box(ASKER + 32), &packages, &services)),
     );
     best_pair(
         graph,
@@ -155,10 +186,15 @@ fn archives(g: &[u8], longest: &[u8]) {
         graph = Graph::read(black_box(longest)).expect("an archive");
         0
     });
-    let mut out = vec![0; longest.len()];
-    best("write_longest", || answer(graph.write(black_box(&mut out)).map(|length| length as i64)));
-    best("query_g", || archive_query(black_box(g), 10, 1, 1).into());
-    best("query_longest", || archive_query(black_box(longest), 1000, 1, 600).into());
+    let mut versioned = graph.image();
+    best("write_longest", || answer(graph.write(black_box(&mut versioned)).map(|length| length as i64)));
+    best("read_longest_3", || {
+        graph = Graph::read(black_box(&versioned)).expect("an archive");
+        0
+    });
+    best("query_g", || archive_query(black_box(g), 10, 1, 1, 0).into());
+    best("query_longest", || archive_query(black_box(longest), 1000, 1, 600, 0).into());
+    best("query_longest_3", || archive_query(black_box(&versioned), 1000, 1, 600, 0).into());
 }
 
 /// Bundles 0 to 999, each with a name of 20 bytes.

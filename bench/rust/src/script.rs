@@ -3,11 +3,13 @@
 use std::fmt::Write;
 
 use crate::archive::archive_query;
-use crate::graph::{Filter, Graph, Part, Refusal};
+use crate::graph::{entries, packages, Filter, Graph, Part, Refusal};
 use crate::names;
+use crate::routes::{Candidates, Offers};
 
 /// What an output list and an output buffer hold before a query, as the script language says.
 const LIST_FILL: u32 = 0xDEAD_0000;
+const VERSION_FILL: u16 = 0xBE00;
 const BYTE_FILL: u8 = 0xA5;
 
 /// What stands between two lines: the graph, the archive and the name sheet.
@@ -46,7 +48,7 @@ fn keep(state: &mut State, words: &[&str]) -> Option<String> {
 fn judge(state: &State, words: &[&str]) -> Option<String> {
     let n = |i: usize| number(words[i]);
     match words[0] {
-        "query" => Some(archive_query(&state.archive, n(1), n(2), n(3)).to_string()),
+        "query" => Some(archive_query(&state.archive, n(1), n(2), n(3), version(words[4])).to_string()),
         "lookup" => Some(match names::look_up(&state.sheet, n(1), n(2)) {
             Ok(name) => format!("0 {} {}", names::start(&state.sheet, name), name.len()),
             Err(refusal) => format!("{} 0 0", refusal as u32),
@@ -63,11 +65,12 @@ fn change(graph: &mut Graph, words: &[&str]) -> Option<String> {
         "lent" => Graph::read(&bytes(words[1])).map(|read| *graph = read),
         "add" => graph.add_region(n(1)),
         "remove" => graph.remove_region(n(1)),
-        "install" => graph.install(n(1), n(2), &list(words[3]), &list(words[4])),
+        "install" => graph.install(n(1), n(2), &packages(&list(words[3]), &versions(words[4])), &list(words[5])),
         "uninstall" => graph.uninstall(n(1)),
         "connect" => {
-            let filter = Filter { bundles: list(words[3]), packages: part(words[4]), services: part(words[5]) };
-            graph.connect(n(1), n(2), &filter)
+            let listed = |numbers: &str| entries(&list(numbers), &versions(words[5]), &versions(words[6]));
+            let (bundles, packages) = (list(words[3]), part(words[4], listed));
+            graph.connect(n(1), n(2), &Filter { bundles, packages, services: part(words[7], list) })
         }
         "disconnect" => graph.disconnect(n(1), n(2)),
         _ => return None,
@@ -80,12 +83,15 @@ fn query(graph: &Graph, words: &[&str]) -> String {
     match words[0] {
         "bfind" => hook(n(2), |out| graph.bundle_find(n(1), &list(words[3]), out)),
         "sfind" => hook(n(2), |out| graph.service_find(n(1), &list(words[3]), out)),
-        "resolve" => resolve(graph, n(1), &list(words[2]), &list(words[3]), &list(words[4])),
+        "resolve" => {
+            let (exporters, packages, versions) = (&list(words[3])[..], &list(words[4])[..], &versions(words[5])[..]);
+            resolve(graph, n(1), &list(words[2]), Candidates { exporters, packages, versions })
+        }
         "bevent" => hook(n(1), |out| graph.bundle_event(&list(words[3]), n(2), out)),
         "sevent" => hook(n(1), |out| graph.service_event(&list(words[3]), n(2), out)),
         "route" => {
-            let mut out = vec![BYTE_FILL; n(4) as usize];
-            let answer = graph.route(n(1), n(2), n(3), &mut out);
+            let mut out = vec![BYTE_FILL; n(5) as usize];
+            let answer = graph.route(n(1), n(2), n(3), version(words[4]), &mut out);
             shown(answer.map(|count| count.map_or("hidden".into(), |c| c.to_string())), hex(&out))
         }
         "write" => {
@@ -114,10 +120,13 @@ fn hook(places: u32, call: impl FnOnce(&mut [u32]) -> Result<usize, Refusal>) ->
 }
 
 /// A resolve, with so many places in each output list.
-fn resolve(graph: &Graph, location: u32, places: &[u32], exporters: &[u32], packages: &[u32]) -> String {
-    let (mut out_exporters, mut out_packages) = (output(places[0]), output(places[1]));
-    let answer = graph.resolve(location, exporters, packages, &mut out_exporters, &mut out_packages);
-    shown(answer.map(|count| count.to_string()), format!("{} {}", joined(&out_exporters), joined(&out_packages)))
+fn resolve(graph: &Graph, location: u32, places: &[u32], candidates: Candidates) -> String {
+    let (exporters, packages) = (&mut output(places[0])[..], &mut output(places[1])[..]);
+    let mut versions: Vec<u16> = (0..places[2] as u16).map(|i| VERSION_FILL.wrapping_add(i)).collect();
+    let mut out = Offers { exporters, packages, versions: &mut versions };
+    let answer = graph.resolve(location, candidates, &mut out);
+    let lists = [joined(out.exporters), joined(out.packages), joined(out.versions)];
+    shown(answer.map(|count| count.to_string()), lists.join(" "))
 }
 
 /// An output list before a call.
@@ -125,8 +134,8 @@ fn output(places: u32) -> Vec<u32> {
     (0..places).map(|i| LIST_FILL + i).collect()
 }
 
-fn joined(numbers: &[u32]) -> String {
-    or_dash(numbers.iter().map(u32::to_string).collect::<Vec<_>>().join(","))
+fn joined<T: ToString>(numbers: &[T]) -> String {
+    or_dash(numbers.iter().map(T::to_string).collect::<Vec<_>>().join(","))
 }
 
 fn shown(answer: Result<String, Refusal>, out: String) -> String {
@@ -140,6 +149,10 @@ fn number(word: &str) -> u32 {
     word.parse().unwrap_or_else(|_| panic!("not a number: {word}"))
 }
 
+fn version(word: &str) -> u16 {
+    number(word).try_into().unwrap_or_else(|_| panic!("not a version: {word}"))
+}
+
 fn list(word: &str) -> Vec<u32> {
     if word == "-" {
         return Vec::new();
@@ -147,11 +160,18 @@ fn list(word: &str) -> Vec<u32> {
     word.split(',').map(number).collect()
 }
 
-fn part(word: &str) -> Part {
+fn versions(word: &str) -> Vec<u16> {
+    if word == "-" {
+        return Vec::new();
+    }
+    word.split(',').map(version).collect()
+}
+
+fn part<T>(word: &str, listed: impl FnOnce(&str) -> Vec<T>) -> Part<T> {
     if word == "*" {
         Part::All
     } else {
-        Part::Listed(list(word))
+        Part::Listed(listed(word))
     }
 }
 

@@ -37,7 +37,7 @@ mod-step m p h =
         let b : (m / p % 256 + 1) * p ≤ 256 * p = mul-le-mul-right p a in
         omega (arith, mod-lt m h, add-mul (m / p % 256) 1 p, mul-comm 256 p)
 
-pow-pos : (w : ℕ) → 0 < 256 ^ w
+pub pow-pos : (w : ℕ) → 0 < 256 ^ w
 pow-pos zero = omega arith
 pow-pos (suc w) = rw pow-suc (omega (arith, pow-pos w))
 

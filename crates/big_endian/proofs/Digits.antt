@@ -1,9 +1,9 @@
 -- The bytes of a number, and a number of whose bytes there is one more at the end.
 use mathlib.Core.Path.{_≡_, refl, sym, ap, _∙_, subst}
-use mathlib.Core.List.{List, [], _∷_, _++_, append-assoc}
+use mathlib.Core.List.{List, [], _∷_, _++_, append-assoc, append-nil}
 use Prim.Native.Nat.{ℕ, zero, suc, _+_, _*_, _/_, _%_, _^_, _≤_, _<_}
 use native.Mathlib.Numerals.{add-one}
-use native.Mathlib.Nat.{add-zero, pow-suc, mul-comm, div-one, mod-eq-of-lt, div-div-eq-div-mul}
+use native.Mathlib.Nat.{add-zero, zero-add, suc-add, pow-suc, mul-comm, div-one, mod-eq-of-lt, div-div-eq-div-mul, lt-of-lt-of-le, pow-le-pow-right}
 use native.Mathlib.Omega.{arith}
 use lib.ListN.{length, drop, getD}
 use lib.Seq.{drop-cons}
@@ -41,6 +41,22 @@ big-snoc (suc w) v b h = λ i. e i ∷ big-snoc w v b h i
         ap (λ (n : ℕ). (v * 256 + b) / n % 256) (pow-suc 256 w ∙ mul-comm (256 ^ w) 256)
         ∙ ap (λ (n : ℕ). n % 256) (sym (div-div-eq-div-mul (v * 256 + b) 256 (256 ^ w)) ∙ ap (λ (n : ℕ). n / 256 ^ w) d)
 
+-- the bytes of two numbers, one behind the other, are those of one number
+pub big-join : (a b n r : ℕ) → r < 256 ^ b → big (b + a) (n * 256 ^ b + r) ≡ big a n ++ big b r
+big-join a zero n r h =
+    let e : n * 256 ^ 0 + r ≡ n = omega arith in
+    (λ i. big (zero-add a i) (e i)) ∙ sym (append-nil (big a n))
+big-join a (suc b) n r h =
+    let q = r / 256 in
+    let l = r % 256 in
+    let small : l < 256 = omega arith in
+    let whole : q * 256 + l ≡ r = omega arith in
+    let above : q < 256 ^ b = omega (arith, pow-suc 256 b, h) in
+    let e : n * 256 ^ suc b + r ≡ (n * 256 ^ b + q) * 256 + l = rw pow-suc (omega arith) in
+    (λ i. big (suc-add b a i) (e i)) ∙ big-snoc (b + a) (n * 256 ^ b + q) l small
+    ∙ ap (λ (s : List ℕ). s ++ (l ∷ [])) (big-join a b n q above) ∙ append-assoc (big a n) (big b q) (l ∷ [])
+    ∙ ap (λ (s : List ℕ). big a n ++ s) (sym (big-snoc b q l small) ∙ ap (big (suc b)) whole)
+
 pub small-snoc : (w v b : ℕ) → v < 256 ^ w → b < 256 → v * 256 + b < 256 ^ suc w
 small-snoc w v b h k = rw pow-suc (omega arith)
 
@@ -65,14 +81,13 @@ digits-more {s} {at} {i} {n} d h {b} e k =
           d .shape ∙ ap (λ (l : List ℕ). big i n ++ l) next ∙ sym (append-assoc (big i n) (b ∷ []) rest) ∙ ap (λ (l : List ℕ). l ++ rest) snoc;
     }
 
--- a number of i bytes fits in 4 bytes, for i at most 4
-pub small-four : (i n : ℕ) → i ≤ 4 → n < 256 ^ i → n < 4294967296
-small-four zero n h k = omega arith
-small-four (suc zero) n h k = omega arith
-small-four (suc (suc zero)) n h k = omega arith
-small-four (suc (suc (suc zero))) n h k = omega arith
-small-four (suc (suc (suc (suc zero)))) n h k = omega arith
-small-four (suc (suc (suc (suc (suc i))))) n h k = absurd (omega arith)
+-- a number of i bytes is one of at most w bytes, for i at most w
+pub small-within : {i w n : ℕ} → i ≤ w → n < 256 ^ i → n < 256 ^ w
+small-within {i} {w} h k = lt-of-lt-of-le k (pow-le-pow-right (omega arith) h)
+
+-- a number with one byte more
+pub next-within : {i w n b : ℕ} → i < w → n < 256 ^ i → b < 256 → n * 256 + b < 256 ^ w
+next-within {i} {n = n} {b} h k l = small-within {i = suc i} h (small-snoc i n b k l)
 
 pub digits-all : {s : List ℕ} {at i n w : ℕ} → Digits s at i n → i ≡ w → at + w ≤ length s → Parsed (λ m. m < 256 ^ w) (big w) s at n (at + w)
 digits-all {s} {at} {i} {n} {w} d e h =

@@ -179,16 +179,16 @@ module _ (m : Model) (l : Legal m) where
   pub offered-net : ExporterNetRegions m (Offered m)
   offered-net c = retold-net (reached-offered c) (offered-reached c) (routes-net (λ r s e. crosses-members m (package-of c) r s l e .1))
 
-  -- what the number alone lets a region see is what some exporter offers it
-  module _ (n r : ℕ) where
+  -- what a package's number and version alone let a region see is what some exporter offers it
+  module _ (n v r : ℕ) where
     abbrev of-exporter : ℕ → Candidate
-    of-exporter e = record { exporter = e; number = n }
+    of-exporter e = record { exporter = e; number = n; version = v }
 
-    pub kept-sees : (e : ℕ) → Offered m (of-exporter e) r → Seen m (item (kind-number Kind.Package) n) r
+    pub kept-sees : (e : ℕ) → Offered m (of-exporter e) r → Seen m (item (kind-number Kind.Package) n v) r
     kept-sees e o = (o .path, carry (λ a b h. h) (λ s h. h .0) (o .route))
 
-    pub sees-kept : Seen m (item (kind-number Kind.Package) n) r → (e : ℕ) × Offered m (of-exporter e) r
+    pub sees-kept : Seen m (item (kind-number Kind.Package) n v) r → (e : ℕ) × Offered m (of-exporter e) r
     sees-kept s =
         let d = route-ends (s .1) in
-        let b = holder (provides (item (kind-number Kind.Package) n)) (d .region) (m .bundles) rising (d .holds) in
+        let b = holder (provides (item (kind-number Kind.Package) n v)) (d .region) (m .bundles) rising (d .holds) in
         (b .location, record { home = d .region; stands = b .stands; has-it = b .has-it; path = s .0; route = d .route })

@@ -7,28 +7,35 @@ use Rattle.region_graph.specs.Refusals.{broken-layout}
 use Rattle.region_graph.specs.Calls.{Call, run}
 use Rattle.region_routes.specs.Chosen.{chosen-by, chosen}
 use Rattle.text_lines.specs.Decimal.{decimal}
-use Rattle.region_archive.specs.Image.{version, image}
+use Rattle.region_archive.specs.Image.{image-in, image, older-version, older-image}
 use Rattle.region_listing.specs.Listing.{held, seen-from, header, listing-text, refused-word, refusal-text}
-use Rattle.demands.specs.JointTable.{graph-g, g-image, lines-of-g}
+use Rattle.demands.specs.JointTable.{graph-g, g-image, g-older-image, lines-of-g}
 
 pub image-of-g : image (run nothing graph-g) ≡ g-image
-unfolding image version
+unfolding image-in
 image-of-g = refl
 
-pub length-of-image : length g-image ≡ 84
+pub length-of-image : length g-image ≡ 108
 length-of-image = refl
 
--- the last region of version 1, the first of version 2, and the last of all
-pub image-of-early : image (run nothing (Call.add-region 0 ∷ Call.add-region 15 ∷ [])) ≡ 1 ∷ 0 ∷ 0 ∷ 0 ∷ 5 ∷ 2 ∷ 0 ∷ 15 ∷ 0 ∷ 0 ∷ []
-unfolding image version
+pub older-image-of-g : older-image (run nothing graph-g) ≡ g-older-image
+unfolding image-in older-version
+older-image-of-g = refl
+
+pub length-of-older : length g-older-image ≡ 84
+length-of-older = refl
+
+-- of the older images: the last region of version 1, the first of version 2, and the last of all
+pub image-of-early : older-image (run nothing (Call.add-region 0 ∷ Call.add-region 15 ∷ [])) ≡ 1 ∷ 0 ∷ 0 ∷ 0 ∷ 5 ∷ 2 ∷ 0 ∷ 15 ∷ 0 ∷ 0 ∷ []
+unfolding image-in older-version
 image-of-early = refl
 
-pub image-of-next : image (run nothing (Call.add-region 16 ∷ [])) ≡ 2 ∷ 0 ∷ 0 ∷ 0 ∷ 4 ∷ 1 ∷ 16 ∷ 0 ∷ 0 ∷ []
-unfolding image version
+pub image-of-next : older-image (run nothing (Call.add-region 16 ∷ [])) ≡ 2 ∷ 0 ∷ 0 ∷ 0 ∷ 4 ∷ 1 ∷ 16 ∷ 0 ∷ 0 ∷ []
+unfolding image-in older-version
 image-of-next = refl
 
-pub image-of-late : image (run nothing (Call.add-region 0 ∷ Call.add-region 63 ∷ [])) ≡ 2 ∷ 0 ∷ 0 ∷ 0 ∷ 5 ∷ 2 ∷ 0 ∷ 63 ∷ 0 ∷ 0 ∷ []
-unfolding image version
+pub image-of-late : older-image (run nothing (Call.add-region 0 ∷ Call.add-region 63 ∷ [])) ≡ 2 ∷ 0 ∷ 0 ∷ 0 ∷ 5 ∷ 2 ∷ 0 ∷ 63 ∷ 0 ∷ 0 ∷ []
+unfolding image-in older-version
 image-of-late = refl
 
 pub printed-g : listing-text (run nothing graph-g) ≡ header ++ lines-of-g

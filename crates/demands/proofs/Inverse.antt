@@ -1,11 +1,11 @@
 -- What the promises of the writer and of the reader say of each other.
-use mathlib.Core.Path.{_≡_, refl, sym, ap, _∙_}
+use mathlib.Core.Path.{_≡_, refl, sym, ap, _∙_, subst}
 use mathlib.Core.Bool.{Bool, true, false}
 use mathlib.Core.List.{List, [], _∷_}
 use Prim.Native.Nat.{ℕ, _≤_}
 use borrow.Author.Tests.{le-leb, eq-eqb, eqb-false}
 use lib.Dec.{eqb, leb}
-use lib.ListN.{length, take, drop}
+use lib.ListN.{length, take, drop, getD}
 use lib.Seq.{take-at}
 use Rattle.region_graph.specs.Refusals.{not-refused, no-place}
 use Rattle.region_graph.specs.Lists.{pick}
@@ -19,16 +19,22 @@ use Rattle.region_graph.proofs.Lists.{false-true}
 use Rattle.region_graph.proofs.Legal.{all-yes}
 use Rattle.region_graph.proofs.Storing.{meaning-injective}
 use Rattle.region_routes.specs.Hooks.{Outcome, written, judged}
-use Rattle.region_archive.specs.Image.{image}
+use Rattle.region_archive.specs.Image.{image, image-in, in-version}
 use Rattle.region_archive.specs.File.{FileMeaning, means, means-none, read-questions, read-number, read-model}
 use Rattle.region_archive.specs.Promise.{archived, write-outcome, Reads, ReadsOver}
 use Rattle.region_archive.specs.declared.Written.{Written}
 use Rattle.region_archive.specs.declared.Written.the-variants as Written
 use Rattle.region_archive.proofs.FileReads.{accepted, refused-model}
+use Rattle.region_archive.proofs.OneImage.{first-version}
 use Rattle.region_archive.proofs.Meaning.{file-meaning}
 
+-- the bytes are the image of version v of a model that has one
+abbrev pub Image : ℕ → Model → List ℕ → Type 0
+Image v m s = (in-version v m ≡ true) × (image-in v m ≡ s)
+
 -- a file that is no image is refused
-none-refused : {s : List ℕ} (n : (m : Model) → Legal m → image m ≡ s → ⊥) → read-number (means-none n) ≡ not-refused → ⊥
+none-refused : {s : List ℕ} (n : (v : ℕ) (m : Model) → Legal m → in-version v m ≡ true → image-in v m ≡ s → ⊥)
+    → read-number (means-none n) ≡ not-refused → ⊥
 none-refused n e = false-true (all-yes (read-questions (means-none n)) (refl, (refl, (refl, tt))) e .1 .1 .0)
 
 -- what a read gives by value is what a read over the empty record gives
@@ -52,24 +58,27 @@ module _ {g : Graph} {s : List ℕ} {r : Changed} (a : ReadsOver g s r) where
   accepted-model e f =
       a .says f .next ∙ ap (λ (b : Bool). pick b (read-model f) (meaning g)) (eq-eqb (read-number f) not-refused (sym (a .says f .number) ∙ e))
 
-  -- an accepted file is the image of what the record means
-  pub accepted-image : r .number ≡ not-refused → image (meaning (r .graph)) ≡ s
+  -- an accepted file is an image of what the record means, of the version that its first byte says
+  pub accepted-image : r .number ≡ not-refused → Image (getD s 0 0) (meaning (r .graph)) s
   accepted-image e = by (file-meaning s)
     where
-      by : (f : FileMeaning s) → image (meaning (r .graph)) ≡ s
-      by (means m l i) = ap image (accepted-model e (means m l i)) ∙ i
+      by : (f : FileMeaning s) → Image (getD s 0 0) (meaning (r .graph)) s
+      by (means v m l h i) =
+          subst (λ (w : ℕ). Image w (meaning (r .graph)) s) (first-version v m i)
+          (subst (λ (x : Model). Image v x s) (sym (accepted-model e (means v m l h i))) (h, i))
       by (means-none n) = absurd (none-refused n (sym (a .says (means-none n) .number) ∙ e))
 
-  -- a legal model's image is accepted, and read as that model
-  pub image-accepted : (m : Model) → Legal m → image m ≡ s → (r .number ≡ not-refused) × (meaning (r .graph) ≡ m)
-  image-accepted m l e =
-      let f = means m l e in
-      let n : r .number ≡ not-refused = a .says f .number ∙ sym (accepted f m l e .0) in
+  -- an image of a legal model is accepted, and read as that model
+  pub image-accepted : (v : ℕ) (m : Model) → Legal m → Image v m s → (r .number ≡ not-refused) × (meaning (r .graph) ≡ m)
+  image-accepted v m l i =
+      let f = means v m l (i .0) (i .1) in
+      let n : r .number ≡ not-refused = a .says f .number ∙ sym (accepted f v m (l, i .0) (i .1) .0) in
       (n, accepted-model n f)
 
-  -- where no valid record has the file as its image, it is refused
-  pub others-refused : ((h : Graph) → Valid h → image (meaning h) ≡ s → ⊥) → r .number ≡ not-refused → ⊥
-  others-refused u e = u (r .graph) (a .valid) (accepted-image e)
+  -- where no valid record has the file as an image, it is refused
+  pub others-refused : ((v : ℕ) (h : Graph) → Valid h → in-version v (meaning h) ≡ true → image-in v (meaning h) ≡ s → ⊥)
+      → r .number ≡ not-refused → ⊥
+  others-refused u e = let i = accepted-image e in u (getD s 0 0) (r .graph) (a .valid) (i .0) (i .1)
 
 -- two reads of one file, over one record, give one result
 pub read-settled : {g : Graph} {s : List ℕ} {x y : Changed} → ReadsOver g s x → ReadsOver g s y → x ≡ y

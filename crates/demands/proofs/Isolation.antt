@@ -41,11 +41,11 @@ module _ (inside : ℕ → Bool) (m n : Model) (agree : Agree inside m n) (legal
   alike : {A : Type 0} (f : Model → A) → f m ≡ f (restricted inside m) → f n ≡ f (restricted inside n) → f m ≡ f n
   alike f p q = p ∙ ap f (agree .same) ∙ sym q
 
-  route-same : (l kind number : ℕ) (entry : List ℕ) → InstalledIn inside m l
-      → route-outcome m l kind number entry ≡ route-outcome n l kind number entry
-  route-same l kind number entry w =
-      alike (λ x. route-outcome x l kind number entry) (route-inside inside m (agree .closed) l w kind number entry)
-      (route-inside inside n also-closed l (also-installed l w) kind number entry)
+  route-same : (l kind number version : ℕ) (entry : List ℕ) → InstalledIn inside m l
+      → route-outcome m l kind number version entry ≡ route-outcome n l kind number version entry
+  route-same l kind number version entry w =
+      alike (λ x. route-outcome x l kind number version entry) (route-inside inside m (agree .closed) l w kind number version entry)
+      (route-inside inside n also-closed l (also-installed l w) kind number version entry)
 
   find-same : (k : Kind) (l : ℕ) (xs entry : List ℕ) → InstalledIn inside m l → find-outcome m k l xs entry ≡ find-outcome n k l xs entry
   find-same k l xs entry w =
@@ -75,8 +75,8 @@ told-same {A} {E = E} f e t s =
 
 -- calls that tell of the outcomes that are promised
 record Tells {R K : Type 0} (f : Routed → R) (c : Kept → K) (route : RouteCalls R) (find event : ListCalls K) (resolve : ResolveCalls K) : Type 0 where
-  routes : {g : Graph} {l kind number : ℕ} {entry exit : List ℕ} {a : R} → route g l kind number entry a exit
-      → Told f (route-outcome (meaning g) l kind number entry) a exit
+  routes : {g : Graph} {l kind number version : ℕ} {entry exit : List ℕ} {a : R} → route g l kind number version entry a exit
+      → Told f (route-outcome (meaning g) l kind number version entry) a exit
   finds : {g : Graph} {k : Kind} {l : ℕ} {xs entry exit : List ℕ} {a : K} → find g k l xs entry a exit
       → Told c (find-outcome (meaning g) k l xs entry) a exit
   events : {g : Graph} {k : Kind} {number : ℕ} {xs entry exit : List ℕ} {a : K} → event g k number xs entry a exit
@@ -88,8 +88,8 @@ isolated : {R K : Type 0} (f : Routed → R) (c : Kept → K) {route : RouteCall
     → Tells f c route find event resolve → Isolated route find event resolve
 isolated f c t inside g h v w agree =
     record {
-      routes = λ {l} {kind} {number} {entry} i p q.
-          told-same f (route-same inside (meaning g) (meaning h) agree (v .good) (w .good) l kind number entry i) (t .routes p) (t .routes q);
+      routes = λ {l} {kind} {number} {version} {entry} i p q.
+          told-same f (route-same inside (meaning g) (meaning h) agree (v .good) (w .good) l kind number version entry i) (t .routes p) (t .routes q);
       finds = λ {k} {l} {xs} {entry} i p q.
           told-same c (find-same inside (meaning g) (meaning h) agree (v .good) (w .good) k l xs entry i) (t .finds p) (t .finds q);
       events = λ {k} {number} {xs} {entry} i p q.

@@ -28,23 +28,23 @@ pub record Meets (c : Interface) : Type 0 where
   pub reads : {s : List ℕ} {g h : Graph} {n : ℕ} → c .reads s g n h → ReadsOver g s (record { graph = h; number = n })
   pub writes : {g : Graph} {entry exit : List ℕ} {a : Written} → Valid g → c .writes g entry a exit
       → _≡_ {A = Outcome Written (List ℕ)} (archived a exit) (write-outcome (meaning g) entry)
-  pub routes : {g : Graph} {l kind number : ℕ} {entry exit : List ℕ} {a : Routed} → c .routes g l kind number entry a exit
-      → _≡_ {A = Outcome Routed (List ℕ)} (routed a exit) (route-outcome (meaning g) l kind number entry)
+  pub routes : {g : Graph} {l kind number version : ℕ} {entry exit : List ℕ} {a : Routed} → c .routes g l kind number version entry a exit
+      → _≡_ {A = Outcome Routed (List ℕ)} (routed a exit) (route-outcome (meaning g) l kind number version entry)
   pub finds : {g : Graph} {k : Kind} {l : ℕ} {xs entry exit : List ℕ} {a : Kept} → c .finds g k l xs entry a exit
       → _≡_ {A = Outcome Kept (List ℕ)} (kept a exit) (find-outcome (meaning g) k l xs entry)
   pub events : {g : Graph} {k : Kind} {number : ℕ} {xs entry exit : List ℕ} {a : Kept} → c .events g k number xs entry a exit
       → _≡_ {A = Outcome Kept (List ℕ)} (kept a exit) (event-outcome (meaning g) k xs number entry)
   pub resolves : {g : Graph} {l : ℕ} {xs : List Candidate} {entries exits : List (List ℕ)} {a : Kept} → c .resolves g l xs entries a exits
       → _≡_ {A = Outcome Kept (List (List ℕ))} (kept a exits) (resolve-outcome (meaning g) l xs entries)
-  pub asks : {s : List ℕ} {l kind number v : ℕ} → c .asks s l kind number v → Queried s l kind number v
+  pub asks : {s : List ℕ} {l kind number version v : ℕ} → c .asks s l kind number version v → Queried s l kind number version v
 
 -- by value each contract is the promise itself
 value-changes : {g h : Graph} {k : Call} {n : ℕ} → value.ValueChange g k n h → Follows g k (record { graph = h; number = n })
 value-changes (value.by-add-region r n h p) = p
 value-changes (value.by-remove-region r n h p) = p
-value-changes (value.by-install κs r l ps ss n h p) = p
+value-changes (value.by-install κs r l ps vs ss n h p) = p
 value-changes (value.by-uninstall l n h p) = p
-value-changes (value.by-connect κs r s bs p ps q ss n h w) = w
+value-changes (value.by-connect κs r s bs p ps ls hs q ss n h w) = w
 value-changes (value.by-disconnect r s n h p) = p
 
 value-reads : {s : List ℕ} {g h : Graph} {n : ℕ} → value.ValueRead s g n h → ReadsOver g s (record { graph = h; number = n })
@@ -55,13 +55,12 @@ value-writes : {g : Graph} {entry exit : List ℕ} {a : Written} → value.Value
     → _≡_ {A = Outcome Written (List ℕ)} (archived a exit) (write-outcome (meaning g) entry)
 value-writes (value.by-write κs was out a e) = e
 
-value-routes : {g : Graph} {l kind number : ℕ} {entry exit : List ℕ} {a : Routed} → value.ValueRoute g l kind number entry a exit
-    → _≡_ {A = Outcome Routed (List ℕ)} (routed a exit) (route-outcome (meaning g) l kind number entry)
+value-routes : {g : Graph} {l kind number version : ℕ} {entry exit : List ℕ} {a : Routed} → value.ValueRoute g l kind number version entry a exit
+    → _≡_ {A = Outcome Routed (List ℕ)} (routed a exit) (route-outcome (meaning g) l kind number version entry)
 value-routes (value.by-route κs was out a e) = e
 
 value-finds : {g : Graph} {k : Kind} {l : ℕ} {xs entry exit : List ℕ} {a : Kept} → value.ValueFind g k l xs entry a exit
     → _≡_ {A = Outcome Kept (List ℕ)} (kept a exit) (find-outcome (meaning g) k l xs entry)
-value-finds (value.by-find κs k l xs was out a e) = e
 value-finds (value.by-bundle-find κs l xs was out a e) = e
 value-finds (value.by-service-find κs l xs was out a e) = e
 
@@ -72,10 +71,10 @@ value-events (value.by-service-event κs number xs was out a e) = e
 
 value-resolves : {g : Graph} {l : ℕ} {xs : List Candidate} {entries exits : List (List ℕ)} {a : Kept} → value.ValueResolve g l xs entries a exits
     → _≡_ {A = Outcome Kept (List (List ℕ))} (kept a exits) (resolve-outcome (meaning g) l xs entries)
-value-resolves (value.by-resolve κs l es ns was-e was-n out-e out-n a e) = e
+value-resolves (value.by-resolve κs l es ns vs was-e was-n was-v out-e out-n out-v a e) = e
 
-value-asks : {s : List ℕ} {l kind number v : ℕ} → value.ValueAsk s l kind number v → Queried s l kind number v
-value-asks (value.by-archive-query κs bytes l kind number v q) = q
+value-asks : {s : List ℕ} {l kind number version v : ℕ} → value.ValueAsk s l kind number version v → Queried s l kind number version v
+value-asks (value.by-archive-query κs bytes l kind number version v q) = q
 
 pub meets-by-value : Meets value.by-value
 meets-by-value =
@@ -98,9 +97,9 @@ lent-empties (lent.by-empty κs was is e) = e
 lent-changes : {g h : Graph} {k : Call} {n : ℕ} → lent.LentChange g k n h → Follows g k (record { graph = h; number = n })
 lent-changes (lent.by-add κs was is r n p) = p
 lent-changes (lent.by-remove κs was is r n p) = p
-lent-changes (lent.by-install κs was is r l n ps ss p) = p
+lent-changes (lent.by-install κs was is r l n ps vs ss p) = p
 lent-changes (lent.by-uninstall κs was is l n p) = p
-lent-changes (lent.by-connect κs was is r s n bs p ps q ss w) = w
+lent-changes (lent.by-connect κs was is r s n bs p ps ls hs q ss w) = w
 lent-changes (lent.by-disconnect κs was is r s n p) = p
 
 lent-reads : {s : List ℕ} {g h : Graph} {n : ℕ} → lent.LentRead s g n h → ReadsOver g s (record { graph = h; number = n })
@@ -113,9 +112,9 @@ lent-writes v (lent.by-write κs g was out n e) =
     read-off written-as written-value written-of (write-whole m (was .now)) (written-back _ (write-given m (v .good) (was .now))) e
 
 -- the number that C gets, and what was lent, are those of the outcome
-pub c-routes : {g : Graph} {l kind number v : ℕ} {entry exit : List ℕ} → lent.CRoute g l kind number entry v exit
-    → _≡_ {A = CAnswer (List ℕ)} (answered v exit) (for-c routed-value (route-outcome (meaning g) l kind number entry))
-c-routes (lent.by-route κs g was out l kind number v e) = e
+pub c-routes : {g : Graph} {l kind number version v : ℕ} {entry exit : List ℕ} → lent.CRoute g l kind number version entry v exit
+    → _≡_ {A = CAnswer (List ℕ)} (answered v exit) (for-c routed-value (route-outcome (meaning g) l kind number version entry))
+c-routes (lent.by-route κs g was out l kind number version v e) = e
 
 pub c-finds : {g : Graph} {k : Kind} {l v : ℕ} {xs entry exit : List ℕ} → lent.CFind g k l xs entry v exit
     → _≡_ {A = CAnswer (List ℕ)} (answered v exit) (for-c kept-value (find-outcome (meaning g) k l xs entry))
@@ -129,13 +128,14 @@ c-events (lent.by-service-event κs g was xs out number v e) = e
 
 pub c-resolves : {g : Graph} {l v : ℕ} {xs : List Candidate} {entries exits : List (List ℕ)} → lent.CResolve g l xs entries v exits
     → _≡_ {A = CAnswer (List (List ℕ))} (answered v exits) (for-c kept-value (resolve-outcome (meaning g) l xs entries))
-c-resolves (lent.by-resolve κs g was-e was-n es ns out-e out-n l v e) = e
+c-resolves (lent.by-resolve κs g was-e was-n was-v es ns vs out-e out-n out-v l v e) = e
 
-lent-routes : {g : Graph} {l kind number : ℕ} {entry exit : List ℕ} {a : Routed} → lent.LentRoute g l kind number entry a exit
-    → _≡_ {A = Outcome Routed (List ℕ)} (routed a exit) (route-outcome (meaning g) l kind number entry)
-lent-routes {g} {l} {kind} {number} {entry} (lent.route-read p) =
+lent-routes : {g : Graph} {l kind number version : ℕ} {entry exit : List ℕ} {a : Routed} → lent.LentRoute g l kind number version entry a exit
+    → _≡_ {A = Outcome Routed (List ℕ)} (routed a exit) (route-outcome (meaning g) l kind number version entry)
+lent-routes {g} {l} {kind} {number} {version} {entry} (lent.route-read p) =
     let m = meaning g in
-    read-off routed-as routed-value routed-of (route-whole m l kind number entry) (routed-back _ (route-given m l kind number entry)) (c-routes p)
+    read-off routed-as routed-value routed-of (route-whole m l kind number version entry) (routed-back _ (route-given m l kind number version entry))
+    (c-routes p)
 
 lent-finds : {g : Graph} {k : Kind} {l : ℕ} {xs entry exit : List ℕ} {a : Kept} → lent.LentFind g k l xs entry a exit
     → _≡_ {A = Outcome Kept (List ℕ)} (kept a exit) (find-outcome (meaning g) k l xs entry)
@@ -155,8 +155,8 @@ lent-resolves {g} {l} {xs} {entries} (lent.resolve-read f p) =
     let m = meaning g in
     read-off kept-as kept-value kept-of (resolve-whole m l xs entries) (kept-back _ (resolve-given m l xs entries f)) (c-resolves p)
 
-lent-asks : {s : List ℕ} {l kind number v : ℕ} → lent.LentAsk s l kind number v → Queried s l kind number v
-lent-asks (lent.by-archive-query κs bytes l kind number v q) = q
+lent-asks : {s : List ℕ} {l kind number version v : ℕ} → lent.LentAsk s l kind number version v → Queried s l kind number version v
+lent-asks (lent.by-archive-query κs bytes l kind number version v q) = q
 
 pub meets-lent : Meets lent.lent
 meets-lent =

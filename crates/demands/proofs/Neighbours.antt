@@ -20,7 +20,7 @@ use Rattle.region_routes.specs.declared.Kind.{Kind}
 use Rattle.region_routes.specs.declared.Kind.the-variants as Kind
 use Rattle.region_routes.specs.declared.Kept.the-variants.{Wrote}
 use Rattle.demands.specs.Isolation.{restricted, Agree}
-use Rattle.demands.specs.JointTable.{bundle-of, passing, graph-g}
+use Rattle.demands.specs.JointTable.{bundle-of, passing, plain, ranges, graph-g}
 use Rattle.demands.proofs.Rows.{legal, words-g}
 
 abbrev one-and-two : ℕ → Bool
@@ -32,10 +32,10 @@ neighbours =
     Call.add-region 1
     ∷ Call.add-region 2
     ∷ Call.add-region 3
-    ∷ bundle-of 10 3 (1 ∷ 2 ∷ 3 ∷ []) (7 ∷ [])
-    ∷ bundle-of 20 1 (1 ∷ []) []
-    ∷ bundle-of 30 2 (1 ∷ 2 ∷ 3 ∷ []) []
-    ∷ passing 1 2 [] (Part.listed (1 ∷ 3 ∷ [])) (Part.listed [])
+    ∷ bundle-of 10 3 (plain (1 ∷ 2 ∷ 3 ∷ [])) (7 ∷ [])
+    ∷ bundle-of 20 1 (plain (1 ∷ [])) []
+    ∷ bundle-of 30 2 (plain (1 ∷ 2 ∷ 3 ∷ [])) []
+    ∷ passing 1 2 [] (ranges (1 ∷ 3 ∷ [])) (Part.listed [])
     ∷ passing 3 1 (20 ∷ []) Part.everything Part.everything
     ∷ []
 
@@ -92,7 +92,7 @@ leading-out-differs = (refl, refl, refl)
 
 -- G with another bundle 30, which lacks package 3
 abbrev exchanged : List Call
-exchanged = graph-g ++ (Call.uninstall 30 ∷ bundle-of 30 2 (1 ∷ 2 ∷ []) [] ∷ [])
+exchanged = graph-g ++ (Call.uninstall 30 ∷ bundle-of 30 2 (plain (1 ∷ 2 ∷ [])) [] ∷ [])
 
 -- the regions of the set and the connections leaving them are the same, but a bundle in them is not
 pub other-bundle-differs : (restricted one-and-two (run nothing graph-g) .regions ≡ restricted one-and-two (run nothing exchanged) .regions)

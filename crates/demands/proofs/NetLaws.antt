@@ -88,7 +88,7 @@ abbrev cyclic : Model
 cyclic = run nothing cycle
 
 abbrev unpublished : Item
-unpublished = item (kind-number Kind.Service) 77
+unpublished = item (kind-number Kind.Service) 77 0
 
 -- that every region sees the service solves the equation, though no region has a route to it
 pub all-see-solves : Solves (cyclic .regions) (PassesTo cyclic unpublished) (HeldAt cyclic unpublished) (λ r. Unit {0})

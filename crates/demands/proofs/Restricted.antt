@@ -226,8 +226,9 @@ module _ (inside : ℕ → Bool) (m : Model) (closed : Closed inside m) where
     sees-inside : (i : Item) → sees-at m i l ≡ sees-at only i l
     sees-inside i = rw (w .1, place-inside) (ap found (chosen-inside i (w .0) (w .2)))
 
-    pub route-inside : (kind number : ℕ) (entry : List ℕ) → route-outcome m l kind number entry ≡ route-outcome only l kind number entry
-    route-inside kind number entry = rw (w .1, place-inside, chosen-inside (item kind number) (w .0) (w .2))
+    pub route-inside : (kind number version : ℕ) (entry : List ℕ)
+        → route-outcome m l kind number version entry ≡ route-outcome only l kind number version entry
+    route-inside kind number version entry = rw (w .1, place-inside, chosen-inside (item kind number version) (w .0) (w .2))
 
     pub find-inside : (k : Kind) (xs entry : List ℕ) → find-outcome m k l xs entry ≡ find-outcome only k l xs entry
     find-inside k xs entry =
@@ -238,7 +239,7 @@ module _ (inside : ℕ → Bool) (m : Model) (closed : Closed inside m) where
         )
       where
         candidate : ℕ → Item
-        candidate = item (kind-number k)
+        candidate n = item (kind-number k) n 0
 
     pub resolve-inside : Legal m → (xs : List Candidate) (entries : List (List ℕ)) → resolve-outcome m l xs entries ≡ resolve-outcome only l xs entries
     resolve-inside legal xs entries =
@@ -260,4 +261,4 @@ module _ (inside : ℕ → Bool) (m : Model) (closed : Closed inside m) where
       )
     where
       i : Item
-      i = item (kind-number k) number
+      i = item (kind-number k) number 0

@@ -15,7 +15,8 @@ use Rattle.region_graph.proofs.Legal.{legal-nothing, legal-run, Words}
 use Rattle.region_routes.specs.Chosen.{chosen-by, chosen}
 use Rattle.region_routes.specs.Hooks.{item}
 use Rattle.region_routes.specs.Resolve.{Candidate, candidates, reaches, is-offered}
-use Rattle.demands.specs.JointTable.{Says, RowHolds, rows, graph-g, packages-of-30, cycle, diamond, two-exporters, resolves, routes, hides}
+use Rattle.demands.specs.JointTable.{Says, RowHolds, rows, resolves, routes, hides}
+use Rattle.demands.specs.JointTable.{graph-g, packages-of-30, cycle, diamond, two-exporters, editions, about-editions}
 use Rattle.region_routes.proofs.Choosing.{chosen-best, chosen-none}
 use Rattle.demands.proofs.Claims.{keep-selected}
 use Rattle.demands.proofs.Exporters.{test-offered, offered-test}
@@ -54,6 +55,23 @@ words-diamond = search needs depth 30 fits 4000
 words-two-exporters : All Words two-exporters
 words-two-exporters = search needs depth 30 fits 4000
 
+words-editions : All Words editions
+words-editions = search needs depth 30 fits 4000
+
+-- of three versions one is passed
+editions-say : All (Says editions) (about-editions)
+unfolding chosen chosen-by reaches
+editions-say = (
+  shows-none editions words-editions 10 0 (item 1 5 8) refl refl,
+  (
+    shows editions words-editions 10 0 (item 1 5 9) _ _ refl refl refl,
+    (
+      shows-none editions words-editions 10 0 (item 1 5 10) refl refl,
+      (keeps editions words-editions 10 0 (candidates (20 ∷ 20 ∷ 20 ∷ []) (5 ∷ 5 ∷ 5 ∷ []) (8 ∷ 9 ∷ 10 ∷ [])) refl, tt),
+    ),
+  ),
+)
+
 -- every row of the table holds
 pub every-row : All RowHolds rows
 unfolding chosen chosen-by reaches
@@ -62,24 +80,24 @@ every-row = (
   (
     (refl, (keeps graph-g words-g 20 1 packages-of-30 refl, tt)),
     (
-      (refl, (shows graph-g words-g 10 0 (item 1 1) _ _ refl refl refl, tt)),
+      (refl, (shows graph-g words-g 10 0 (item 1 1 0) _ _ refl refl refl, tt)),
       (
-        (refl, (shows-none graph-g words-g 10 0 (item 1 3) refl refl, tt)),
+        (refl, (shows-none graph-g words-g 10 0 (item 1 3 0) refl refl, tt)),
         (
-          (refl, (shows-none graph-g words-g 20 1 (item 0 30) refl refl, tt)),
+          (refl, (shows-none graph-g words-g 20 1 (item 0 30 0) refl refl, tt)),
           (
-            (refl, (shows graph-g words-g 10 0 (item 0 10) _ _ refl refl refl, tt)),
+            (refl, (shows graph-g words-g 10 0 (item 0 10 0) _ _ refl refl refl, tt)),
             (
-              (refl, (shows-none cycle words-cycle 10 3 (item 2 77) refl refl, (shows-none cycle words-cycle 20 4 (item 2 77) refl refl, tt))),
+              (refl, (shows-none cycle words-cycle 10 3 (item 2 77 0) refl refl, (shows-none cycle words-cycle 20 4 (item 2 77 0) refl refl, tt))),
               (
-                (refl, (shows diamond words-diamond 10 0 (item 2 5) _ _ refl refl refl, tt)),
+                (refl, (shows diamond words-diamond 10 0 (item 2 5 0) _ _ refl refl refl, tt)),
                 (
                   (refl, tt),
                   (
                     (refl, tt),
                     (
-                      (refl, (keeps two-exporters words-two-exporters 10 0 (candidates (20 ∷ 90 ∷ 20 ∷ []) (1 ∷ 1 ∷ 1 ∷ [])) refl, tt)),
-                      tt,
+                      (refl, (keeps two-exporters words-two-exporters 10 0 (candidates (20 ∷ 90 ∷ 20 ∷ []) (1 ∷ 1 ∷ 1 ∷ []) (0 ∷ 0 ∷ 0 ∷ [])) refl, tt)),
+                      ((refl, editions-say), ((refl, tt), tt)),
                     ),
                   ),
                 ),

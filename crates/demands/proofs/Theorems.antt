@@ -1,11 +1,13 @@
 -- The demands hold of both interfaces.
 use mathlib.Core.Path.{_≡_, refl, sym, ap, _∙_, subst}
 use mathlib.Core.Bool.{Bool, true, false}
+use mathlib.Core.Logic.{inl, inr, ⊎-elim}
 use mathlib.Core.List.{List, _∷_}
 use Prim.Native.Nat.{ℕ, _≤_}
 use native.Mathlib.Omega.{arith}
-use lib.ListN.{length}
-use borrow.Author.Tests.{le-leb, eq-eqb, ne-eqb}
+use lib.Dec.{leb}
+use lib.ListN.{length, getD}
+use borrow.Author.Tests.{le-leb, leb-true, eq-eqb, ne-eqb}
 use Rattle.region_graph.specs.Size.{regions}
 use Rattle.region_graph.specs.Refusals.{not-refused, broken-layout}
 use Rattle.region_graph.specs.Model.{Model, Legal}
@@ -29,19 +31,20 @@ use Rattle.region_routes.specs.declared.Routed.{Routed}
 use Rattle.region_routes.specs.declared.Routed.the-variants as Routed
 use Rattle.region_routes.specs.declared.Kept.{Kept}
 use Rattle.region_routes.specs.declared.Kept.the-variants as Kept
-use Rattle.region_archive.specs.Image.{image}
+use Rattle.region_archive.specs.Image.{latest, image, image-in, older-version}
 use Rattle.region_archive.specs.File.{read-questions, read-model}
 use Rattle.region_archive.specs.Promise.{archived, write-questions, seen-number, hidden-number, query-questions}
 use Rattle.region_archive.specs.declared.Written.{Written}
 use Rattle.region_archive.specs.declared.Written.the-variants as Written
 use Rattle.region_archive.proofs.OneImage as images
+use Rattle.region_archive.proofs.Versions.{in-cases, older-in}
 use Rattle.region_listing.proofs.ListingLaws.{model-legal}
-use Rattle.region_host.proofs.Given.{first-no-within}
+use Rattle.region_host.proofs.Given.{first-no-of, first-no-within}
 use Rattle.demands.specs.Claim.{Seen, Offered, InstalledWhere, QuerySays, says-seen, says-unseen, written-parts}
 use Rattle.demands.specs.Interface.{Interface, Started, from-empty, from-archive}
 use Rattle.demands.specs.ByValue.{by-value}
 use Rattle.demands.specs.Lent.{lent}
-use Rattle.demands.specs.Demands.{Questioned, RefusedAsAsked, HooksGiveNet, ArchiveInverts, Answers, WholeLists, QueriesAnswer, Demands}
+use Rattle.demands.specs.Demands.{Known, Questioned, RefusedAsAsked, HooksGiveNet, ArchiveInverts, Answers, WholeLists, QueriesAnswer, Demands}
 use Rattle.demands.proofs.Claims.{sees-seen, seen-sees, listener-sees, sees-listener, shown-says, kept-says, kept-same, judged-kept, judged-number}
 use Rattle.demands.proofs.Claims.{shown-number, resolve-judged}
 use Rattle.demands.proofs.NetLaws.{seen-net, same-net, place-member}
@@ -51,17 +54,20 @@ use Rattle.demands.proofs.Meets.{Meets, meets-by-value, meets-lent}
 
 -- ---- demand 1
 
--- each question has one of the seventeen numbers
-changes-known : (m : Model) (k : Call) → number m k ≤ broken-layout
-changes-known m k = first-no-within broken-layout (questions m k) (go k)
+-- each question has one of the numbers
+changes-known : (m : Model) (k : Call) → Known (number m k)
+changes-known m k = first-no-of Known (inl (omega arith)) (questions m k) (go k)
   where
-    go : (k : Call) → All (λ q. q .number ≤ broken-layout) (questions m k)
-    go (Call.add-region r) = (omega arith, (omega arith, tt))
-    go (Call.remove-region r) = (omega arith, (omega arith, tt))
-    go (Call.install b) = (omega arith, (omega arith, (omega arith, (omega arith, (omega arith, (omega arith, (omega arith, tt)))))))
-    go (Call.uninstall l) = (omega arith, tt)
-    go (Call.connect x) = (omega arith, (omega arith, (omega arith, (omega arith, (omega arith, (omega arith, (omega arith, tt)))))))
-    go (Call.disconnect r s) = (omega arith, (omega arith, (omega arith, (omega arith, tt))))
+    early : {n : ℕ} → leb n broken-layout ≡ true → Known n
+    early {n} h = inl (leb-true n broken-layout h)
+
+    go : (k : Call) → All (λ q. Known (q .number)) (questions m k)
+    go (Call.add-region r) = (early refl, (early refl, tt))
+    go (Call.remove-region r) = (early refl, (early refl, tt))
+    go (Call.install b) = (early refl, (early refl, (early refl, (early refl, (early refl, (early refl, (early refl, tt)))))))
+    go (Call.uninstall l) = (early refl, tt)
+    go (Call.connect x) = (early refl, (early refl, (early refl, (early refl, (early refl, (early refl, (inr refl, (early refl, tt))))))))
+    go (Call.disconnect r s) = (early refl, (early refl, (early refl, (early refl, tt))))
 
 within : {n k : ℕ} → n ≡ k → k ≤ broken-layout → n ≤ broken-layout
 within e h = omega (arith, e, h)
@@ -74,7 +80,7 @@ asked {A} {E} refused qs o entry x a z e =
     let n : x .returned .number ≡ first-no qs = ap (λ (y : Outcome A E). y .returned .number) e ∙ judged-number refused (first-no qs) o entry z in
     record {
       first = n;
-      known = rw n (first-no-within broken-layout qs a);
+      known = inl (within n (first-no-within broken-layout qs a));
       kept = λ u. ap (λ (y : Outcome A E). y .exit) e ∙ judged-kept refused (first-no qs) o entry (λ k. u (n ∙ k));
     }
 
@@ -83,32 +89,34 @@ refused-as-asked t =
     record {
       changes = λ {g} {h} {k} {n} p.
           let f = t .changes p in
-          record { first = f .number; known = within (f .number) (changes-known (meaning g) k); kept = f .kept };
+          record { first = f .number; known = subst Known (sym (f .number)) (changes-known (meaning g) k); kept = f .kept };
       reads = λ {s} {g} {h} {n} p f.
           let r = t .reads p in
           record {
             first = r .says f .number;
-            known = within (r .says f .number)
-                (first-no-within broken-layout (read-questions f) (omega arith, (omega arith, (omega arith, tt))));
+            known =
+                inl (within (r .says f .number)
+                (first-no-within broken-layout (read-questions f) (omega arith, (omega arith, (omega arith, tt)))));
             kept = r .kept;
           };
       writes = λ {g} {entry} {exit} {a} v p.
           let i = image (meaning g) in
           asked Written.Refused (write-questions (meaning g) entry) (archived (Written.Bytes (length i)) (written i entry)) entry (archived a exit)
           (omega arith, tt) refl (t .writes v p);
-      routes = λ {g} {l} {kind} {number} {entry} {exit} {a} p.
+      routes = λ {g} {l} {kind} {number} {version} {entry} {exit} {a} p.
           let m = meaning g in
-          asked Routed.Refused (route-questions m l kind entry) (shown-from m (item kind number) (place-of (m .bundles) l) entry) entry (routed a exit)
-          (omega arith, (omega arith, (omega arith, tt))) (shown-number m (item kind number) (place-of (m .bundles) l) entry) (t .routes p);
+          asked Routed.Refused (route-questions m l kind entry) (shown-from m (item kind number version) (place-of (m .bundles) l) entry) entry
+          (routed a exit) (omega arith, (omega arith, (omega arith, tt))) (shown-number m (item kind number version) (place-of (m .bundles) l) entry)
+          (t .routes p);
       finds = λ {g} {k} {l} {xs} {entry} {exit} {a} p.
           let m = meaning g in
           asked Kept.Refused (find-questions m l xs entry)
-          (kept-outcome (keep (λ n. sees-from m (item (kind-number k) n) (place-of (m .bundles) l)) xs) entry) entry (kept a exit)
+          (kept-outcome (keep (λ n. sees-from m (item (kind-number k) n 0) (place-of (m .bundles) l)) xs) entry) entry (kept a exit)
           (omega arith, (omega arith, tt)) refl (t .finds p);
       events = λ {g} {k} {number} {xs} {entry} {exit} {a} p.
           let m = meaning g in
           asked Kept.Refused (event-questions m xs entry)
-          (kept-outcome (keep (λ l. sees-from m (item (kind-number k) number) (place-of (m .bundles) l)) xs) entry) entry (kept a exit)
+          (kept-outcome (keep (λ l. sees-from m (item (kind-number k) number 0) (place-of (m .bundles) l)) xs) entry) entry (kept a exit)
           (omega arith, (omega arith, tt)) refl (t .events p);
       resolves = λ {g} {l} {xs} {entries} {exits} {a} p.
           let m = meaning g in
@@ -139,17 +147,18 @@ resolve-answered m l r xs entries p b = λ i. resolve-judged (is-installed (p i)
 -- a valid record answers as the routes of what it means say
 answers : {c : Interface} → Meets c → {g : Graph} {m : Model} → Means g m → Answers c g m
 answers t {g} {m} w = record {
-  routes = λ {l} {r} {kind} {number} {entry} {exit} {a} p k b q.
-      shown-says m legal (item kind number) r entry exit a
-      (t .routes q ∙ ap (λ (x : Model). route-outcome x l kind number entry) (w .model) ∙ rw (p, le-leb kind 2 k, le-leb regions (length entry) b));
+  routes = λ {l} {r} {kind} {number} {version} {entry} {exit} {a} p k b q.
+      shown-says m legal (item kind number version) r entry exit a
+      (t .routes q ∙ ap (λ (x : Model). route-outcome x l kind number version entry) (w .model)
+      ∙ rw (p, le-leb kind 2 k, le-leb regions (length entry) b));
   finds = λ {k} {l} {r} {xs} {entry} {exit} {a} p b q.
-      kept-says written (λ n. Seen m (item (kind-number k) n) r) (λ n. sees m (item (kind-number k) n) r)
-      (λ n. sees-seen m legal (item (kind-number k) n) r) (λ n. seen-sees m legal (item (kind-number k) n) r) xs entry exit a
+      kept-says written (λ n. Seen m (item (kind-number k) n 0) r) (λ n. sees m (item (kind-number k) n 0) r)
+      (λ n. sees-seen m legal (item (kind-number k) n 0) r) (λ n. seen-sees m legal (item (kind-number k) n 0) r) xs entry exit a
       (t .finds q ∙ ap (λ (x : Model). find-outcome x k l xs entry) (w .model) ∙ rw (p, le-leb (length xs) (length entry) b));
   events = λ {k} {number} {xs} {entry} {exit} {a} p b q.
-      kept-says written (λ l. InstalledWhere m l (Seen m (item (kind-number k) number)))
-      (λ l. sees-from m (item (kind-number k) number) (place-of (m .bundles) l))
-      (λ l. listener-sees m legal (item (kind-number k) number) l) (λ l. sees-listener m legal (item (kind-number k) number) l) xs entry exit a
+      kept-says written (λ l. InstalledWhere m l (Seen m (item (kind-number k) number 0)))
+      (λ l. sees-from m (item (kind-number k) number 0) (place-of (m .bundles) l))
+      (λ l. listener-sees m legal (item (kind-number k) number 0) l) (λ l. sees-listener m legal (item (kind-number k) number 0) l) xs entry exit a
       (t .events q ∙ ap (λ (x : Model). event-outcome x k xs number entry) (w .model) ∙ rw (p, le-leb (length xs) (length entry) b));
   resolves = λ {l} {r} {xs} {entries} {exits} {a} p b q.
       kept-says written-parts (λ x. Offered m x r) (λ x. is-offered m x r) (λ x. test-offered m legal x r) (λ x. offered-test m legal x r)
@@ -198,12 +207,12 @@ hooks-give-net t =
           let m = meaning g in
           let h = place-member m (v .good) l r p in
           let s = seen-net m (v .good) in
-          let i = item (kind-number k) in
+          let i : ℕ → Item = λ x. item (kind-number k) x 0 in
           kept-same (λ x. same-net (s (i x)) (n (i x)) r h) (λ x. same-net (n (i x)) (s (i x)) r h) (answers t (itself v) .finds p b q);
       events = λ {g} {k} {number} v net n p b q.
           let m = meaning g in
           let s = seen-net m (v .good) in
-          let i = item (kind-number k) number in
+          let i = item (kind-number k) number 0 in
           kept-same (λ l w. (w .0, w .1, same-net (s i) (n i) (w .0) (place-member m (v .good) l (w .0) (w .1)) (w .2)))
           (λ l w. (w .0, w .1, same-net (n i) (s i) (w .0) (place-member m (v .good) l (w .0) (w .1)) (w .2)))
           (answers t (itself v) .events p b q);
@@ -222,14 +231,24 @@ archive-inverts t =
     record {
       write-read = λ {g} {old} {h} {entry} {exit} {k} {n} v w p.
           let r = t .reads p in
-          let q = image-accepted r (meaning g) (v .good) (written-image (meaning g) entry exit k (t .writes v w)) in
+          let q = image-accepted r latest (meaning g) (v .good) (refl, written-image (meaning g) entry exit k (t .writes v w)) in
           (q .0, meaning-injective h g (r .valid) v (q .1));
-      read-write = λ {s} {old} {h} {n} {entry} {exit} {a} p z b w.
+      read-write = λ {s} {old} {h} {n} {entry} {exit} {a} p z first b w.
           let r = t .reads p in
           let e : archived a exit ≡ archived (Written.Bytes (length s)) (written s entry) =
-          t .writes (r .valid) w ∙ image-written (meaning h) s entry (accepted-image r z) b in
+          t .writes (r .valid) w
+          ∙ image-written (meaning h) s entry (subst (λ (v : ℕ). image-in v (meaning h) ≡ s) first (accepted-image r z .1)) b in
           (ap (λ (o : Outcome Written (List ℕ)). o .answer) e, ap (λ (o : Outcome Written (List ℕ)). o .exit) e);
-      one-image = λ g h v w e. meaning-injective g h v w (images.one-image (meaning g) (meaning h) (v .good) (w .good) e);
+      one-image = λ g h v w e.
+          meaning-injective g h v w (images.one-image latest latest (meaning g) (meaning h) (v .good, refl) (w .good, refl) e .1);
+      older-read = λ {s} {old} {h} p z u.
+          let i = accepted-image (t .reads p) z in
+          ⊎-elim (λ e. absurd (u e)) (λ q. (q .0, subst (λ (v : ℕ). image-in v (meaning h) ≡ s) (q .1) (i .1)))
+          (in-cases (getD s 0 0) (meaning h) (i .0));
+      older-accepted = λ {g} {old} {h} v u p.
+          let r = t .reads p in
+          let q = image-accepted r (older-version (meaning g .regions)) (meaning g) (v .good) (older-in (meaning g) u refl, refl) in
+          (q .0, meaning-injective h g (r .valid) v (q .1));
       others-refused = λ u p.
           let r = t .reads p in
           (others-refused r u, r .kept (others-refused r u));
@@ -252,13 +271,13 @@ seen-or-not m h i r = go (sees m i r) refl
 pub queries-answer : {c : Interface} → Meets c → QueriesAnswer c
 queries-answer t =
     record {
-      asks = λ {s} {l} {kind} {number} {v} p f z.
+      asks = λ {s} {l} {kind} {number} {version} {v} p f z.
           let m = read-model f in
           let q = placed (place-of (m .bundles) l) (all-yes (query-questions f l kind) (refl, (refl, (refl, (refl, (refl, tt))))) z .1 .1 .1 .0) in
-          let e : v ≡ pick (sees m (item kind number) (q .0)) seen-number hidden-number =
+          let e : v ≡ pick (sees m (item kind number version) (q .0)) seen-number hidden-number =
           t .asks p f ∙ pick-yes _ _ (eq-eqb (first-no (query-questions f l kind)) not-refused z)
-          ∙ ap (λ (x : Place). pick (sees-from m (item kind number) x) seen-number hidden-number) (q .1) in
-          (q .0, q .1, subst (QuerySays m (item kind number) (q .0)) (sym e) (seen-or-not m (model-legal f) (item kind number) (q .0)));
+          ∙ ap (λ (x : Place). pick (sees-from m (item kind number version) x) seen-number hidden-number) (q .1) in
+          (q .0, q .1, subst (QuerySays m (item kind number version) (q .0)) (sym e) (seen-or-not m (model-legal f) (item kind number version) (q .0)));
     }
 
 pub demands : {c : Interface} → Meets c → Demands c

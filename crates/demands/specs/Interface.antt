@@ -14,9 +14,9 @@ use Rattle.region_routes.specs.declared.Kept.{Kept}
 use Rattle.region_archive.specs.File.{FileMeaning, read-model}
 use Rattle.region_archive.specs.declared.Written.{Written}
 
--- a route call on a record, with location, kind and number of the item, then the buffer before, the answer and the buffer after
+-- a route call on a record, with location, kind, number and version of the item, then the buffer before, the answer and the buffer after
 abbrev pub RouteCalls : Type 0 → Type 1
-RouteCalls A = Graph → ℕ → ℕ → ℕ → List ℕ → A → List ℕ → Type 0
+RouteCalls A = Graph → ℕ → ℕ → ℕ → ℕ → List ℕ → A → List ℕ → Type 0
 
 -- the same of a find on a record, with location and candidates, or of an event on it, with the item's number and the listeners
 abbrev pub ListCalls : Type 0 → Type 1
@@ -39,8 +39,8 @@ pub record Interface : Type 1 where
   pub finds : ListCalls Kept
   pub events : ListCalls Kept
   pub resolves : ResolveCalls Kept
-  -- an archive query of a file, with location, kind and number of the item, returned v
-  pub asks : List ℕ → ℕ → ℕ → ℕ → ℕ → Type 0
+  -- an archive query of a file, with location, kind, number and version of the item, returned v
+  pub asks : List ℕ → ℕ → ℕ → ℕ → ℕ → ℕ → Type 0
 
 -- The records from which a list of calls can start, each with the model from which the plain record starts: the empty one, and what an
 -- accepted read gave. Each file has a meaning (`file-meaning`).

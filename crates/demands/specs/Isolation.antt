@@ -38,8 +38,8 @@ InstalledIn inside m l = InstalledWhere m l (λ r. inside r ≡ true)
 -- also where it is refused. That a bundle is installed in the set is asked of g alone, and of the exporters of candidates nothing is asked.
 pub record SameAnswers {R K : Type 0} (route : RouteCalls R) (find event : ListCalls K) (resolve : ResolveCalls K) (inside : ℕ → Bool)
     (g h : Graph) : Type 0 where
-  pub routes : {l kind number : ℕ} {entry exit exit′ : List ℕ} {a b : R} → InstalledIn inside (meaning g) l
-      → route g l kind number entry a exit → route h l kind number entry b exit′ → (a ≡ b) × (exit ≡ exit′)
+  pub routes : {l kind number version : ℕ} {entry exit exit′ : List ℕ} {a b : R} → InstalledIn inside (meaning g) l
+      → route g l kind number version entry a exit → route h l kind number version entry b exit′ → (a ≡ b) × (exit ≡ exit′)
   pub finds : {k : Kind} {l : ℕ} {xs entry exit exit′ : List ℕ} {a b : K} → InstalledIn inside (meaning g) l
       → find g k l xs entry a exit → find h k l xs entry b exit′ → (a ≡ b) × (exit ≡ exit′)
   pub events : {k : Kind} {number : ℕ} {xs entry exit exit′ : List ℕ} {a b : K} → All (InstalledIn inside (meaning g)) xs

@@ -11,6 +11,7 @@ use denote.Ref.{RefT}
 use borrow.Fn.Claims.{AllOf}
 use borrow.Fn.Read.{ReadAt, no-know, r-last}
 use borrow.Fn.World.{World, Pr, w₀}
+use Rattle.region_graph.specs.Model.{packages, entries}
 use Rattle.region_graph.specs.Calls.{Call}
 use Rattle.region_graph.specs.Promise.{new-bundle, new-connection}
 use Rattle.region_graph.specs.declared.Graph.{Graph}
@@ -24,19 +25,19 @@ use Rattle.region_host.specs.CNumbers.{routed-of, kept-of, written-of, CountFit
 use Rattle.region_host.proofs.region_empty as empty
 use Rattle.region_host.proofs.region_add as add
 use Rattle.region_host.proofs.region_remove as remove
-use Rattle.region_host.proofs.region_install as install
+use Rattle.region_host.proofs.region_install_v4 as install
 use Rattle.region_host.proofs.region_uninstall as uninstall
-use Rattle.region_host.proofs.region_connect as connect
+use Rattle.region_host.proofs.region_connect_v4 as connect
 use Rattle.region_host.proofs.region_disconnect as disconnect
 use Rattle.region_host.proofs.region_read as read
 use Rattle.region_host.proofs.region_write as write
-use Rattle.region_host.proofs.region_route as route
+use Rattle.region_host.proofs.region_route_v4 as route
 use Rattle.region_host.proofs.region_bundle_find as bundle-find
 use Rattle.region_host.proofs.region_service_find as service-find
 use Rattle.region_host.proofs.region_bundle_event as bundle-event
 use Rattle.region_host.proofs.region_service_event as service-event
-use Rattle.region_host.proofs.region_resolve_v3 as resolve
-use Rattle.region_host.proofs.archive_query.Reads as archive-query
+use Rattle.region_host.proofs.region_resolve_v4 as resolve
+use Rattle.region_host.proofs.archive_query_v4.Reads as archive-query
 use Rattle.demands.specs.Interface.{Interface}
 
 -- the facts that an assertion tells, the same in every world
@@ -66,20 +67,20 @@ Removes κs was r is n =
     Facts (λ w. remove.clauses (w .𝓤) (w .H) (w .𝓖 .A) (w .𝓜 .mem) (w .𝓡 .run) κs (was, (r, tt))
     .ensures tt n (is, (r, tt))) (λ w. r-last _) (λ w. refl)
 
-abbrev Installs : Lfts 3 → LentGraph → ℕ → ℕ → Slice → Slice → LentGraph → ℕ → Type 0
-Installs κs was r l ps ss is n =
-    Facts (λ w. install.clauses (w .𝓤) (w .H) (w .𝓖 .A) (w .𝓜 .mem) (w .𝓡 .run) κs (was, (r, (l, (ps, (ss, tt)))))
-    .ensures tt n (is, (r, (l, (ps, (ss, tt)))))) (λ w. r-last _) (λ w. refl)
+abbrev Installs : Lfts 4 → LentGraph → ℕ → ℕ → Slice → Slice → Slice → LentGraph → ℕ → Type 0
+Installs κs was r l ps vs ss is n =
+    Facts (λ w. install.clauses (w .𝓤) (w .H) (w .𝓖 .A) (w .𝓜 .mem) (w .𝓡 .run) κs (was, (r, (l, (ps, (vs, (ss, tt))))))
+    .ensures tt n (is, (r, (l, (ps, (vs, (ss, tt))))))) (λ w. r-last _) (λ w. refl)
 
 abbrev Uninstalls : Lfts 1 → LentGraph → ℕ → LentGraph → ℕ → Type 0
 Uninstalls κs was l is n =
     Facts (λ w. uninstall.clauses (w .𝓤) (w .H) (w .𝓖 .A) (w .𝓜 .mem) (w .𝓡 .run) κs (was, (l, tt))
     .ensures tt n (is, (l, tt))) (λ w. r-last _) (λ w. refl)
 
-abbrev Connects : Lfts 4 → LentGraph → ℕ → ℕ → Slice → Bool → Slice → Bool → Slice → LentGraph → ℕ → Type 0
-Connects κs was r s bs p ps q ss is n =
-    Facts (λ w. connect.clauses (w .𝓤) (w .H) (w .𝓖 .A) (w .𝓜 .mem) (w .𝓡 .run) κs (was, (r, (s, (bs, (p, (ps, (q, (ss, tt))))))))
-    .ensures tt n (is, (r, (s, (bs, (p, (ps, (q, (ss, tt))))))))) (λ w. r-last _) (λ w. refl)
+abbrev Connects : Lfts 6 → LentGraph → ℕ → ℕ → Slice → Bool → Slice → Slice → Slice → Bool → Slice → LentGraph → ℕ → Type 0
+Connects κs was r s bs p ps ls hs q ss is n =
+    Facts (λ w. connect.clauses (w .𝓤) (w .H) (w .𝓖 .A) (w .𝓜 .mem) (w .𝓡 .run) κs (was, (r, (s, (bs, (p, (ps, (ls, (hs, (q, (ss, tt))))))))))
+    .ensures tt n (is, (r, (s, (bs, (p, (ps, (ls, (hs, (q, (ss, tt))))))))))) (λ w. r-last _) (λ w. refl)
 
 abbrev Disconnects : Lfts 1 → LentGraph → ℕ → ℕ → LentGraph → ℕ → Type 0
 Disconnects κs was r s is n =
@@ -96,10 +97,10 @@ WritesImage κs g buffer out v =
     Facts (λ w. write.clauses (w .𝓤) (w .H) (w .𝓖 .A) (w .𝓜 .mem) (w .𝓡 .run) κs (g, (buffer, tt))
     .ensures tt v (g, (out, tt))) (λ w. r-last _) (λ w. refl)
 
-abbrev FindsRoute : Lfts 2 → LentGraph → Slice → ℕ → ℕ → ℕ → Slice → ℕ → Type 0
-FindsRoute κs g buffer l kind number out v =
-    Facts (λ w. route.clauses (w .𝓤) (w .H) (w .𝓖 .A) (w .𝓜 .mem) (w .𝓡 .run) κs (g, (buffer, (l, (kind, (number, tt)))))
-    .ensures tt v (g, (out, (l, (kind, (number, tt)))))) (λ w. r-last _) (λ w. refl)
+abbrev FindsRoute : Lfts 2 → LentGraph → Slice → ℕ → ℕ → ℕ → ℕ → Slice → ℕ → Type 0
+FindsRoute κs g buffer l kind number version out v =
+    Facts (λ w. route.clauses (w .𝓤) (w .H) (w .𝓖 .A) (w .𝓜 .mem) (w .𝓡 .run) κs (g, (buffer, (l, (kind, (number, (version, tt))))))
+    .ensures tt v (g, (out, (l, (kind, (number, (version, tt))))))) (λ w. r-last _) (λ w. refl)
 
 abbrev FindsBundles : Lfts 3 → LentGraph → Slice → ℕ → Slice → Slice → ℕ → Type 0
 FindsBundles κs g buffer l xs out v =
@@ -121,20 +122,20 @@ TellsService κs g buffer xs number out v =
     Facts (λ w. service-event.clauses (w .𝓤) (w .H) (w .𝓖 .A) (w .𝓜 .mem) (w .𝓡 .run) κs (g, (buffer, (xs, (number, tt))))
     .ensures tt v (g, (out, (xs, (number, tt))))) (λ w. r-last _) (λ w. refl)
 
-abbrev Resolves : Lfts 5 → LentGraph → Slice → Slice → ℕ → Slice → Slice → Slice → Slice → ℕ → Type 0
-Resolves κs g was-e was-n l es ns out-e out-n v =
-    Facts (λ w. resolve.clauses (w .𝓤) (w .H) (w .𝓖 .A) (w .𝓜 .mem) (w .𝓡 .run) κs (g, (was-e, (was-n, (l, (es, (ns, tt))))))
-    .ensures tt v (g, (out-e, (out-n, (l, (es, (ns, tt))))))) (λ w. r-last _) (λ w. refl)
+abbrev Resolves : Lfts 7 → LentGraph → Slice → Slice → Slice → ℕ → Slice → Slice → Slice → Slice → Slice → Slice → ℕ → Type 0
+Resolves κs g was-e was-n was-v l es ns vs out-e out-n out-v v =
+    Facts (λ w. resolve.clauses (w .𝓤) (w .H) (w .𝓖 .A) (w .𝓜 .mem) (w .𝓡 .run) κs (g, (was-e, (was-n, (was-v, (l, (es, (ns, (vs, tt))))))))
+    .ensures tt v (g, (out-e, (out-n, (out-v, (l, (es, (ns, (vs, tt))))))))) (λ w. r-last _) (λ w. refl)
 
 pub data LentChange : Graph → Call → ℕ → Graph → Type 0 where
   by-add : (κs : Lfts 1) (was is : LentGraph) (r n : ℕ) → Adds κs was r is n → LentChange (was .now) (Call.add-region r) n (is .now)
   by-remove : (κs : Lfts 1) (was is : LentGraph) (r n : ℕ) → Removes κs was r is n → LentChange (was .now) (Call.remove-region r) n (is .now)
-  by-install : (κs : Lfts 3) (was is : LentGraph) (r l n : ℕ) (ps ss : Slice) → Installs κs was r l ps ss is n
-      → LentChange (was .now) (Call.install (new-bundle r l (ps .now) (ss .now))) n (is .now)
+  by-install : (κs : Lfts 4) (was is : LentGraph) (r l n : ℕ) (ps vs ss : Slice) → Installs κs was r l ps vs ss is n
+      → LentChange (was .now) (Call.install (new-bundle r l (packages (ps .now) (vs .now)) (ss .now))) n (is .now)
   by-uninstall : (κs : Lfts 1) (was is : LentGraph) (l n : ℕ) → Uninstalls κs was l is n → LentChange (was .now) (Call.uninstall l) n (is .now)
-  by-connect : (κs : Lfts 4) (was is : LentGraph) (r s n : ℕ) (bs : Slice) (p : Bool) (ps : Slice) (q : Bool) (ss : Slice)
-      → Connects κs was r s bs p ps q ss is n
-      → LentChange (was .now) (Call.connect (new-connection r s (bs .now) p (ps .now) q (ss .now))) n (is .now)
+  by-connect : (κs : Lfts 6) (was is : LentGraph) (r s n : ℕ) (bs : Slice) (p : Bool) (ps ls hs : Slice) (q : Bool) (ss : Slice)
+      → Connects κs was r s bs p ps ls hs q ss is n
+      → LentChange (was .now) (Call.connect (new-connection r s (bs .now) p (entries (ps .now) (ls .now) (hs .now)) q (ss .now))) n (is .now)
   by-disconnect : (κs : Lfts 1) (was is : LentGraph) (r s n : ℕ) → Disconnects κs was r s is n → LentChange (was .now) (Call.disconnect r s) n (is .now)
 
 -- a refused read leaves the lent record as it was
@@ -146,9 +147,9 @@ pub data LentWrite : Graph → List ℕ → Written → List ℕ → Type 0 wher
   by-write : (κs : Lfts 2) (g : LentGraph) (was out : Slice) (v : ℕ) → WritesImage κs g was out v → LentWrite (g .now) (was .now) (written-of v) (out .now)
 
 -- the number that C gets for a route call, a find, an event or resolve
-pub data CRoute : Graph → ℕ → ℕ → ℕ → List ℕ → ℕ → List ℕ → Type 0 where
-  by-route : (κs : Lfts 2) (g : LentGraph) (was out : Slice) (l kind number v : ℕ) → FindsRoute κs g was l kind number out v
-      → CRoute (g .now) l kind number (was .now) v (out .now)
+pub data CRoute : Graph → ℕ → ℕ → ℕ → ℕ → List ℕ → ℕ → List ℕ → Type 0 where
+  by-route : (κs : Lfts 2) (g : LentGraph) (was out : Slice) (l kind number version v : ℕ) → FindsRoute κs g was l kind number version out v
+      → CRoute (g .now) l kind number version (was .now) v (out .now)
 
 pub data CFind : Graph → Kind → ℕ → List ℕ → List ℕ → ℕ → List ℕ → Type 0 where
   by-bundle-find : (κs : Lfts 3) (g : LentGraph) (was xs out : Slice) (l v : ℕ) → FindsBundles κs g was l xs out v
@@ -163,12 +164,14 @@ pub data CEvent : Graph → Kind → ℕ → List ℕ → List ℕ → ℕ → L
       → CEvent (g .now) Kind.Service number (xs .now) (was .now) v (out .now)
 
 pub data CResolve : Graph → ℕ → List Candidate → List (List ℕ) → ℕ → List (List ℕ) → Type 0 where
-  by-resolve : (κs : Lfts 5) (g : LentGraph) (was-e was-n es ns out-e out-n : Slice) (l v : ℕ) → Resolves κs g was-e was-n l es ns out-e out-n v
-      → CResolve (g .now) l (candidates (es .now) (ns .now)) (was-e .now ∷ was-n .now ∷ []) v (out-e .now ∷ out-n .now ∷ [])
+  by-resolve : (κs : Lfts 7) (g : LentGraph) (was-e was-n was-v es ns vs out-e out-n out-v : Slice) (l v : ℕ)
+      → Resolves κs g was-e was-n was-v l es ns vs out-e out-n out-v v
+      → CResolve (g .now) l (candidates (es .now) (ns .now) (vs .now)) (was-e .now ∷ was-n .now ∷ was-v .now ∷ []) v
+      (out-e .now ∷ out-n .now ∷ out-v .now ∷ [])
 
 -- the answer that C reads in it
-pub data LentRoute (g : Graph) (l kind number : ℕ) (entry : List ℕ) : Routed → List ℕ → Type 0 where
-  route-read : {v : ℕ} {exit : List ℕ} → CRoute g l kind number entry v exit → LentRoute g l kind number entry (routed-of v) exit
+pub data LentRoute (g : Graph) (l kind number version : ℕ) (entry : List ℕ) : Routed → List ℕ → Type 0 where
+  route-read : {v : ℕ} {exit : List ℕ} → CRoute g l kind number version entry v exit → LentRoute g l kind number version entry (routed-of v) exit
 
 -- a list in memory has fewer than 2^63 numbers, so that a count is not read as a number below zero
 pub data LentFind (g : Graph) (k : Kind) (l : ℕ) (xs entry : List ℕ) : Kept → List ℕ → Type 0 where
@@ -181,9 +184,10 @@ pub data LentResolve (g : Graph) (l : ℕ) (xs : List Candidate) (entries : List
   resolve-read : {v : ℕ} {exits : List (List ℕ)} → CountFits (length xs) → CResolve g l xs entries v exits → LentResolve g l xs entries (kept-of v) exits
 
 -- the archive query takes no record
-pub data LentAsk : List ℕ → ℕ → ℕ → ℕ → ℕ → Type 0 where
-  by-archive-query : (κs : Lfts 1) (bytes : Slice) (l kind number v : ℕ)
-      → archive-query.Learnt κs (bytes, (l, (kind, (number, tt)))) v (bytes, (l, (kind, (number, tt)))) → LentAsk (bytes .now) l kind number v
+pub data LentAsk : List ℕ → ℕ → ℕ → ℕ → ℕ → ℕ → Type 0 where
+  by-archive-query : (κs : Lfts 1) (bytes : Slice) (l kind number version v : ℕ)
+      → archive-query.Learnt κs (bytes, (l, (kind, (number, (version, tt))))) v (bytes, (l, (kind, (number, (version, tt)))))
+      → LentAsk (bytes .now) l kind number version v
 
 pub data LentEmpty : Graph → Type 0 where
   by-empty : (κs : Lfts 1) (was is : LentGraph) → Empties κs was is → LentEmpty (is .now)

@@ -7,6 +7,7 @@ use crate::text::SERVICE;
 use crate::text::show_colour;
 use crate::text::show_list;
 use crate::text::show_number;
+use crate::text::show_numbers;
 use crate::text::show_word;
 use region_graph::Graph;
 use region_graph::Numbers;
@@ -14,15 +15,40 @@ use region_graph::StoredConnection;
 use region_graph::size::EVERYTHING;
 use region_graph::size::MOST_CONNECTIONS;
 
-// A part of a filter.
+// A part that is everything.
+fn show_all(kind: u32) {
+    io::write_all(1, b"all ");
+    show_word(kind);
+    io::write_all(1, b"s\\l");
+}
+
+// The bundle part or the service part of a filter.
 fn show_part(part: Numbers, sheet: &[u8], kind: u32) {
     let items = part.items;
     if part.count == EVERYTHING {
-        io::write_all(1, b"all ");
-        show_word(kind);
-        io::write_all(1, b"s\\l");
+        show_all(kind);
     } else {
-        show_list(sheet, kind, &items, part.count, b"");
+        show_numbers(sheet, kind, &items, part.count, b"");
+    }
+}
+
+// The package part.
+fn show_packages(c: StoredConnection, sheet: &[u8]) {
+    let numbers = c.packages.numbers;
+    let lowest = c.packages.lowest;
+    let highest = c.packages.highest;
+    if c.packages.count == EVERYTHING {
+        show_all(PACKAGE);
+    } else {
+        show_list(
+            sheet,
+            PACKAGE,
+            &numbers,
+            &lowest,
+            &highest,
+            c.packages.count,
+            b"",
+        );
     }
 }
 
@@ -38,13 +64,12 @@ fn passes_nothing(c: StoredConnection) -> bool {
 
 fn show_filter(c: StoredConnection, sheet: &[u8]) {
     let bundles = c.bundles;
-    let packages = c.packages;
     let services = c.services;
     if passes_nothing(c) {
         io::write_all(1, b"nothing\\l");
     }
     show_part(bundles, sheet, BUNDLE);
-    show_part(packages, sheet, PACKAGE);
+    show_packages(c, sheet);
     show_part(services, sheet, SERVICE);
 }
 

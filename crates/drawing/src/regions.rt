@@ -8,6 +8,7 @@ use crate::text::show_colour;
 use crate::text::show_item;
 use crate::text::show_list;
 use crate::text::show_number;
+use crate::text::show_numbers;
 use region_graph::Graph;
 use region_graph::StoredBundle;
 use region_graph::region_set::has;
@@ -18,13 +19,23 @@ use region_graph::size::REGIONS;
 const MOST_SHOWN: usize = 12;
 
 fn show_bundle(b: StoredBundle, sheet: &[u8]) {
-    let packages = b.packages.items;
+    let packages = b.packages.numbers;
+    let versions = b.packages.versions;
+    let highest = [0u16; 0];
     let services = b.services.items;
     io::write_all(1, b"bundle ");
     show_item(sheet, BUNDLE, b.location);
     io::write_all(1, b"\\l");
-    show_list(sheet, PACKAGE, &packages, b.packages.count, b"- ");
-    show_list(sheet, SERVICE, &services, b.services.count, b"- ");
+    show_list(
+        sheet,
+        PACKAGE,
+        &packages,
+        &versions,
+        &highest,
+        b.packages.count,
+        b"- ",
+    );
+    show_numbers(sheet, SERVICE, &services, b.services.count, b"- ");
 }
 
 // A bundle of a region, unless as many as are shown come before it.

@@ -11,8 +11,10 @@ pub const SERVICE: u32 = 2;
 
 pub const REGION: u32 = 3;
 
-// How many numbers of a list are shown.
+// How many items of a list are shown.
 const MOST_SHOWN: usize = 4;
+
+const HIGHEST_VERSION: u16 = 65535;
 
 // Colours of lines, dark enough for thin ones.
 const COLOURS: [u64; 8] = [
@@ -65,9 +67,8 @@ pub fn show_number(number: u32) {
     io::print_decimal(1, number as u64);
 }
 
-// A number, and its name unless that is empty.
-fn show_named(number: u32, name: &[u8]) {
-    show_number(number);
+// What follows a number: its name, unless that is empty.
+fn show_its_name(name: &[u8]) {
     if 0 < name.len() {
         io::write_all(1, b" ");
         show_name(name);
@@ -78,7 +79,47 @@ fn show_named(number: u32, name: &[u8]) {
 pub fn show_item(sheet: &[u8], kind: u32, number: u32) {
     let mut refusal: u32 = 0;
     let name = lookup(sheet, kind, number, &mut refusal);
-    show_named(number, name);
+    show_number(number);
+    show_its_name(name);
+}
+
+// What follows the number of a package: its version, unless that is 0.
+fn show_version(version: u16) {
+    if version != 0 {
+        io::write_all(1, b":");
+        show_number(version as u32);
+    }
+}
+
+fn is_any(lowest: u16, highest: u16) -> bool {
+    if lowest != 0 {
+        return false;
+    }
+    highest == HIGHEST_VERSION
+}
+
+// What follows the number of a package entry: its lowest and its highest version, unless it passes any.
+fn show_range(lowest: u16, highest: u16) {
+    if is_any(lowest, highest) {
+        return;
+    }
+    io::write_all(1, b":");
+    show_number(lowest as u32);
+    io::write_all(1, b"-");
+    show_number(highest as u32);
+}
+
+// What follows the number at a place of a list. Where a list has no highest versions, the lowest are those of packages; where it has
+// neither, nothing follows.
+fn show_versions(lowest: &[u16], highest: &[u16], place: usize) {
+    if lowest.len() <= place {
+        return;
+    }
+    if place < highest.len() {
+        show_range(lowest[place], highest[place]);
+    } else {
+        show_version(lowest[place]);
+    }
 }
 
 // The word for an item of a kind.
@@ -119,25 +160,37 @@ fn show_gap(kind: u32, margin: &[u8], first: bool, after_name: bool, named: bool
     }
 }
 
-// An item of a list, and whether it has a name; `after_name` says whether the item before it has one.
+// The item at a place of a list, and whether it has a name; `after_name` says whether the item before it has one.
 fn show_next(
     sheet: &[u8],
     kind: u32,
     number: u32,
+    lowest: &[u16],
+    highest: &[u16],
+    place: usize,
     margin: &[u8],
-    first: bool,
     after_name: bool,
 ) -> bool {
     let mut refusal: u32 = 0;
     let name = lookup(sheet, kind, number, &mut refusal);
     let named = 0 < name.len();
-    show_gap(kind, margin, first, after_name, named);
-    show_named(number, name);
+    show_gap(kind, margin, place == 0, after_name, named);
+    show_number(number);
+    show_versions(lowest, highest, place);
+    show_its_name(name);
     named
 }
 
 // The first items of a list of so many, and whether the last of these has a name.
-fn show_first(sheet: &[u8], kind: u32, items: &[u32], count: usize, margin: &[u8]) -> bool {
+fn show_first(
+    sheet: &[u8],
+    kind: u32,
+    items: &[u32],
+    lowest: &[u16],
+    highest: &[u16],
+    count: usize,
+    margin: &[u8],
+) -> bool {
     let mut named = false;
     let mut i: usize = 0;
     while i < items.len() {
@@ -147,7 +200,7 @@ fn show_first(sheet: &[u8], kind: u32, items: &[u32], count: usize, margin: &[u8
         if i == MOST_SHOWN {
             break;
         }
-        named = show_next(sheet, kind, items[i], margin, i == 0, named);
+        named = show_next(sheet, kind, items[i], lowest, highest, i, margin, named);
         i += 1;
     }
     named
@@ -165,14 +218,29 @@ fn show_more(count: usize, margin: &[u8], after_name: bool) {
     io::write_all(1, b" more");
 }
 
-// A list of so many items, on lines with a margin; one with no items is left out.
-pub fn show_list(sheet: &[u8], kind: u32, items: &[u32], count: usize, margin: &[u8]) {
+// A list of so many items, on lines with a margin; one with no items is left out. What `lowest` and `highest` have, show_versions tells.
+pub fn show_list(
+    sheet: &[u8],
+    kind: u32,
+    items: &[u32],
+    lowest: &[u16],
+    highest: &[u16],
+    count: usize,
+    margin: &[u8],
+) {
     if count == 0 {
         return;
     }
-    let named = show_first(sheet, kind, items, count, margin);
+    let named = show_first(sheet, kind, items, lowest, highest, count, margin);
     if MOST_SHOWN < count {
         show_more(count - MOST_SHOWN, margin, named);
     }
     io::write_all(1, b"\\l");
+}
+
+// A list of items that have no versions.
+pub fn show_numbers(sheet: &[u8], kind: u32, items: &[u32], count: usize, margin: &[u8]) {
+    let lowest = [0u16; 0];
+    let highest = [0u16; 0];
+    show_list(sheet, kind, items, &lowest, &highest, count, margin);
 }

@@ -15,7 +15,7 @@ use Rattle.big_endian.proofs.Digits.{big-length}
 use Rattle.big_endian.proofs.Delimits.{Reader, reader-same, read-number, big-same}
 use Rattle.big_endian.proofs.Readers.{read-length}
 use Rattle.big_endian.proofs.Rows.{Elements}
-use Rattle.name_sheet.specs.Sheet.{Entry, Printable, LegalEntry, greatest-kind, entry-before, entry-fields, entry-bytes}
+use Rattle.name_sheet.specs.Sheet.{Entry, Printable, LegalSheetEntry, greatest-kind, sheet-entry-before, entry-fields, entry-bytes}
 use Rattle.name_sheet.specs.File.{head-length}
 use Rattle.name_sheet.specs.Promise.{between}
 use Rattle.name_sheet.specs.Reading.{EntryRead}
@@ -37,7 +37,7 @@ entry-length e =
     omega (arith, length-append (big 2 n) (entry-fields e), big-length 2 n, fields-length e)
 
 -- an entry can be read back from its bytes
-pub read-entry : Reader LegalEntry entry-bytes
+pub read-entry : Reader LegalSheetEntry entry-bytes
 read-entry = read-length 2 of back (λ e h. omega (arith, fields-length e, h .few))
   where
     after-kind : ℕ × List ℕ → Entry
@@ -46,7 +46,7 @@ read-entry = read-length 2 of back (λ e h. omega (arith, fields-length e, h .fe
     of : List ℕ → Entry
     of s = after-kind (read-number 1 .read s)
 
-    back : (e : Entry) → LegalEntry e → of (entry-fields e) ≡ e
+    back : (e : Entry) → LegalSheetEntry e → of (entry-fields e) ≡ e
     back e h =
         ap after-kind (read-number 1 .back (e .kind) (big 4 (e .number) ++ e .name) (omega (arith, h .kind)))
         ∙ ap (λ (q : ℕ × List ℕ). record { kind = e .kind; number = q .0; name = q .1 }) (read-number 4 .back (e .number) (e .name) (h .number))
@@ -57,23 +57,23 @@ key e = e .kind * 2 ^ 32 + e .number
 
 abbrev pub entry-elements : Elements Entry
 entry-elements = record {
-  good = LegalEntry;
+  good = LegalSheetEntry;
   bytes = entry-bytes;
-  before = entry-before;
+  before = sheet-entry-before;
   key = key;
-  same = reader-same LegalEntry entry-bytes read-entry;
+  same = reader-same LegalSheetEntry entry-bytes read-entry;
   keyed = λ a b g h. pair-order (2 ^ 32) (a .kind) (a .number) (b .kind) (b .number) (g .number) (h .number);
 }
 
 -- no length stands at a place
-pub no-size : (s : List ℕ) (at : ℕ) → Unparsed (λ x. x < 256 ^ 2) (big 2) s at → Unparsed LegalEntry entry-bytes s at
+pub no-size : (s : List ℕ) (at : ℕ) → Unparsed (λ x. x < 256 ^ 2) (big 2) s at → Unparsed LegalSheetEntry entry-bytes s at
 no-size s at u e r h f =
     let l = length (entry-fields e) in
     u l (entry-fields e ++ r) (omega (arith, fields-length e, h .few)) (f ∙ append-assoc (big 2 l) (entry-fields e) r)
 
 -- the answer that there is no entry
 pub none-read : {s : List ℕ} {at : ℕ} {r : EntryAt} → r ≡ record { ok = false; next = at; kind = 0; number = 0 }
-    → Unparsed LegalEntry entry-bytes s at → EntryRead s at r
+    → Unparsed LegalSheetEntry entry-bytes s at → EntryRead s at r
 none-read e u = record { found = λ f. false-true (sym (ap (λ (q : EntryAt). q .ok) e) ∙ f); missing = λ f. u }
 
 -- a length stands at a place
@@ -84,7 +84,7 @@ module _ {s : List ℕ} {at n a : ℕ} (size : Parsed (λ x. x < 256 ^ 2) (big 2
     pub room : a + n ≤ length s
     pub fields : drop a s ≡ entry-fields e ++ r
 
-  pub size-of : (e : Entry) (r : List ℕ) → LegalEntry e → drop at s ≡ entry-bytes e ++ r → SizeOf e r
+  pub size-of : (e : Entry) (r : List ℕ) → LegalSheetEntry e → drop at s ≡ entry-bytes e ++ r → SizeOf e r
   size-of e r h f =
       let l = length (entry-fields e) in
       let d =
@@ -97,24 +97,24 @@ module _ {s : List ℕ} {at n a : ℕ} (size : Parsed (λ x. x < 256 ^ 2) (big 2
       }
 
   -- one that counts no name, more than the longest, or more than there is
-  pub too-small : n ≤ 5 → Unparsed LegalEntry entry-bytes s at
+  pub too-small : n ≤ 5 → Unparsed LegalSheetEntry entry-bytes s at
   too-small u e r h f = omega (arith, h .some, size-of e r h f .count)
 
-  pub too-great : 45 < n → Unparsed LegalEntry entry-bytes s at
+  pub too-great : 45 < n → Unparsed LegalSheetEntry entry-bytes s at
   too-great u e r h f = omega (arith, h .few, size-of e r h f .count)
 
-  pub cut-short : length s - a < n → Unparsed LegalEntry entry-bytes s at
+  pub cut-short : length s - a < n → Unparsed LegalSheetEntry entry-bytes s at
   cut-short u e r h f = omega (arith, size-of e r h f .room)
 
   -- a kind stands behind it
   module _ {k b : ℕ} (kind : Parsed (λ x. x < 256 ^ 1) (big 1) s a k b) where
-    kind-of : (e : Entry) (r : List ℕ) → LegalEntry e → drop at s ≡ entry-bytes e ++ r
+    kind-of : (e : Entry) (r : List ℕ) → LegalSheetEntry e → drop at s ≡ entry-bytes e ++ r
         → (k ≡ e .kind) × (drop b s ≡ (big 4 (e .number) ++ e .name) ++ r)
     kind-of e r h f =
         big-same 1 k (e .kind) (drop b s) ((big 4 (e .number) ++ e .name) ++ r) (kind .is-good) (omega (arith, h .kind))
         (sym (kind .shape) ∙ size-of e r h f .fields ∙ append-assoc (big 1 (e .kind)) (big 4 (e .number) ++ e .name) r)
 
-    pub kind-over : greatest-kind < k → Unparsed LegalEntry entry-bytes s at
+    pub kind-over : greatest-kind < k → Unparsed LegalSheetEntry entry-bytes s at
     kind-over u e r h f = omega (arith, h .kind, kind-of e r h f .0)
 
     -- and a number behind the kind; the bytes up to where the length ends are the name
@@ -135,7 +135,7 @@ module _ {s : List ℕ} {at n a : ℕ} (size : Parsed (λ x. x < 256 ^ 2) (big 2
           length-take-le (a + n - d) (drop d s) (omega (arith, length-drop d s, name-room .1)) ∙ e
 
       -- an entry that stands here has this name
-      name-of-entry : (e : Entry) (r : List ℕ) → LegalEntry e → drop at s ≡ entry-bytes e ++ r → name ≡ e .name
+      name-of-entry : (e : Entry) (r : List ℕ) → LegalSheetEntry e → drop at s ≡ entry-bytes e ++ r → name ≡ e .name
       unfolding name
       name-of-entry e r h f =
           let q =
@@ -144,7 +144,7 @@ module _ {s : List ℕ} {at n a : ℕ} (size : Parsed (λ x. x < 256 ^ 2) (big 2
           let l : a + n - d ≡ length (e .name) = omega (arith, name-at, size .ends, big-length 2 n, size-of e r h f .count) in
           (λ i. take (l i) (q .1 i)) ∙ take-at (e .name) r (length (e .name)) refl
 
-      pub not-text : (All Printable (between s d (a + n)) → ⊥) → Unparsed LegalEntry entry-bytes s at
+      pub not-text : (All Printable (between s d (a + n)) → ⊥) → Unparsed LegalSheetEntry entry-bytes s at
       unfolding name
       not-text u e r h f = u (subst (All Printable) (sym (name-of-entry e r h f)) (h .text))
 
@@ -168,10 +168,10 @@ module _ {s : List ℕ} {at n a : ℕ} (size : Parsed (λ x. x < 256 ^ 2) (big 2
           ∙ sym (append-assoc (big 2 (length (entry-fields there))) (entry-fields there) (drop (a + n) s))
 
       pub entry-stands : k ≤ greatest-kind → All Printable (between s d (a + n))
-          → Parsed LegalEntry entry-bytes s at (record { kind = k; number = m; name = between s (at + head-length) (a + n) }) (a + n)
+          → Parsed LegalSheetEntry entry-bytes s at (record { kind = k; number = m; name = between s (at + head-length) (a + n) }) (a + n)
       unfolding there name
       entry-stands l t =
-          subst (λ (q : ℕ). Parsed LegalEntry entry-bytes s at (record { kind = k; number = m; name = between s q (a + n) }) (a + n)) name-at
+          subst (λ (q : ℕ). Parsed LegalSheetEntry entry-bytes s at (record { kind = k; number = m; name = between s q (a + n) }) (a + n)) name-at
           (record {
             is-good = record {
               kind = l;

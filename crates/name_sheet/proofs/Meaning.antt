@@ -15,18 +15,19 @@ use Rattle.region_graph.proofs.Lists.{and-yes, and-fst, and-snd}
 use Rattle.region_graph.proofs.Ascending.{or-right}
 use Rattle.big_endian.proofs.Tested.{Tested, tested-le, tested-lt, tested-true, tested-both, tested-as, tested-all}
 use Rattle.big_endian.proofs.SomeOrNone.{some-or-none}
-use Rattle.name_sheet.specs.Sheet.{Entry, Printable, LegalEntry, LegalEntries, greatest-kind, longest-name, entry-before, entry-bytes, entries-bytes, sheet}
-use Rattle.name_sheet.specs.File.{SheetMeaning, means, means-none, Span, entries, matches, name-span, front-length, head-length}
+use Rattle.name_sheet.specs.Sheet.{greatest-kind, longest-name}
+use Rattle.name_sheet.specs.Sheet.{Entry, Printable, LegalSheetEntry, LegalEntries, sheet-entry-before, entry-bytes, entries-bytes, sheet}
+use Rattle.name_sheet.specs.File.{SheetMeaning, means, means-none, Span, sheet-entries, matches, name-span, front-length, head-length}
 use Rattle.name_sheet.specs.Promise.{located, between}
 use Rattle.name_sheet.proofs.EntryLaws.{entry-length, key, entry-elements}
-use Rattle.name_sheet.proofs.OneSheet.{sheet-rest, sheet-length, entries-of, entries-back}
+use Rattle.name_sheet.proofs.OneSheet.{sheet-rest, sheet-length, entries-read, entries-back}
 
 -- whether an entry, and a list of entries, is legal
 tested-byte : (c : ℕ) → Tested (Printable c)
 tested-byte c =
     tested-as (λ t. record { least = t .0; most = t .1 }) (λ h. (h .least, h .most)) (tested-both (tested-le 0x20 c) (tested-le c 0x7E))
 
-tested-entry : (e : Entry) → Tested (LegalEntry e)
+tested-entry : (e : Entry) → Tested (LegalSheetEntry e)
 tested-entry e =
     tested-as (λ t. record { kind = t .0; number = t .1 .0; some = t .1 .1 .0; few = t .1 .1 .1 .0; text = t .1 .1 .1 .1 })
     (λ h. (h .kind, (h .number, (h .some, (h .few, h .text)))))
@@ -38,12 +39,12 @@ tested-entry e =
 tested-entries : (es : List Entry) → Tested (LegalEntries es)
 tested-entries es =
     tested-as (λ t. record { each = t .0; ascend = t .1 .0; fits = t .1 .1 }) (λ h. (h .each, (h .ascend, h .fits)))
-    (tested-both (tested-all LegalEntry tested-entry es)
-    (tested-both (tested-true (ascends entry-before es)) (tested-lt (length (entries-bytes es)) (2 ^ 32))))
+    (tested-both (tested-all LegalSheetEntry tested-entry es)
+    (tested-both (tested-true (ascends sheet-entry-before es)) (tested-lt (length (entries-bytes es)) (2 ^ 32))))
 
 -- every list of numbers has a meaning
 pub sheet-meaning : (bytes : List ℕ) → SheetMeaning bytes
-sheet-meaning bytes = ⊎-elim (λ h. means (h .0) (h .1) (h .2)) (λ n. means-none n) (some-or-none sheet tested-entries entries-of entries-back bytes)
+sheet-meaning bytes = ⊎-elim (λ h. means (h .0) (h .1) (h .2)) (λ n. means-none n) (some-or-none sheet tested-entries entries-read entries-back bytes)
 
 -- what holds of both holds of either
 pick-either : {A : Type 0} (P : A → Type 0) (b : Bool) {x y : A} → P x → P y → P (pick b x y)
@@ -97,7 +98,7 @@ module _ (kind number : ℕ) where
 
 module _ {s : List ℕ} (f : SheetMeaning s) (kind number : ℕ) where
   pub part-ordered : located f kind number .from ≤ located f kind number .to
-  part-ordered = span-ordered kind number front-length (entries f)
+  part-ordered = span-ordered kind number front-length (sheet-entries f)
 
 pub part-within : {s : List ℕ} (f : SheetMeaning s) (kind number : ℕ) → located f kind number .to ≤ length s
 part-within (means es l e) kind number = omega (arith, span-within kind number front-length es, sheet-length es, ap length e)
@@ -105,18 +106,18 @@ part-within (means-none n) kind number = omega arith
 
 -- the part that a lookup gives has the bytes of the name
 pub the-name : {s : List ℕ} (f : SheetMeaning s) (kind number : ℕ)
-    → between s (located f kind number .from) (located f kind number .to) ≡ name-of kind number (entries f)
+    → between s (located f kind number .from) (located f kind number .to) ≡ name-of kind number (sheet-entries f)
 the-name {s} (means es l e) kind number = span-name kind number front-length es s (ap (drop front-length) (sym e) ∙ sheet-rest es)
 the-name (means-none n) kind number = refl
 
 -- and no more bytes than a name may have
-name-few : (kind number : ℕ) (es : List Entry) → All LegalEntry es → length (name-of kind number es) ≤ longest-name
+name-few : (kind number : ℕ) (es : List Entry) → All LegalSheetEntry es → length (name-of kind number es) ≤ longest-name
 name-few kind number [] h = omega arith
 name-few kind number (e ∷ es) h =
     pick-either (λ (l : List ℕ). length l ≤ longest-name) (matches kind number e) (h .0 .few) (name-few kind number es (h .1))
 
 pub part-size : {s : List ℕ} (f : SheetMeaning s) (kind number : ℕ)
-    → located f kind number .to - located f kind number .from ≡ length (name-of kind number (entries f))
+    → located f kind number .to - located f kind number .from ≡ length (name-of kind number (sheet-entries f))
 part-size {s} f kind number =
     let r = located f kind number in
     sym (length-take-le (r .to - r .from) (drop (r .from) s) (omega (arith, length-drop (r .from) s, part-within f kind number)))
@@ -125,26 +126,26 @@ part-size {s} f kind number =
 pub part-few : {s : List ℕ} (f : SheetMeaning s) (kind number : ℕ) → located f kind number .to - located f kind number .from ≤ longest-name
 part-few f kind number = omega (arith, part-size f kind number, few f)
   where
-    few : {s : List ℕ} (f : SheetMeaning s) → length (name-of kind number (entries f)) ≤ longest-name
+    few : {s : List ℕ} (f : SheetMeaning s) → length (name-of kind number (sheet-entries f)) ≤ longest-name
     few (means es l e) = name-few kind number es (l .each)
     few (means-none n) = omega arith
 
 -- an entry's own name is the one that is found: no entry before it has its kind and number
-below : (x : Entry) (xs : List Entry) (e : Entry) (ys : List Entry) → All LegalEntry (x ∷ (xs ++ (e ∷ ys)))
-    → ascends entry-before (x ∷ (xs ++ (e ∷ ys))) ≡ true → key x < key e
+below : (x : Entry) (xs : List Entry) (e : Entry) (ys : List Entry) → All LegalSheetEntry (x ∷ (xs ++ (e ∷ ys)))
+    → ascends sheet-entry-before (x ∷ (xs ++ (e ∷ ys))) ≡ true → key x < key e
 below x [] e ys h a =
-    ltb-true (key x) (key e) (sym (entry-elements .keyed x e (h .0) (h .1 .0)) ∙ and-fst (entry-before x e) (ascends entry-before (e ∷ ys)) a)
+    ltb-true (key x) (key e) (sym (entry-elements .keyed x e (h .0) (h .1 .0)) ∙ and-fst (sheet-entry-before x e) (ascends sheet-entry-before (e ∷ ys)) a)
 below x (y ∷ xs) e ys h a =
-    let rest = ascends entry-before (y ∷ (xs ++ (e ∷ ys))) in
+    let rest = ascends sheet-entry-before (y ∷ (xs ++ (e ∷ ys))) in
     omega (
       arith,
-      ltb-true (key x) (key y) (sym (entry-elements .keyed x y (h .0) (h .1 .0)) ∙ and-fst (entry-before x y) rest a),
-      below y xs e ys (h .1) (and-snd (entry-before x y) rest a),
+      ltb-true (key x) (key y) (sym (entry-elements .keyed x y (h .0) (h .1 .0)) ∙ and-fst (sheet-entry-before x y) rest a),
+      below y xs e ys (h .1) (and-snd (sheet-entry-before x y) rest a),
     )
 
-later : (x : Entry) (xs : List Entry) → ascends entry-before (x ∷ xs) ≡ true → ascends entry-before xs ≡ true
+later : (x : Entry) (xs : List Entry) → ascends sheet-entry-before (x ∷ xs) ≡ true → ascends sheet-entry-before xs ≡ true
 later x [] a = refl
-later x (y ∷ xs) a = and-snd (entry-before x y) (ascends entry-before (y ∷ xs)) a
+later x (y ∷ xs) a = and-snd (sheet-entry-before x y) (ascends sheet-entry-before (y ∷ xs)) a
 
 module _ (e : Entry) (ys : List Entry) where
   -- the entry has its own kind and number
@@ -155,7 +156,7 @@ module _ (e : Entry) (ys : List Entry) where
   own-entry [] = rw itself refl
   own-entry (x ∷ xs) = or-right (matches (e .kind) (e .number) x) (own-entry xs)
 
-  pub own-name : (xs : List Entry) → All LegalEntry (xs ++ (e ∷ ys)) → ascends entry-before (xs ++ (e ∷ ys)) ≡ true
+  pub own-name : (xs : List Entry) → All LegalSheetEntry (xs ++ (e ∷ ys)) → ascends sheet-entry-before (xs ++ (e ∷ ys)) ≡ true
       → name-of (e .kind) (e .number) (xs ++ (e ∷ ys)) ≡ e .name
   own-name [] h a = rw itself refl
   own-name (x ∷ xs) h a = go (matches (e .kind) (e .number) x) refl (own-name xs (h .1) (later x (xs ++ (e ∷ ys)) a))

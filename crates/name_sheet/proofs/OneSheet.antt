@@ -13,7 +13,7 @@ use Rattle.big_endian.specs.Parsing.{Parsed}
 use Rattle.big_endian.proofs.Digits.{big-length}
 use Rattle.big_endian.proofs.Delimits.{head-same, big-same}
 use Rattle.big_endian.proofs.Readers.{rows-of, rows-back}
-use Rattle.name_sheet.specs.Sheet.{Entry, LegalEntry, LegalEntries, entry-before, entries-bytes, sheet-version, sheet}
+use Rattle.name_sheet.specs.Sheet.{Entry, LegalSheetEntry, LegalEntries, sheet-entry-before, entries-bytes, sheet-version, sheet}
 use Rattle.name_sheet.specs.File.{front-length}
 use Rattle.name_sheet.specs.Reading.{StartsAsSheet, FrontRead}
 use Rattle.name_sheet.proofs.EntryLaws.{entry-length, read-entry}
@@ -28,17 +28,17 @@ unfolding sheet
 sheet-length es = omega arith
 
 -- the entries that a file's bytes read as
-pub entries-of : List ℕ → List Entry
-entries-of s = rows-of read-entry (λ e. omega (arith, entry-length e)) (drop front-length s)
+pub entries-read : List ℕ → List Entry
+entries-read s = rows-of read-entry (λ e. omega (arith, entry-length e)) (drop front-length s)
 
-pub entries-back : (es : List Entry) → LegalEntries es → entries-of (sheet es) ≡ es
-unfolding entries-of
+pub entries-back : (es : List Entry) → LegalEntries es → entries-read (sheet es) ≡ es
+unfolding entries-read
 entries-back es l =
     ap (rows-of read-entry (λ e. omega (arith, entry-length e))) (sheet-rest es) ∙ rows-back read-entry (λ e. omega (arith, entry-length e)) es (l .each)
 
 -- legal entries with one sheet are the same
 pub one-sheet : (es fs : List Entry) → LegalEntries es → LegalEntries fs → sheet es ≡ sheet fs → es ≡ fs
-one-sheet es fs l k e = sym (entries-back es l) ∙ ap entries-of e ∙ entries-back fs k
+one-sheet es fs l k e = sym (entries-back es l) ∙ ap entries-read e ∙ entries-back fs k
 
 module _ {s : List ℕ} where
   -- a file of fewer bytes than the front has
@@ -84,7 +84,7 @@ module _ {s : List ℕ} where
               eqb-false k (length s - front-length) e (omega (arith, q .0, sheet-length es, ap length f))
 
 -- a file that starts as a sheet does, and goes on with legal entries in order, is their sheet
-pub whole-sheet : {s : List ℕ} → StartsAsSheet s → (es : List Entry) → All LegalEntry es → ascends entry-before es ≡ true
+pub whole-sheet : {s : List ℕ} → StartsAsSheet s → (es : List Entry) → All LegalSheetEntry es → ascends sheet-entry-before es ≡ true
     → drop front-length s ≡ entries-bytes es → LegalEntries es × (sheet es ≡ s)
 unfolding sheet
 whole-sheet {s} o es every rising e = (

@@ -10,7 +10,7 @@ use Rattle.region_graph.specs.Refusals.{not-refused, broken-sheet, no-entry}
 use Rattle.region_graph.specs.Lists.{pick, exists}
 use Rattle.big_endian.specs.Parsing.{Parsed}
 use Rattle.big_endian.proofs.Rows.{Going, NoNext, going-none, going-more, row-broken}
-use Rattle.name_sheet.specs.Sheet.{Entry, LegalEntry, LegalEntries, entry-bytes, entries-bytes, sheet}
+use Rattle.name_sheet.specs.Sheet.{Entry, LegalSheetEntry, LegalEntries, entry-bytes, entries-bytes, sheet}
 use Rattle.name_sheet.specs.File.{means, means-none, matches, name-span, front-length, head-length}
 use Rattle.name_sheet.specs.Promise.{Locates}
 use Rattle.name_sheet.specs.Reading.{StartsAsSheet, noted}
@@ -71,7 +71,7 @@ module _ {s : List ℕ} {kind number : ℕ} where
   scan-start h e = record { rows = []; going = going-none entry-elements h; found-is = e }
 
   module _ {at least : ℕ} {found : Located} (w : Scanning s kind number at least found) where
-    pub scan-more : {e : Entry} {next : ℕ} → Parsed LegalEntry entry-bytes s at e next → least ≤ key e → {after : Located}
+    pub scan-more : {e : Entry} {next : ℕ} → Parsed LegalSheetEntry entry-bytes s at e next → least ≤ key e → {after : Located}
         → after ≡ noted found (matches kind number e) (at + head-length) next → Scanning s kind number next (key e + 1) after
     scan-more {e} {next} p h f = record {
       rows = w .rows ++ (e ∷ []);

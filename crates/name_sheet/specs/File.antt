@@ -20,9 +20,9 @@ is-sheet (means es l e) = true
 is-sheet (means-none n) = false
 
 -- the entries of the sheet, or none
-abbrev pub entries : {bytes : List ℕ} → SheetMeaning bytes → List Entry
-entries (means es l e) = es
-entries (means-none n) = []
+abbrev pub sheet-entries : {bytes : List ℕ} → SheetMeaning bytes → List Entry
+sheet-entries (means es l e) = es
+sheet-entries (means-none n) = []
 
 -- an entry has the kind and number
 abbrev pub matches : ℕ → ℕ → Entry → Bool
@@ -31,7 +31,7 @@ matches kind number e = eqb (e .kind) kind && eqb (e .number) number
 abbrev pub lookup-questions : {bytes : List ℕ} → SheetMeaning bytes → ℕ → ℕ → List Question
 lookup-questions f kind number =
     ask broken-sheet (is-sheet f)
-    ∷ ask no-entry (exists (matches kind number) (entries f))
+    ∷ ask no-entry (exists (matches kind number) (sheet-entries f))
     ∷ []
 
 -- the number that a lookup returns: 0 where there is a name

@@ -4,13 +4,13 @@ use mathlib.Core.List.{List}
 use Prim.Native.Nat.{ℕ, _+_, _-_}
 use lib.ListN.{take, drop}
 use denote.Ref.{RefT, now}
-use Rattle.name_sheet.specs.File.{SheetMeaning, entries, lookup-number, name-span, front-length}
+use Rattle.name_sheet.specs.File.{SheetMeaning, sheet-entries, lookup-number, name-span, front-length}
 use Rattle.name_sheet.specs.declared.Located.{Located}
 
 -- the number of the first question answered no, and where the name stands
 abbrev pub located : {bytes : List ℕ} → SheetMeaning bytes → ℕ → ℕ → Located
 located f kind number =
-    let span = name-span kind number front-length (entries f) in
+    let span = name-span kind number front-length (sheet-entries f) in
     record { refusal = lookup-number f kind number; from = span .from; to = span .to }
 
 -- whatever the file means; each file means something (`sheet-meaning`)

@@ -9,7 +9,7 @@ use Rattle.region_graph.specs.Refusals.{not-refused}
 use Rattle.region_graph.specs.Lists.{All, pick}
 use Rattle.big_endian.specs.Bytes.{big}
 use Rattle.big_endian.specs.Parsing.{Answer}
-use Rattle.name_sheet.specs.Sheet.{Entry, Printable, LegalEntry, LegalEntries, entry-bytes, sheet-version, sheet}
+use Rattle.name_sheet.specs.Sheet.{Entry, Printable, LegalSheetEntry, LegalEntries, entry-bytes, sheet-version, sheet}
 use Rattle.name_sheet.specs.File.{front-length, head-length}
 use Rattle.name_sheet.specs.Promise.{between}
 use Rattle.name_sheet.specs.declared.Located.{Located}
@@ -21,11 +21,11 @@ pub record TextRead (s : List ℕ) (from to : ℕ) (r : Bool) : Type 0 where
   pub no : r ≡ false → All Printable (between s from to) → ⊥
 
 -- the entry that was read at a place
-abbrev pub entry-in : List ℕ → ℕ → EntryAt → Entry
-entry-in s at r = record { kind = r .kind; number = r .number; name = between s (at + head-length) (r .next) }
+abbrev pub entry-there : List ℕ → ℕ → EntryAt → Entry
+entry-there s at r = record { kind = r .kind; number = r .number; name = between s (at + head-length) (r .next) }
 
 abbrev pub EntryRead : List ℕ → ℕ → EntryAt → Type 0
-EntryRead s at r = Answer LegalEntry entry-bytes s at (r .ok) (entry-in s at r) (r .next)
+EntryRead s at r = Answer LegalSheetEntry entry-bytes s at (r .ok) (entry-there s at r) (r .next)
 
 -- the version byte, and the length of the rest
 pub record StartsAsSheet (s : List ℕ) : Type 0 where

@@ -26,7 +26,7 @@ pub record Printable (c : ℕ) : Type 0 where
   pub least : 0x20 ≤ c
   pub most : c ≤ 0x7E
 
-pub record LegalEntry (e : Entry) : Type 0 where
+pub record LegalSheetEntry (e : Entry) : Type 0 where
   pub kind : e .kind ≤ greatest-kind
   pub number : Word (e .number)
   pub some : 1 ≤ length (e .name)
@@ -34,8 +34,8 @@ pub record LegalEntry (e : Entry) : Type 0 where
   pub text : All Printable (e .name)
 
 -- by kind, then number
-abbrev pub entry-before : Entry → Entry → Bool
-entry-before a b = ltb (a .kind) (b .kind) || (eqb (a .kind) (b .kind) && ltb (a .number) (b .number))
+abbrev pub sheet-entry-before : Entry → Entry → Bool
+sheet-entry-before a b = ltb (a .kind) (b .kind) || (eqb (a .kind) (b .kind) && ltb (a .number) (b .number))
 
 -- a 16-bit length of what follows, the kind byte, the 32-bit number and the name
 abbrev pub entry-fields : Entry → List ℕ
@@ -49,8 +49,8 @@ entries-bytes es = concat-map entry-bytes es
 
 -- entries of which there is a sheet: its length field counts their bytes
 pub record LegalEntries (es : List Entry) : Type 0 where
-  pub each : All LegalEntry es
-  pub ascend : ascends entry-before es ≡ true
+  pub each : All LegalSheetEntry es
+  pub ascend : ascends sheet-entry-before es ≡ true
   pub fits : length (entries-bytes es) < 2 ^ 32
 
 abbrev pub sheet-version : ℕ

@@ -8,17 +8,14 @@ use borrow.Author.Tests.{eqb-true, eqb-false}
 use lib.Dec.{eqb, ltb}
 use lib.ListN.{length, drop, length-append}
 use Rattle.region_graph.specs.Size.{regions}
-use Rattle.region_graph.specs.Model.{Word, Sorted}
+use Rattle.region_graph.specs.Model.{Sorted}
 use Rattle.big_endian.specs.Bytes.{big, counted}
 use Rattle.big_endian.specs.Parsing.{Parsed, Unparsed, Answer, AnswerInto}
 use Rattle.big_endian.proofs.Delimits.{Delimits, big-same, head-same, tail-same}
 use Rattle.big_endian.proofs.Rows.{Elements, all-bytes, begins, Going, NoNext, going-past}
 use Rattle.region_archive.proofs.CountedReads.{byte-stands}
 
--- the numbers of a list, and the regions
-abbrev pub words : Elements ℕ
-words = record { good = Word; bytes = big 4; before = ltb; key = λ n. n; same = big-same 4; keyed = λ x y g h. refl }
-
+-- the regions
 abbrev pub region-bytes : Elements ℕ
 region-bytes = record {
   good = λ r. r < regions;

@@ -1,9 +1,9 @@
 -- One field more of a record is read into its row.
-use mathlib.Core.Path.{_≡_, refl, sym, ap, _∙_, subst}
+use mathlib.Core.Path.{_≡_, refl, sym, ap, _∙_, subst, transport}
 use mathlib.Core.Bool.{Bool, false}
 use mathlib.Core.List.{List, [], _∷_, _++_, append-nil}
-use Prim.Native.Nat.{ℕ, zero, suc, _+_, _-_, _*_, _^_, _≤_, _<_}
-use native.Mathlib.Nat.{mul-le-mul-right, suc-mul}
+use Prim.Native.Nat.{ℕ, zero, suc, _+_, _-_, _*_, _%_, _^_, _≤_, _<_}
+use native.Mathlib.Nat.{mul-le-mul-right, suc-mul, mod-eq-of-lt}
 use native.Mathlib.Omega.{arith}
 use lib.ListN.{length, take, drop, getD, set, length-set, List·getD-append}
 use lib.Seq.{length-take-le, drop-length, drop-drop, drop-at, getD-take, getD-append-add, getD-set-same, getD-set-other}
@@ -13,14 +13,18 @@ use Rattle.region_graph.specs.Flat.{Fields, FlatPart}
 use Rattle.region_graph.proofs.Lists.{false-true}
 use Rattle.big_endian.specs.Bytes.{big}
 use Rattle.region_archive.specs.Image.{part-bytes}
+use Rattle.region_archive.specs.Forms.{element-bytes, form-of}
 use Rattle.big_endian.specs.Parsing.{Parsed, Unparsed, ParsedInto}
+use Rattle.big_endian.proofs.Digits.{small-within}
 use Rattle.big_endian.proofs.Delimits.{big-same}
 use Rattle.region_archive.specs.RecordFields.{SameTo, GoodTo, part-at, first-width, field-count, most-in, row-width, part-open}
 use Rattle.region_archive.specs.RecordFields.{PartGood, first-good, second-good, FieldGood, field-bytes, FieldSame, FlatField}
 use Rattle.region_archive.specs.Sections.{PartRead, FieldRead}
+use Rattle.region_archive.specs.declared.forms.Form.{Form}
 use Rattle.region_archive.specs.declared.record_fields.Section.{Section}
 use Rattle.region_archive.specs.declared.record_fields.Section.the-variants as Section
 use Rattle.region_archive.specs.declared.sections.FieldAt.{FieldAt}
+use Rattle.region_archive.proofs.Fits.{narrow-first}
 use Rattle.region_archive.proofs.CountedReads.{none-into}
 
 -- the two numbers
@@ -71,13 +75,13 @@ module _ {s : Section} {rs : List ℕ} {floor : ℕ} {bytes : List ℕ} {at : �
     answer = λ x g h. none-into (λ y r k e. u (y .second) r (k .1 .0) e);
   }
 
-  pub second-read : {n next : ℕ} → Parsed (λ m. m < 256 ^ 1) (big 1) bytes at n next → 2 ≤ length old → {b : Bool}
-      → b ≡ second-good s rs floor (getD old 0 0) n → FieldRead s rs floor 1 bytes at old (set old 1 n) (record { ok = b; next = next })
-  second-read {n} {next} p h {b} f =
+  pub second-read : {n next : ℕ} → Parsed (λ m. m < 256 ^ 1) (big 1) bytes at n next → 2 ≤ length old → {a : ℕ} → a ≡ getD old 0 0 % 2 ^ 32
+      → {b : Bool} → b ≡ second-good s rs floor a n → FieldRead s rs floor 1 bytes at old (set old 1 n) (record { ok = b; next = next })
+  second-read {n} {next} p h {a} low {b} f =
       record {
         size = length-set old 1 n;
         answer = λ x g k.
-            let e : b ≡ second-good s rs floor (x .first) n = f ∙ ap (λ (a : ℕ). second-good s rs floor a n) (k .1) in
+            let e : b ≡ second-good s rs floor (x .first) n = f ∙ ap (λ (a : ℕ). second-good s rs floor a n) (first-is x (g .1 .0) (k .1)) in
             record {
               found = λ y.
                   record {
@@ -89,6 +93,9 @@ module _ {s : Section} {rs : List ℕ} {floor : ℕ} {bytes : List ℕ} {at : �
             };
       }
     where
+      first-is : (x : Fields) → x .first < 256 ^ first-width s → getD old 0 0 ≡ x .first → a ≡ x .first
+      first-is x l e = low ∙ ap (λ (m : ℕ). m % 2 ^ 32) e ∙ mod-eq-of-lt (small-within {w = 4} (narrow-first s) l)
+
       other : (x : Fields) → false ≡ second-good s rs floor (x .first) n → (y : Fields) (r : List ℕ)
           → SameTo FieldSame 1 x y × FieldGood s rs floor 1 y
           → drop at bytes ≡ big 1 (y .second) ++ r → ⊥
@@ -122,27 +129,27 @@ back-at place xs ys h =
     ap (λ (n : ℕ). getD (take place xs ++ ys) n 0) e ∙ getD-append-add (take place xs) ys 0 0
 
 -- a part at other places
-part-moves : (xs ys : List ℕ) (i j most : ℕ) → getD ys j 0 ≡ getD xs i 0
+part-moves : (f : Form) (xs ys : List ℕ) (i j most : ℕ) → getD ys j 0 ≡ getD xs i 0
     → ((n : ℕ) → n ≤ most → take n (drop (j + 1) ys) ≡ take n (drop (i + 1) xs))
-    → (all : Bool) (p : Part) → PartGood most all p → FlatPart xs i p → FlatPart ys j p
-part-moves xs ys i j most e f all (Part.listed ns) g h = (e ∙ h .0, f (length ns) (g .few) ∙ h .1)
-part-moves xs ys i j most e f all Part.everything g h = e ∙ h
+    → (all : Bool) (p : Part ℕ) → PartGood f most all p → FlatPart xs i p → FlatPart ys j p
+part-moves f xs ys i j most e k all (Part.listed ns) g h = (e ∙ h .0, k (length ns) (g .few) ∙ h .1)
+part-moves f xs ys i j most e k all Part.everything g h = e ∙ h
 
 -- parts with one set anew
-put-part : List Part → ℕ → Part → List Part
+put-part : List (Part ℕ) → ℕ → Part ℕ → List (Part ℕ)
 put-part [] zero p = p ∷ []
 put-part [] (suc j) p = Part.listed [] ∷ put-part [] j p
 put-part (q ∷ ps) zero p = p ∷ ps
 put-part (q ∷ ps) (suc j) p = q ∷ put-part ps j p
 
-put-same : (ps : List Part) (j : ℕ) (p : Part) → getD (put-part ps j p) j (Part.listed []) ≡ p
+put-same : (ps : List (Part ℕ)) (j : ℕ) (p : Part ℕ) → getD (put-part ps j p) j (Part.listed []) ≡ p
 unfolding put-part
 put-same [] zero p = refl
 put-same [] (suc j) p = put-same [] j p
 put-same (q ∷ ps) zero p = refl
 put-same (q ∷ ps) (suc j) p = put-same ps j p
 
-put-other : (ps : List Part) (j : ℕ) (p : Part) (i : ℕ) → i < j → getD ps i (Part.listed []) ≡ getD (put-part ps j p) i (Part.listed [])
+put-other : (ps : List (Part ℕ)) (j : ℕ) (p : Part ℕ) (i : ℕ) → i < j → getD ps i (Part.listed []) ≡ getD (put-part ps j p) i (Part.listed [])
 unfolding put-part
 put-other ps zero p i h = absurd (omega arith)
 put-other [] (suc j) p zero h = refl
@@ -150,7 +157,7 @@ put-other [] (suc j) p (suc i) h = put-other [] j p i (omega arith)
 put-other (q ∷ ps) (suc j) p zero h = refl
 put-other (q ∷ ps) (suc j) p (suc i) h = put-other ps j p i (omega arith)
 
-abbrev with-part : Fields → ℕ → Part → Fields
+abbrev with-part : Fields → ℕ → Part ℕ → Fields
 with-part x j p = record { first = x .first; second = x .second; parts = put-part (x .parts) j p }
 
 -- a part, the j-th
@@ -158,7 +165,13 @@ module _ (s : Section) (rs : List ℕ) (floor : ℕ) (old sub : List ℕ) (j : �
   abbrev place : ℕ → ℕ
   place i = 2 + i * (most-in s + 1)
 
-  same-with : (x : Fields) (p : Part) (i : ℕ) → i ≤ j → SameTo FieldSame (suc (suc i)) x (with-part x j p)
+  abbrev Good : Part ℕ → Type 0
+  Good = PartGood (form-of s (suc (suc j))) (most-in s) (part-open s (suc (suc j)))
+
+  abbrev bytes-of : Part ℕ → List ℕ
+  bytes-of = part-bytes (element-bytes (form-of s (suc (suc j))))
+
+  same-with : (x : Fields) (p : Part ℕ) (i : ℕ) → i ≤ j → SameTo FieldSame (suc (suc i)) x (with-part x j p)
   same-with x p zero h = ((tt, refl), refl)
   same-with x p (suc i) h = (same-with x p i (omega arith), put-other (x .parts) j p i (omega arith))
 
@@ -166,14 +179,14 @@ module _ (s : Section) (rs : List ℕ) (floor : ℕ) (old sub : List ℕ) (j : �
     abbrev new : List ℕ
     new = take (place j) old ++ sub
 
-    flat-with : (x : Fields) (p : Part) (i : ℕ) → i ≤ j → GoodTo (FieldGood s rs floor) (suc (suc i)) x
+    flat-with : (x : Fields) (p : Part ℕ) (i : ℕ) → i ≤ j → GoodTo (FieldGood s rs floor) (suc (suc i)) x
         → GoodTo (FlatField (most-in s) old) (suc (suc i)) x → GoodTo (FlatField (most-in s) new) (suc (suc i)) (with-part x j p)
     flat-with x p zero h g k =
         ((tt, front-at 0 (place j) old sub (omega arith) room ∙ k .0 .1), front-at 1 (place j) old sub (omega arith) room ∙ k .1)
     flat-with x p (suc i) h g k = (
       flat-with x p i (omega arith) (g .0) (k .0),
       subst (FlatPart new (place i)) (put-other (x .parts) j p i (omega arith))
-          (part-moves old new (place i) (place i) (most-in s) (front-at (place i) (place j) old sub (omega (arith, next)) room)
+          (part-moves (form-of s (suc (suc i))) old new (place i) (place i) (most-in s) (front-at (place i) (place j) old sub (omega (arith, next)) room)
           (λ n l. front (place i + 1) n (place j) old sub (omega (arith, next)) room) (part-open s (suc (suc i))) (part-at x i) (g .1) (k .1)),
     )
       where
@@ -183,7 +196,8 @@ module _ (s : Section) (rs : List ℕ) (floor : ℕ) (old sub : List ℕ) (j : �
         next : place i + (most-in s + 1) ≤ place j
         next = omega (arith, mul-le-mul-right (most-in s + 1) up, suc-mul i (most-in s + 1))
 
-    part-read : {bytes : List ℕ} {at : ℕ} {r : FieldAt} {lent : List ℕ} → PartRead (most-in s) (part-open s (suc (suc j))) bytes at lent sub r
+    part-read : {bytes : List ℕ} {at : ℕ} {r : FieldAt} {lent : List ℕ}
+        → PartRead (form-of s (suc (suc j))) (most-in s) (part-open s (suc (suc j))) bytes at lent sub r
         → length new ≡ length old → FieldRead s rs floor (suc (suc j)) bytes at old new r
     part-read {bytes} {at} {r} q size = record {
       size = size;
@@ -192,7 +206,7 @@ module _ (s : Section) (rs : List ℕ) (floor : ℕ) (old sub : List ℕ) (j : �
     }
       where
         stands : (x : Fields) → GoodTo (FieldGood s rs floor) (suc (suc j)) x → GoodTo (FlatField (most-in s) old) (suc (suc j)) x
-            → ParsedInto (PartGood (most-in s) (part-open s (suc (suc j)))) (part-bytes (big 4)) bytes at (FlatPart sub 0) (r .next)
+            → ParsedInto Good bytes-of bytes at (FlatPart sub 0) (r .next)
             → ParsedInto (λ y. SameTo FieldSame (suc (suc j)) x y × FieldGood s rs floor (suc (suc j)) y) (field-bytes s (suc (suc j))) bytes at
             (GoodTo (FlatField (most-in s) new) (suc (suc (suc j)))) (r .next)
         stands x g k v =
@@ -203,16 +217,16 @@ module _ (s : Section) (rs : List ℕ) (floor : ℕ) (old sub : List ℕ) (j : �
               value = with-part x j p;
               parsed =
                   record {
-                    is-good = (same-with x p j (omega arith), subst (PartGood (most-in s) (part-open s (suc (suc j)))) (sym e) good);
-                    shape = v .parsed .shape ∙ ap (λ (t : Part). part-bytes (big 4) t ++ drop (r .next) bytes) (sym e);
-                    ends = v .parsed .ends ∙ ap (λ (t : Part). at + length (part-bytes (big 4) t)) (sym e);
+                    is-good = (same-with x p j (omega arith), subst Good (sym e) good);
+                    shape = v .parsed .shape ∙ ap (λ (t : Part ℕ). bytes-of t ++ drop (r .next) bytes) (sym e);
+                    ends = v .parsed .ends ∙ ap (λ (t : Part ℕ). at + length (bytes-of t)) (sym e);
                     room = v .parsed .room;
                   };
               put = (
                 flat-with x p j (omega arith) g k,
                 subst (FlatPart new (place j)) (sym e)
-                    (part-moves sub new 0 (place j) (most-in s) (back-at (place j) old sub room) (λ n l. ap (take n) (back (place j) old sub room))
-                    (part-open s (suc (suc j))) p good (v .put)),
+                    (part-moves (form-of s (suc (suc j))) sub new 0 (place j) (most-in s) (back-at (place j) old sub room)
+                    (λ n l. ap (take n) (back (place j) old sub room)) (part-open s (suc (suc j))) p good (v .put)),
               );
             }
 
@@ -226,26 +240,28 @@ place-room s e k h l = subst (λ (m : ℕ). (part-place m k + (m + 1) ≤ row-wi
   where
     by : (s : Section) → k < field-count s
         → (part-place (most-in s) k + (most-in s + 1) ≤ row-width s) × (part-place (most-in s) k + (most-in s + 1) ≤ 53)
-    by Section.Bundles l = (omega arith, omega arith)
-    by Section.Connections l = (omega arith, omega arith)
+    by (Section.Bundles v) l = (omega arith, omega arith)
+    by (Section.Connections v) l = (omega arith, omega arith)
 
 -- a part was put to its places
 module _ {s : Section} {rs : List ℕ} {floor : ℕ} {bytes : List ℕ} {at : ℕ} (old : List ℕ) {m k : ℕ} (e : m ≡ most-in s) (two : 2 ≤ k) where
-  pub part-put : part-place m k ≤ length old → {all : Bool} → all ≡ part-open s k → {lent sub : List ℕ} {r : FieldAt}
-      → PartRead m all bytes at lent sub r
+  pub part-put : part-place m k ≤ length old → {all : Bool} → all ≡ part-open s k → {form : Form} → form ≡ form-of s k
+      → {lent sub : List ℕ} {r : FieldAt} → PartRead form m all bytes at lent sub r
       → length (putMid (part-place m k) (length old - part-place m k) old sub) ≡ length old
       → FieldRead s rs floor k bytes at old (putMid (part-place m k) (length old - part-place m k) old sub) r
-  part-put room {all} a {lent} {sub} {r} q size =
+  part-put room {all} a {form} g {lent} {sub} {r} q size =
       subst (λ (l : List ℕ). FieldRead s rs floor k bytes at old l r) (sym whole)
       (subst (λ (i : ℕ). FieldRead s rs floor i bytes at old (take (part-place m k) old ++ sub) r) two-more
       (subst (λ (n : ℕ). FieldRead s rs floor (suc (suc (k - 2))) bytes at old (take (part-place n k) old ++ sub) r) (sym e)
       (part-read s rs floor old sub (k - 2) (subst (λ (n : ℕ). part-place n k ≤ length old) e room)
-      (subst (λ (n : ℕ). PartRead n (part-open s (suc (suc (k - 2)))) bytes at lent sub r) e
-      (subst (λ (b : Bool). PartRead m b bytes at lent sub r) opened q))
+      (transport (λ i. PartRead (formed i) (e i) (opened i) bytes at lent sub r) q)
       (subst (λ (n : ℕ). length (take (part-place n k) old ++ sub) ≡ length old) e (sym (ap length whole) ∙ size)))))
     where
       two-more : suc (suc (k - 2)) ≡ k
       two-more = omega arith
+
+      formed : form ≡ form-of s (suc (suc (k - 2)))
+      formed = g ∙ ap (form-of s) (sym two-more)
 
       opened : all ≡ part-open s (suc (suc (k - 2)))
       opened = a ∙ ap (part-open s) (sym two-more)

@@ -26,19 +26,19 @@ second-has x b d g = g ∙ has-member x b ∙ sym (ap (λ (v : Bool). v && membe
 
 -- the rest, by the section
 module _ {s : Section} (x a : ℕ) where
-  pub first-bundle : s ≡ Section.Bundles → true ≡ source-held s (members x) a
+  pub first-bundle : {v : ℕ} → s ≡ Section.Bundles v → true ≡ source-held s (members x) a
   first-bundle f = sym (ap (λ (t : Section). source-held t (members x) a) f)
 
-  pub first-connection : s ≡ Section.Connections → {t : Bool} → t ≡ has x a → t ≡ source-held s (members x) a
+  pub first-connection : {v : ℕ} → s ≡ Section.Connections v → {t : Bool} → t ≡ has x a → t ≡ source-held s (members x) a
   first-connection f g = g ∙ has-member x a ∙ sym (ap (λ (t : Section). source-held t (members x) a) f)
 
   module _ (b : ℕ) where
-    pub second-equal : s ≡ Section.Connections → a ≡ b → false ≡ (ends-differ s a b && member b (members x))
+    pub second-equal : {v : ℕ} → s ≡ Section.Connections v → a ≡ b → false ≡ (ends-differ s a b && member b (members x))
     second-equal f g = sym (and-left (member b (members x)) (ap (λ (t : Section). ends-differ t a b) f ∙ ap not (eq-eqb a b g)))
 
-    pub second-bundle : s ≡ Section.Bundles → {t : Bool} → t ≡ has x b → t ≡ (ends-differ s a b && member b (members x))
+    pub second-bundle : {v : ℕ} → s ≡ Section.Bundles v → {t : Bool} → t ≡ has x b → t ≡ (ends-differ s a b && member b (members x))
     second-bundle f = second-has x b (ap (λ (t : Section). ends-differ t a b) f)
 
-    pub second-connection : s ≡ Section.Connections → (a ≡ b → ⊥) → {t : Bool} → t ≡ has x b
+    pub second-connection : {v : ℕ} → s ≡ Section.Connections v → (a ≡ b → ⊥) → {t : Bool} → t ≡ has x b
         → t ≡ (ends-differ s a b && member b (members x))
     second-connection f g = second-has x b (ap (λ (t : Section). ends-differ t a b) f ∙ ap not (ne-eqb a b g))

@@ -19,15 +19,15 @@ use Rattle.region_graph.specs.declared.Changed.{Changed}
 use Rattle.region_graph.proofs.Lists.{and-fst}
 use Rattle.region_graph.proofs.Legal.{all-yes, first-no-stops, first-no-goes-on}
 use Rattle.big_endian.specs.Bytes.{big}
-use Rattle.region_archive.specs.Image.{version, body, image}
+use Rattle.region_archive.specs.Image.{latest, body-in, image-in, in-version}
 use Rattle.region_archive.specs.File.{FileMeaning, means, means-none, is-image, read-model, read-number}
-use Rattle.region_archive.specs.File.{oldest, latest, opens, length-field, front-questions}
+use Rattle.region_archive.specs.File.{oldest, opens, length-field, front-questions}
 use Rattle.big_endian.specs.Parsing.{Parsed}
 use Rattle.big_endian.proofs.Digits.{drop-byte, digits-none, digits-more, digits-all}
 use Rattle.big_endian.proofs.Delimits.{word-bytes}
 use Rattle.region_archive.specs.Promise.{Reads, ReadsOver}
 use Rattle.region_archive.specs.Sections.{LegalIn, BodyRead, whole, broken}
-use Rattle.region_archive.proofs.OneImage.{image-body, one-image, image-front}
+use Rattle.region_archive.proofs.OneImage.{image-body, first-version, one-image, image-front}
 
 -- the length field, as the four bytes after the first
 abbrev four : List ℕ → ℕ
@@ -93,23 +93,32 @@ module _ (s : List ℕ) where
         let e : (((0 * 256 + getD s 1 0) * 256 + getD s 2 0) * 256 + getD s 3 0) * 256 + getD s 4 0 ≡ length-field s = omega arith in
         subst (λ (n : ℕ). Parsed (λ m. m < 256 ^ 4) (big 4) s 1 n 5) e (digits-all d refl h)
 
-    pub image-is : (m : Model) {end : ℕ} → Parsed (LegalIn (first-byte s)) body s 5 m end → end ≡ length s → image m ≡ s
-    unfolding image
+    pub image-is : (m : Model) {end : ℕ} → Parsed (LegalIn (first-byte s)) (body-in (first-byte s)) s 5 m end → end ≡ length s
+        → image-in (first-byte s) m ≡ s
+    unfolding image-in
     image-is m {end} p e =
-        let front : first-byte s ≡ version (m .regions) = sym (p .is-good .1) in
-        sym (drop-byte s 0 (omega (arith, long-enough)) ∙ ap (λ (n : ℕ). n ∷ drop 1 s) front
-        ∙ ap (λ (l : List ℕ). version (m .regions) ∷ l) (field-stands .shape ∙ (λ i. big 4 (size i) ++ rest i)))
+        sym (drop-byte s 0 (omega (arith, long-enough))
+        ∙ ap (λ (l : List ℕ). first-byte s ∷ l) (field-stands .shape ∙ (λ i. big 4 (size i) ++ rest i)))
       where
-        size : length-field s ≡ length (body m)
+        body : List ℕ
+        body = body-in (first-byte s) m
+
+        size : length-field s ≡ length body
         size = omega (arith, eqb-true (length-field s) (length s - 5) (passed .1), p .ends, e)
 
-        rest : drop 5 s ≡ body m
-        rest = p .shape ∙ ap (λ (n : ℕ). body m ++ drop n s) e ∙ ap (λ (l : List ℕ). body m ++ l) (drop-length s) ∙ append-nil (body m)
+        rest : drop 5 s ≡ body
+        rest = p .shape ∙ ap (λ (n : ℕ). body ++ drop n s) e ∙ ap (λ (l : List ℕ). body ++ l) (drop-length s) ∙ append-nil body
+
+  -- it is the image of no legal model
+  abbrev NoImage : Type 0
+  NoImage = (v : ℕ) (m : Model) → Legal m → in-version v m ≡ true → image-in v m ≡ s → ⊥
 
   -- no body of its version to the end: no image
-  pub bodiless : ((m : Model) → LegalIn (first-byte s) m → drop 5 s ≡ body m → ⊥) → (m : Model) → Legal m → image m ≡ s → ⊥
-  unfolding image
-  bodiless u m h e = u m (h, ap first-byte e) (ap (drop 5) (sym e) ∙ image-body m ∙ append-nil (body m))
+  pub bodiless : ((m : Model) → LegalIn (first-byte s) m → drop 5 s ≡ body-in (first-byte s) m → ⊥) → NoImage
+  bodiless u v m l h e =
+      let d = first-version v m e in
+      u m (l, subst (λ (w : ℕ). in-version w m ≡ true) d h)
+      (ap (drop 5) (sym e) ∙ image-body v m ∙ append-nil (body-in v m) ∙ ap (λ (w : ℕ). body-in w m) d)
 
 module _ {s : List ℕ} where
   -- the questions about the front come first
@@ -119,22 +128,22 @@ module _ {s : List ℕ} where
   last-asked : (f : FileMeaning s) → not-refused ≡ first-no (asked s) → read-number f ≡ first-no (ask broken-layout (is-image f) ∷ [])
   last-asked f e = first-no-goes-on (asked s) (ask broken-layout (is-image f) ∷ []) (all-yes (asked s) (refl, (refl, tt)) (sym e))
 
-  pub broken-file : (f : FileMeaning s) → not-refused ≡ first-no (asked s) → ((m : Model) → Legal m → image m ≡ s → ⊥)
-      → broken-layout ≡ read-number f
-  broken-file (means m l e) z u = absurd (u m l e)
+  pub broken-file : (f : FileMeaning s) → not-refused ≡ first-no (asked s) → NoImage s → broken-layout ≡ read-number f
+  broken-file (means v m l h e) z u = absurd (u v m l h e)
   broken-file (means-none n) z u = sym (last-asked (means-none n) z)
 
   -- an image is read with no refusal
-  pub accepted-number : (m : Model) (l : Legal m) (e : image m ≡ s) → not-refused ≡ first-no (asked s)
-  accepted-number m l e = sym (ap (λ (t : List ℕ). first-no (asked t)) (sym e) ∙ image-front m l)
+  accepted-number : (v : ℕ) (m : Model) → LegalIn v m → image-in v m ≡ s → not-refused ≡ first-no (asked s)
+  accepted-number v m l e = sym (ap (λ (t : List ℕ). first-no (asked t)) (sym e) ∙ image-front v m l)
 
-  pub accepted : (f : FileMeaning s) (m : Model) → Legal m → image m ≡ s → (not-refused ≡ read-number f) × (m ≡ read-model f)
-  accepted (means n k i) m l e = (sym (last-asked (means n k i) (accepted-number m l e)), one-image m n l k (e ∙ sym i))
-  accepted (means-none n) m l e = absurd (n m l e)
+  pub accepted : (f : FileMeaning s) (v : ℕ) (m : Model) → LegalIn v m → image-in v m ≡ s → (not-refused ≡ read-number f) × (m ≡ read-model f)
+  accepted (means w n k g i) v m l e =
+      (sym (last-asked (means w n k g i) (accepted-number v m l e)), one-image v w m n l (k, g) (e ∙ sym i) .1)
+  accepted (means-none n) v m l e = absurd (n v m (l .0) (l .1) e)
 
   -- what is refused means nothing
   pub refused-model : (f : FileMeaning s) → (read-number f ≡ not-refused → ⊥) → read-model f ≡ nothing
-  refused-model (means m l e) u = absurd (u (sym (accepted (means m l e) m l e .0)))
+  refused-model (means v m l h e) u = absurd (u (sym (accepted (means v m l h e) v m (l, h) e .0)))
   refused-model (means-none n) u = refl
 
   -- a refused read gives the empty record
@@ -151,7 +160,7 @@ module _ {s : List ℕ} where
   body-reads bytes z {r} (whole m p n v e) = record {
     valid = v;
     says = λ f.
-        let a = accepted f m (p .is-good .0) (image-is s bytes z m p refl) in
+        let a = accepted f (first-byte s) m (p .is-good) (image-is s bytes z m p refl) in
         record { number = n ∙ a .0; next = e ∙ a .1 };
   }
   body-reads bytes z {r} (broken u n v) = reads-refused (n, v) (λ e. omega arith) (λ f. broken-file f z (bodiless s u))

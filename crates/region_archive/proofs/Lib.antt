@@ -1,16 +1,18 @@
 -- Laws by subject, each over what stands above it.
 pub mod Pieces
 pub mod Writes
+pub mod FormLaws
+pub mod Versioned
 pub mod Fits
 pub mod Placed
 pub mod CountedReads
 pub mod CountedLists
 pub mod FieldLaws
 pub mod RecordLaws
+pub mod Versions
 pub mod ModelReaders
 pub mod Records
 pub mod Members
-pub mod Versions
 pub mod Images
 pub mod Taking
 pub mod Reachable

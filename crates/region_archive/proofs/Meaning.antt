@@ -1,25 +1,38 @@
 -- Each file means something: it is the image of a legal model, or of none.
-use mathlib.Core.Path.{_≡_, ap, _∙_}
+use mathlib.Core.Path.{_≡_, sym, ap, _∙_, subst}
+use mathlib.Core.Bool.{true}
 use mathlib.Core.List.{List, []}
 use mathlib.Core.Logic.{⊎-elim}
 use Prim.Native.Nat.{ℕ}
-use lib.ListN.{drop}
+use lib.ListN.{drop, getD}
 use Rattle.region_graph.specs.Model.{Model, Legal}
 use Rattle.big_endian.proofs.SomeOrNone.{some-or-none}
-use Rattle.region_archive.specs.Image.{image}
+use Rattle.region_archive.specs.Image.{image-in, in-version}
 use Rattle.region_archive.specs.File.{FileMeaning, means, means-none}
+use Rattle.region_archive.specs.Sections.{LegalIn}
 use Rattle.region_archive.proofs.ModelReaders.{read-body}
-use Rattle.region_archive.proofs.OneImage.{image-body}
-use Rattle.region_archive.proofs.LegalTests.{tested-legal}
+use Rattle.region_archive.proofs.OneImage.{image-body, first-version}
+use Rattle.region_archive.proofs.LegalTests.{tested-in}
 
--- the model that a file's body reads as
-model-of : List ℕ → Model
-model-of s = read-body .read (drop 5 s) .0
+-- the model that the body of a file of version v reads as
+model-of : ℕ → List ℕ → Model
+model-of v s = read-body v .read (drop 5 s) .0
 
-model-back : (m : Model) → Legal m → model-of (image m) ≡ m
+model-back : (v : ℕ) (m : Model) → LegalIn v m → model-of v (image-in v m) ≡ m
 unfolding model-of
-model-back m l = ap (λ (s : List ℕ). read-body .read s .0) (image-body m) ∙ ap (λ q. q .0) (read-body .back m [] l)
+model-back v m l = ap (λ (s : List ℕ). read-body v .read s .0) (image-body v m) ∙ ap (λ q. q .0) (read-body v .back m [] l)
 
 -- every list of numbers has a meaning
 pub file-meaning : (bytes : List ℕ) → FileMeaning bytes
-file-meaning bytes = ⊎-elim (λ h. means (h .0) (h .1) (h .2)) (λ n. means-none n) (some-or-none image tested-legal model-of model-back bytes)
+file-meaning bytes =
+    ⊎-elim (λ h. means first (h .0) (h .1 .0) (h .1 .1) (h .2)) (λ n. means-none (other n))
+    (some-or-none (image-in first) (tested-in first) (model-of first) (model-back first) bytes)
+  where
+    first : ℕ
+    first = getD bytes 0 0
+
+    other : ((m : Model) → LegalIn first m → image-in first m ≡ bytes → ⊥)
+        → (v : ℕ) (m : Model) → Legal m → in-version v m ≡ true → image-in v m ≡ bytes → ⊥
+    other n v m l h e =
+        let d = first-version v m e in
+        n m (l, subst (λ (w : ℕ). in-version w m ≡ true) d h) (ap (λ (w : ℕ). image-in w m) (sym d) ∙ e)

@@ -26,8 +26,8 @@ use Rattle.region_archive.proofs.Fits.{bundle-fits, connection-fits, bu
 
 -- the i-th element of a section
 abbrev no-element : (s : Section) → Elem s
-no-element Section.Bundles = no-bundle
-no-element Section.Connections = no-connection
+no-element (Section.Bundles v) = no-bundle
+no-element (Section.Connections v) = no-connection
 
 abbrev pub element-at : (s : Section) → Model → ℕ → Elem s
 element-at s m i = getD (elements s m) i (no-element s)
@@ -57,17 +57,17 @@ pub record Place (g : Graph) (s : Section) (bs : List StoredBundle) (cs : List S
   pub below : i < n
 
 module _ {g : Graph} {bs : List StoredBundle} {cs : List StoredConnection} {n : ℕ} where
-  bundles-placed : Placed g Section.Bundles bs cs n → Filled store-bundle (store-bundle no-bundle) most-bundles bs n (meaning g .bundles)
+  bundles-placed : {v : ℕ} → Placed g (Section.Bundles v) bs cs n → Filled store-bundle (store-bundle no-bundle) most-bundles bs n (meaning g .bundles)
   bundles-placed p = record { shape = p .bundles; counted = p .counted; room = p .valid .good .bundles-legal .few }
 
-  connections-placed : Placed g Section.Connections bs cs n
+  connections-placed : {v : ℕ} → Placed g (Section.Connections v) bs cs n
       → Filled store-connection (store-connection no-connection) most-connections cs n (meaning g .connections)
   connections-placed p = record { shape = p .connections; counted = p .counted; room = p .valid .good .connections-legal .few }
 
   -- the places of the section hold its elements
   placed-elements : (s : Section) → Placed g s bs cs n → elements s (placed-model bs cs n) ≡ elements s (meaning g)
-  placed-elements Section.Bundles p = ap bundles-of (filled-bundles (bundles-placed p)) ∙ bundles-back (meaning g .bundles)
-  placed-elements Section.Connections p =
+  placed-elements (Section.Bundles v) p = ap bundles-of (filled-bundles (bundles-placed p)) ∙ bundles-back (meaning g .bundles)
+  placed-elements (Section.Connections v) p =
       ap connections-of (filled-connections (connections-placed p)) ∙ connections-back (meaning g .connections) (short-connections (p .valid .good))
 
   -- all of them
@@ -98,8 +98,8 @@ module _ {g : Graph} {s : Section} {bs : List StoredBundle} {cs : List StoredCon
       )
 
   -- the place is there, its value fits, and the value's record is that of the element
-  module _ (k : s ≡ Section.Bundles) where
-    bundles-here : Placed g Section.Bundles bs cs n
+  module _ {v : ℕ} (k : s ≡ Section.Bundles v) where
+    bundles-here : Placed g (Section.Bundles v) bs cs n
     bundles-here = subst (λ (t : Section). Placed g t bs cs n) k (p .placed)
 
     pub bundle-inside : i < most-bundles
@@ -109,17 +109,17 @@ module _ {g : Graph} {s : Section} {bs : List StoredBundle} {cs : List StoredCon
     bundle-fit e =
         subst BundleFits (sym (filled-at (bundles-placed bundles-here) i e no-bundle (p .below))) (bundle-fits _ (bundle-short g (p .placed .valid) i))
 
-    pub bundle-element : (e : StoredBundle) {r t : FieldValues} → ValuesAre Section.Bundles r (bundle-in (getD bs i e)) → t ≡ r
+    pub bundle-element : (e : StoredBundle) {r t : FieldValues} → ValuesAre (Section.Bundles v) r (bundle-in (getD bs i e)) → t ≡ r
         → ValuesAre s t (element-at s (placed-model bs cs n) i)
     bundle-element e {r} {t} h d =
         let x =
         filled-means (bundles-placed bundles-here) bundle-in (bundles-each (meaning g .bundles)) i e no-bundle (p .below)
-        ∙ ap (λ b. getD b i no-bundle) (sym (placed-elements Section.Bundles bundles-here)) in
+        ∙ ap (λ b. getD b i no-bundle) (sym (placed-elements (Section.Bundles v) bundles-here)) in
         subst (λ (u : Section). ValuesAre u t (element-at u (placed-model bs cs n) i)) (sym k)
-        (subst (ValuesAre Section.Bundles t) x (subst (λ (u : FieldValues). ValuesAre Section.Bundles u (bundle-in (getD bs i e))) (sym d) h))
+        (subst (ValuesAre (Section.Bundles v) t) x (subst (λ (u : FieldValues). ValuesAre (Section.Bundles v) u (bundle-in (getD bs i e))) (sym d) h))
 
-  module _ (k : s ≡ Section.Connections) where
-    connections-here : Placed g Section.Connections bs cs n
+  module _ {v : ℕ} (k : s ≡ Section.Connections v) where
+    connections-here : Placed g (Section.Connections v) bs cs n
     connections-here = subst (λ (t : Section). Placed g t bs cs n) k (p .placed)
 
     pub connection-inside : i < most-connections
@@ -130,12 +130,13 @@ module _ {g : Graph} {s : Section} {bs : List StoredBundle} {cs : List StoredCon
         subst ConnectionFits (sym (filled-at (connections-placed connections-here) i e no-connection (p .below)))
         (connection-fits _ (connection-short g (p .placed .valid) i))
 
-    pub connection-element : (e : StoredConnection) {r t : FieldValues} → ValuesAre Section.Connections r (connection-in (getD cs i e)) → t ≡ r
+    pub connection-element : (e : StoredConnection) {r t : FieldValues} → ValuesAre (Section.Connections v) r (connection-in (getD cs i e)) → t ≡ r
         → ValuesAre s t (element-at s (placed-model bs cs n) i)
     connection-element e {r} {t} h d =
         let each = connections-each (meaning g .connections) (short-connections (p .placed .valid .good)) in
         let x =
         filled-means (connections-placed connections-here) connection-in each i e no-connection (p .below)
-        ∙ ap (λ c. getD c i no-connection) (sym (placed-elements Section.Connections connections-here)) in
+        ∙ ap (λ c. getD c i no-connection) (sym (placed-elements (Section.Connections v) connections-here)) in
         subst (λ (u : Section). ValuesAre u t (element-at u (placed-model bs cs n) i)) (sym k)
-        (subst (ValuesAre Section.Connections t) x (subst (λ (u : FieldValues). ValuesAre Section.Connections u (connection-in (getD cs i e))) (sym d) h))
+        (subst (ValuesAre (Section.Connections v) t) x
+        (subst (λ (u : FieldValues). ValuesAre (Section.Connections v) u (connection-in (getD cs i e))) (sym d) h))

@@ -26,23 +26,23 @@ use Rattle.region_archive.specs.Promise.{seen-number, hidden-number, que
 abbrev asked : Place → Bool → List Question
 asked p b = ask not-installed (is-installed p) ∷ ask not-a-kind b ∷ []
 
-module _ {s : List ℕ} (f : FileMeaning s) (location kind number : ℕ) where
+module _ {s : List ℕ} (f : FileMeaning s) (location kind number version : ℕ) where
   -- the answer where the first question answered no has the number n
   abbrev answer-by : Place → ℕ → ℕ
-  answer-by p n = pick (eqb n not-refused) (pick (sees-from (read-model f) (item kind number) p) seen-number hidden-number) n
+  answer-by p n = pick (eqb n not-refused) (pick (sees-from (read-model f) (item kind number version) p) seen-number hidden-number) n
 
   -- a refused read
-  pub query-refused : {k : ℕ} → k ≡ read-number f → (k ≡ not-refused → ⊥) → k ≡ query-answer f location kind number
+  pub query-refused : {k : ℕ} → k ≡ read-number f → (k ≡ not-refused → ⊥) → k ≡ query-answer f location kind number version
   query-refused {k} e u =
       let p = place-of (read-model f .bundles) location in
       let q : first-no (read-questions f ++ asked p (leb kind 2)) ≡ k =
       first-no-stops (read-questions f) (asked p (leb kind 2)) (sym e) (ne-eqb k not-refused u) in
-      let told = pick (sees-from (read-model f) (item kind number) p) seen-number hidden-number in
+      let told = pick (sees-from (read-model f) (item kind number version) p) seen-number hidden-number in
       sym (ap (answer-by p) q ∙ ap (λ (b : Bool). pick b told k) (ne-eqb k not-refused u))
 
   -- an accepted one, the model of the record that it gave, and the place of the location there
   module _ (e : not-refused ≡ read-number f) {m : Model} (g : m ≡ read-model f) {p : Place} (q : place-of (m .bundles) location ≡ p) where
-    accepted : query-answer f location kind number ≡ answer-by p (first-no (asked p (leb kind 2)))
+    accepted : query-answer f location kind number version ≡ answer-by p (first-no (asked p (leb kind 2)))
     accepted =
         ap (answer-by (place-of (read-model f .bundles) location))
         (first-no-goes-on (read-questions f) (asked (place-of (read-model f .bundles) location) (leb kind 2))
@@ -50,22 +50,22 @@ module _ {s : List ℕ} (f : FileMeaning s) (location kind number : ℕ) where
         ∙ ap (λ (x : Place). answer-by x (first-no (asked x (leb kind 2)))) (ap (λ (n : Model). place-of (n .bundles) location) (sym g) ∙ q)
 
     -- question 12
-    pub query-outside : p ≡ Nowhere → not-installed ≡ query-answer f location kind number
+    pub query-outside : p ≡ Nowhere → not-installed ≡ query-answer f location kind number version
     query-outside n = sym (accepted ∙ ap (λ (x : Place). answer-by x (first-no (asked x (leb kind 2)))) n)
 
     module _ {r : ℕ} (w : p ≡ Within r) where
-      within : (b : Bool) → leb kind 2 ≡ b → query-answer f location kind number ≡ answer-by (Within r) (first-no (asked (Within r) b))
+      within : (b : Bool) → leb kind 2 ≡ b → query-answer f location kind number version ≡ answer-by (Within r) (first-no (asked (Within r) b))
       within b k = accepted ∙ (λ i. answer-by (w i) (first-no (asked (w i) (k i))))
 
       -- question 13
-      pub query-unknown : 2 < kind → not-a-kind ≡ query-answer f location kind number
+      pub query-unknown : 2 < kind → not-a-kind ≡ query-answer f location kind number version
       query-unknown h = sym (within _ (lt-leb kind 2 h))
 
       -- whether the region is in the set of those that see the item
-      pub query-told : kind ≤ 2 → Legal m → {set : ℕ} → set ≡ set-of (sees m (item kind number)) → {b t : Bool} → b ≡ has set r → b ≡ t
-          → pick t seen-number hidden-number ≡ query-answer f location kind number
+      pub query-told : kind ≤ 2 → Legal m → {set : ℕ} → set ≡ set-of (sees m (item kind number version)) → {b t : Bool} → b ≡ has set r → b ≡ t
+          → pick t seen-number hidden-number ≡ query-answer f location kind number version
       query-told h l {set} d {b} {t} a c =
-          let i = item kind number in
+          let i = item kind number version in
           let v : has set r ≡ sees m i r =
           ap (λ (x : ℕ). has x r) d ∙ ap (stands-in (set-of (sees m i))) (sym (q ∙ w)) ∙ stands-sees m i l location ∙ ap (sees-from m i) (q ∙ w) in
           let u : t ≡ sees (read-model f) i r = sym c ∙ a ∙ v ∙ ap (λ (n : Model). sees n i r) g in

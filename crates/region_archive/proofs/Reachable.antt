@@ -5,22 +5,24 @@ use mathlib.Core.Bool.{Bool, true}
 use mathlib.Core.List.{List, [], _∷_, _++_, map, append-nil, append-assoc}
 use Prim.Native.Nat.{ℕ, _<_}
 use native.Mathlib.Omega.{arith}
+use lib.Dec.{ltb}
 use lib.ListN.{length, length-append}
 use Rattle.region_graph.specs.Size.{regions}
 use Rattle.region_graph.specs.Lists.{All}
-use Rattle.region_graph.specs.Model.{Model, Part, Sorted, Legal, NumberedPart, nothing}
+use Rattle.region_graph.specs.Model.{Model, Part, Word, EntryFits, LegalEntry, Sorted, SortedPart, Legal, entry-before, nothing}
 use Rattle.region_graph.specs.Calls.{Call, after, run}
 use Rattle.region_graph.specs.Record.{Valid, store, meaning}
 use Rattle.region_graph.specs.declared.Graph.{Graph}
 use Rattle.region_graph.proofs.Lists.{all-map, all-join, all-rest}
 use Rattle.region_graph.proofs.Ascending.{Strict, Rising, rising-ascends, ascends-rising, strict-numbers, strict-bundles, strict-connections}
-use Rattle.region_graph.proofs.Legal.{legal-nothing, legal-run, Words, PartWords}
+use Rattle.region_graph.proofs.Legal.{legal-nothing, legal-run, Words, PartAll}
 use Rattle.region_graph.proofs.Storing.{stores-valid}
 use Rattle.region_graph.specs.Decoded.{GoodRegions}
+use Rattle.region_archive.specs.Image.{latest}
 use Rattle.region_archive.specs.RecordFields.{Elem, most-records, element-before, LegalElem, LegalElems, elements}
 use Rattle.region_archive.specs.declared.record_fields.Section.{Section}
 use Rattle.region_archive.specs.declared.record_fields.Section.the-variants as Section
-use Rattle.region_archive.proofs.Records.{legal-elements}
+use Rattle.region_archive.proofs.Versions.{legal-elements}
 use Rattle.region_archive.proofs.Taking.{filled, call, only, region-taken, region-joined, taken, joined}
 
 -- calls one after the other
@@ -80,8 +82,8 @@ regions-fill rs r =
     (λ xs x l. region-joined xs x (l .rises) (region-taken xs x (l .rises) (l .is-good))) [] rs r
 
 strict-section : (k : Section) → Strict (element-before k)
-strict-section Section.Bundles = strict-bundles
-strict-section Section.Connections = strict-connections
+strict-section (Section.Bundles v) = strict-bundles
+strict-section (Section.Connections v) = strict-connections
 
 -- the elements of a section, handed to its call in order
 section-fill : (k : Section) (m : Model) (xs : List (Elem k)) → All (λ r. r < regions) (m .regions) → LegalElems k (m .regions) xs
@@ -90,19 +92,23 @@ section-fill k m xs small r =
     fills (strict-section k) (LegalElem k (m .regions)) (most-records k) (filled k m) (call k)
     (λ xs x l. joined k m xs x (l .rises) (taken k m xs x (l .rises) small (l .is-good) (l .room))) [] xs r
 
--- the numbers of a legal part have 32 bits
-part-words : (p : Part) → NumberedPart p → PartWords p
-part-words (Part.listed xs) h = h .each
-part-words Part.everything h = tt
+-- what a legal part lists fits
+part-words : {A : Type 0} (before : A → A → Bool) (Good Fits : A → Type 0) → ((x : A) → Good x → Fits x) → (p : Part A)
+    → SortedPart before Good p → PartAll Fits p
+part-words before Good Fits f (Part.listed xs) h = all-map Good Fits f xs (h .each)
+part-words before Good Fits f Part.everything h = tt
 
--- the numbers of a legal element have 32 bits
+-- the numbers of a legal element have 32 bits, and its versions 16
 words : (k : Section) (rs : List ℕ) (x : Elem k) → LegalElem k rs x → Words (call k x)
-words Section.Bundles rs b h = (h .location, h .packages .each, h .services .each)
-words Section.Connections rs c h =
-    let f = h .filter in
-    (f .bundles .each, part-words (c .filter .packages) (f .packages), part-words (c .filter .services) (f .services))
+words (Section.Bundles v) rs b (h, plain) = (h .location, h .packages .each, h .services .each)
+words (Section.Connections v) rs c (h, plain) =
+    let f = h .filter in (
+      f .bundles .each,
+      part-words entry-before LegalEntry EntryFits (λ e l. l .fits) (c .filter .packages) (f .packages),
+      part-words ltb Word Word (λ n l. l) (c .filter .services) (f .services),
+    )
 
--- some calls from nothing, with numbers of 32 bits, give the value
+-- some calls from nothing, with numbers of 32 bits and versions of 16, give the value
 pub record Reached {A : Type 0} (of : Model → A) (a : A) : Type 0 where
   pub calls : List Call
   pub words : All Words calls
@@ -112,34 +118,50 @@ pub record Reached {A : Type 0} (of : Model → A) (a : A) : Type 0 where
 legal-reached : (m : Model) → Legal m → Reached (λ n. n) m
 legal-reached m l =
     record {
-      calls = adds ++ (fills-of Section.Bundles ++ fills-of Section.Connections);
+      calls = adds ++ (fills-of bundles ++ fills-of connections);
       words =
-          all-join Words adds (fills-of Section.Bundles ++ fills-of Section.Connections) (add-words (m .regions))
-          (all-join Words (fills-of Section.Bundles) (fills-of Section.Connections) (section-words Section.Bundles) (section-words Section.Connections));
+          all-join Words adds (fills-of bundles ++ fills-of connections) (add-words (m .regions))
+          (all-join Words (fills-of bundles) (fills-of connections) (section-words bundles bundles-in) (section-words connections connections-in));
       gives =
-          run-append nothing adds (fills-of Section.Bundles ++ fills-of Section.Connections)
-          ∙ ap (λ (n : Model). run n (fills-of Section.Bundles ++ fills-of Section.Connections)) (regions-fill (m .regions) (l .regions-legal))
-          ∙ run-append (only (m .regions)) (fills-of Section.Bundles) (fills-of Section.Connections)
-          ∙ ap (λ (n : Model). run n (fills-of Section.Connections)) (fill Section.Bundles) ∙ fill Section.Connections;
+          run-append nothing adds (fills-of bundles ++ fills-of connections)
+          ∙ ap (λ (n : Model). run n (fills-of bundles ++ fills-of connections)) (regions-fill (m .regions) (l .regions-legal))
+          ∙ run-append (only (m .regions)) (fills-of bundles) (fills-of connections)
+          ∙ ap (λ (n : Model). run n (fills-of connections)) (fill bundles bundles-in) ∙ fill connections connections-in;
     }
   where
+    -- the sections of the latest version, in which every legal element is legal
+    bundles : Section
+    bundles = Section.Bundles latest
+
+    connections : Section
+    connections = Section.Connections latest
+
+    In : Section → Type 0
+    In k = LegalElems k (m .regions) (elements k m)
+
+    bundles-in : In bundles
+    bundles-in = legal-elements bundles m (l, refl)
+
+    connections-in : In connections
+    connections-in = legal-elements connections m (l, refl)
+
     adds : List Call
     adds = map Call.add-region (m .regions)
 
     fills-of : Section → List Call
     fills-of k = map (call k) (elements k m)
 
-    fill : (k : Section) → run (filled k m []) (fills-of k) ≡ filled k m (elements k m)
-    fill k = section-fill k m (elements k m) (l .regions-legal .each) (legal-elements k m l)
+    fill : (k : Section) → In k → run (filled k m []) (fills-of k) ≡ filled k m (elements k m)
+    fill k h = section-fill k m (elements k m) (l .regions-legal .each) h
 
     add-words : (rs : List ℕ) → All Words (map Call.add-region rs)
     add-words [] = tt
     add-words (r ∷ rs) = (tt, add-words rs)
 
-    section-words : (k : Section) → All Words (fills-of k)
-    section-words k =
+    section-words : (k : Section) → In k → All Words (fills-of k)
+    section-words k h =
         all-mapped (call k) Words (elements k m)
-        (all-map (LegalElem k (m .regions)) (λ x. Words (call k x)) (words k (m .regions)) (elements k m) (legal-elements k m l .each))
+        (all-map (LegalElem k (m .regions)) (λ x. Words (call k x)) (words k (m .regions)) (elements k m) (h .each))
 
 -- a model is legal exactly when some calls from nothing give it
 pub legal-reachable : (m : Model) → Legal m ↔ Reached (λ n. n) m

@@ -2,8 +2,8 @@
 use mathlib.Core.Path.{_≡_, refl, sym, ap, _∙_, subst}
 use mathlib.Core.Bool.{Bool, true, false}
 use mathlib.Core.List.{List, [], _∷_, _++_}
-use Prim.Native.Nat.{ℕ, suc, _+_, _-_, _*_, _≤_, _<_}
-use native.Mathlib.Nat.{mul-le-mul-right, suc-mul}
+use Prim.Native.Nat.{ℕ, suc, _+_, _-_, _*_, _%_, _^_, _≤_, _<_}
+use native.Mathlib.Nat.{mul-le-mul-right, suc-mul, mod-eq-of-lt}
 use native.Mathlib.Numerals.{add-one}
 use native.Mathlib.Omega.{arith}
 use borrow.Rule.Slice.PartMut.{midOf, putMid}
@@ -56,8 +56,8 @@ mid-at a k i xs h = getD-take k (drop a xs) i 0 h ∙ getD-drop a xs i 0
 
 -- sizes
 pub rows-small : (k : Section) → most-records k * row-width k ≤ 2544
-rows-small Section.Bundles = omega arith
-rows-small Section.Connections = omega arith
+rows-small (Section.Bundles v) = omega arith
+rows-small (Section.Connections v) = omega arith
 
 -- n rows end where the next one starts
 row-next : (w base n : ℕ) → base ≡ n * w → base + w ≡ (n + 1) * w
@@ -70,9 +70,18 @@ row-room k {base} {n} e h =
     omega (arith, mul-le-mul-right (row-width k) up, suc-mul n (row-width k))
 
 pub key-small : (k : Section) (rs : List ℕ) → All (λ r. r < regions) rs → (x : Elem k) → LegalElem k rs x → key k x < 1099511627776
-key-small Section.Bundles rs small b l = omega (arith, l .location)
-key-small Section.Connections rs small c l =
-    omega (arith, member-all (λ r. r < regions) (c .source) rs small (l .source), member-all (λ r. r < regions) (c .target) rs small (l .target))
+key-small (Section.Bundles v) rs small b l = omega (arith, l .0 .location)
+key-small (Section.Connections v) rs small c l =
+    omega (arith, member-all (λ r. r < regions) (c .source) rs small (l .0 .source), member-all (λ r. r < regions) (c .target) rs small (l .0 .target))
+
+-- the two numbers of a legal element have 32 bits
+words-small : (k : Section) (rs : List ℕ) → All (λ r. r < regions) rs → (x : Elem k) → LegalElem k rs x
+    → (fields-of k x .first < 2 ^ 32) × (fields-of k x .second < 2 ^ 32)
+words-small (Section.Bundles v) rs small b l = (l .0 .location, omega (arith, member-all (λ r. r < regions) (b .region) rs small (l .0 .region)))
+words-small (Section.Connections v) rs small c l = (
+  omega (arith, member-all (λ r. r < regions) (c .source) rs small (l .0 .source)),
+  omega (arith, member-all (λ r. r < regions) (c .target) rs small (l .0 .target)),
+)
 
 -- n elements were read from `mid` to `at`; their rows end at `base`
 pub record Recording (q : Source) (mid : ℕ) (rows : List ℕ) (at least base n : ℕ) : Type 0 where
@@ -103,10 +112,16 @@ module _ {q : Source} {at least : ℕ} {r : LengthAt} {base end : ℕ} {new : Li
   flat-row = flat-of (q .section) row (t .fields .value) (read-element .elem) (read-element .same) (t .fields .put)
 
   -- its order
-  pub order-is : {first second order : ℕ} → first ≡ getD new base 0 → second ≡ getD new (base + 1) 0 → order ≡ field-key (q .section) first second
-      → order ≡ key (q .section) (read-element .elem)
-  order-is a b o = o ∙ (λ i. field-key (q .section) ((a ∙ one) i) ((b ∙ other) i))
+  pub order-is : {first second order : ℕ} → first ≡ getD new base 0 % 2 ^ 32 → second ≡ getD new (base + 1) 0 % 2 ^ 32
+      → order ≡ field-key (q .section) first second → order ≡ key (q .section) (read-element .elem)
+  order-is a b o = o ∙ (λ i. field-key (q .section) ((a ∙ low one (small .0)) i) ((b ∙ low other (small .1)) i))
     where
+      small : (fields-of (q .section) (read-element .elem) .first < 2 ^ 32) × (fields-of (q .section) (read-element .elem) .second < 2 ^ 32)
+      small = words-small (q .section) (q .rs) (q .small) (read-element .elem) (read-element .legal)
+
+      low : {m n : ℕ} → m ≡ n → n < 2 ^ 32 → m % 2 ^ 32 ≡ n
+      low e h = ap (λ (k : ℕ). k % 2 ^ 32) e ∙ mod-eq-of-lt h
+
       one : getD new base 0 ≡ fields-of (q .section) (read-element .elem) .first
       one =
           let here : base ≡ base + 0 = omega arith in

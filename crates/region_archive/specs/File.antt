@@ -1,4 +1,4 @@
--- Document 01, "The archive" and questions 15 to 17, and C-13 of document 02: what a file means, and the number that it is read with.
+-- Document 01, "The archive" and questions 15 to 17, and C-13 and C-15 of document 02: what a file means, and the number that it is read with.
 use mathlib.Core.Path.{_≡_}
 use mathlib.Core.Bool.{Bool, true, false, _&&_}
 use mathlib.Core.List.{List, [], _∷_, _++_}
@@ -8,28 +8,25 @@ use lib.ListN.{length, getD}
 use Rattle.region_graph.specs.Refusals.{not-an-archive, wrong-length, broken-layout}
 use Rattle.region_graph.specs.Model.{Model, Legal, nothing}
 use Rattle.region_graph.specs.Calls.{Question, ask, first-no}
-use Rattle.region_archive.specs.Image.{image}
+use Rattle.region_archive.specs.Image.{latest, image-in, in-version}
 
--- a file is the image of a legal model, or of none
+-- a file is the image, of some version, of a legal model that has one, or of none
 pub data FileMeaning (bytes : List ℕ) : Type 0 where
-  means : (m : Model) → Legal m → image m ≡ bytes → FileMeaning bytes
-  means-none : ((m : Model) → Legal m → image m ≡ bytes → ⊥) → FileMeaning bytes
+  means : (v : ℕ) (m : Model) → Legal m → in-version v m ≡ true → image-in v m ≡ bytes → FileMeaning bytes
+  means-none : ((v : ℕ) (m : Model) → Legal m → in-version v m ≡ true → image-in v m ≡ bytes → ⊥) → FileMeaning bytes
 
 abbrev pub is-image : {bytes : List ℕ} → FileMeaning bytes → Bool
-is-image (means m l e) = true
+is-image (means v m l h e) = true
 is-image (means-none n) = false
 
 -- the three sets that a read gives: those of the model, or empty ones
 abbrev pub read-model : {bytes : List ℕ} → FileMeaning bytes → Model
-read-model (means m l e) = m
+read-model (means v m l h e) = m
 read-model (means-none n) = nothing
 
--- the versions that are read: these two and those between
+-- the versions from this to the latest are read
 abbrev pub oldest : ℕ
 oldest = 1
-
-abbrev pub latest : ℕ
-latest = 2
 
 -- at least 5 bytes, the first being a version from `low` to `high`
 abbrev pub opens : ℕ → ℕ → List ℕ → Bool

@@ -4,5 +4,6 @@ pub mod File
 pub mod Promise
 -- What only private functions cite.
 pub mod Bounds
+pub mod Forms
 pub mod RecordFields
 pub mod Sections

@@ -67,10 +67,11 @@ query-questions f location kind =
     read-questions f ++ ask not-installed (is-installed (place-of (read-model f .bundles) location)) ∷ ask not-a-kind (leb kind 2) ∷ []
 
 -- the number of the first question answered no; with none, whether the bundle sees the item
-abbrev pub query-answer : {s : List ℕ} → FileMeaning s → ℕ → ℕ → ℕ → ℕ
-query-answer f location kind number =
+abbrev pub query-answer : {s : List ℕ} → FileMeaning s → ℕ → ℕ → ℕ → ℕ → ℕ
+query-answer f location kind number version =
     let n = first-no (query-questions f location kind) in
-    pick (eqb n not-refused) (pick (sees-from (read-model f) (item kind number) (place-of (read-model f .bundles) location)) seen-number hidden-number) n
+    let sees = sees-from (read-model f) (item kind number version) (place-of (read-model f .bundles) location) in
+    pick (eqb n not-refused) (pick sees seen-number hidden-number) n
 
-abbrev pub Queried : List ℕ → ℕ → ℕ → ℕ → ℕ → Type 0
-Queried s location kind number r = (f : FileMeaning s) → r ≡ query-answer f location kind number
+abbrev pub Queried : List ℕ → ℕ → ℕ → ℕ → ℕ → ℕ → Type 0
+Queried s location kind number version r = (f : FileMeaning s) → r ≡ query-answer f location kind number version

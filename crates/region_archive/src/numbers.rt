@@ -1,5 +1,6 @@
-// Big-endian numbers written at a place of a buffer, and bytes that count.
-ghost use Prim.Native.Nat.{_+_, _<_, _≤_};
+// Big-endian numbers written at a place of a buffer, bytes that count, and the low half of a number.
+ghost use mathlib.Core.Path.{_≡_};
+ghost use Prim.Native.Nat.{_+_, _%_, _^_, _<_, _≤_};
 ghost use lib.ListN.{length};
 ghost use Rattle.text_lines.specs.Written.{WrittenAt};
 ghost use Rattle.big_endian.specs.Bytes.{big};
@@ -36,4 +37,11 @@ pub fn count_at(bytes: &[u8], at: usize, most: usize) -> NumberAt
         };
     }
     count
+}
+
+// The low 32 bits of a number.
+pub fn low_word(number: u64) -> u32
+    ensures { λ r. ⌜ r ≡ number % 2 ^ 32 ⌝ }
+{
+    (number % 4294967296) as u32
 }

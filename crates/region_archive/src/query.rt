@@ -1,4 +1,4 @@
-// The archive query, for C.
+// The archive query, for C. Its name ends in the version of the interface with which its arguments came.
 ghost use Rattle.region_archive.specs.Promise.{Queried};
 use crate::reading::read;
 use region_graph::Item;
@@ -16,8 +16,14 @@ pub const HIDDEN: u32 = 101;
 
 // Whether the bundle at a location sees an item in the graph of an archive; or a refusal's number.
 #[no_mangle]
-pub extern "C" fn archive_query(bytes: &[u8], location: u32, kind: u32, item: u32) -> u32
-    ensures { λ r. ⌜ Queried (now (bytes .entry)) location kind item r ⌝ }
+pub extern "C" fn archive_query_v4(
+    bytes: &[u8],
+    location: u32,
+    kind: u32,
+    item: u32,
+    version: u16,
+) -> u32
+    ensures { λ r. ⌜ Queried (now (bytes .entry)) location kind item version r ⌝ }
 {
     let archive = read(bytes);
     if archive.number != NOT_REFUSED {
@@ -31,7 +37,12 @@ pub extern "C" fn archive_query(bytes: &[u8], location: u32, kind: u32, item: u3
     if 2 < kind {
         return NOT_A_KIND;
     }
-    let set = regions_seeing(graph, Item { kind, number: item });
+    let sought = Item {
+        kind,
+        number: item,
+        version,
+    };
+    let set = regions_seeing(graph, sought);
     if has(set, region) {
         return SEEN;
     }

@@ -14,7 +14,7 @@ use crate::sections::regions_at;
 use crate::sections::section_at;
 use crate::version::LATEST;
 use crate::version::OLDEST;
-use crate::version::version;
+use crate::version::has_version;
 use big_endian::number_at;
 use region_graph::Changed;
 use region_graph::Graph;
@@ -66,21 +66,33 @@ fn body_at(bytes: &[u8], at: usize, first: usize) -> Changed
     ensures { λ r. ⌜ BodyRead first (now (bytes .entry)) at r ⌝ }
 {
     let mut list = [0u32; REGIONS];
-    let mut bundles = [0u32; MOST_BUNDLES * BUNDLE_WIDTH];
-    let mut connections = [0u32; MOST_CONNECTIONS * CONNECTION_WIDTH];
+    let mut bundles = [0u64; MOST_BUNDLES * BUNDLE_WIDTH];
+    let mut connections = [0u64; MOST_CONNECTIONS * CONNECTION_WIDTH];
     let regions = regions_at(bytes, at, &mut list);
     if !regions.ok {
         return refused(BROKEN_LAYOUT);
     }
     let set = regions.set;
-    if version(set) != first {
+    if !has_version(set, first) {
         return refused(BROKEN_LAYOUT);
     }
-    let b = section_at(bytes, regions.next, Section::Bundles, set, &mut bundles);
+    let b = section_at(
+        bytes,
+        regions.next,
+        Section::Bundles(first),
+        set,
+        &mut bundles,
+    );
     if !b.ok {
         return refused(BROKEN_LAYOUT);
     }
-    let c = section_at(bytes, b.next, Section::Connections, set, &mut connections);
+    let c = section_at(
+        bytes,
+        b.next,
+        Section::Connections(first),
+        set,
+        &mut connections,
+    );
     if !c.ok {
         return refused(BROKEN_LAYOUT);
     }

@@ -1,11 +1,15 @@
 // A record of an archive as a value: two numbers and up to three parts.
 ghost use mathlib.Core.Path.{_≡_};
+ghost use mathlib.Core.List.{map};
+ghost use Prim.Native.Nat.{ℕ, _≤_};
 ghost use lib.ListN.{length};
-ghost use Rattle.region_graph.specs.Record.{Valid, meaning, «store-numbers», «provided-of», «bundle-in», «connection-in»};
-ghost use Rattle.region_archive.specs.RecordFields.{«field-key», «field-count», «first-width», «most-records», «most-in», «row-width», elements, ProvidedFits, BundleFits, ConnectionFits, ValuesAre};
+ghost use Rattle.region_graph.specs.Size.{«most-listed»};
+ghost use Rattle.region_graph.specs.Model.{packages, entries};
+ghost use Rattle.region_graph.specs.Flat.{«package-code», «entry-code»};
+ghost use Rattle.region_graph.specs.Record.{Valid, meaning, «bundle-in», «connection-in»};
+ghost use Rattle.region_archive.specs.RecordFields.{«field-key», «field-count», «first-width», «most-records», «most-in», «row-width», elements};
+ghost use Rattle.region_archive.specs.RecordFields.{«as-codes», BundleFits, ConnectionFits, ValuesAre};
 use region_graph::Graph;
-use region_graph::Numbers;
-use region_graph::Provided;
 use region_graph::StoredBundle;
 use region_graph::StoredConnection;
 use region_graph::flat::BUNDLE_WIDTH;
@@ -15,32 +19,78 @@ use region_graph::size::MOST_CONNECTIONS;
 use region_graph::size::MOST_LISTED;
 use region_graph::size::MOST_PROVIDED;
 
-// The sections of an archive whose records have fields.
+// The sections of an archive of a version whose records have fields.
 pub enum Section {
-    Bundles,
-    Connections,
+    Bundles(usize),
+    Connections(usize),
+}
+
+// The codes of a list, or the sign for everything as the count.
+pub struct Codes {
+    pub count: usize,
+    pub items: [u64; MOST_LISTED],
 }
 
 // Location, region, packages and services of a bundle; source, target and the three parts of a connection's filter.
 pub struct FieldValues {
     pub first: u32,
     pub second: u32,
-    pub parts: [Numbers; 3],
+    pub parts: [Codes; 3],
 }
 
-// What a bundle brings, in as many places as a part has.
-fn widened(list: Provided) -> Numbers
-    requires { ⌜ ProvidedFits list ⌝ }
-    ensures { λ r. ⌜ r ≡ store-numbers (provided-of list) ⌝ }
+// How many versions there are.
+const VERSIONS: u64 = 65536;
+
+// Numbers as codes, in as many places as a part has.
+fn widened(count: usize, items: &[u32]) -> Codes
+    requires { ⌜ length (now items) ≤ most-listed ⌝ }
+    ensures { λ r. ⌜ r ≡ as-codes count (now (items .entry)) ⌝ }
 {
-    let mut items = [0u32; MOST_LISTED];
-    let count = list.count;
+    let mut codes = [0u64; MOST_LISTED];
     let mut i: usize = 0;
-    while i < count {
-        items[i] = list.items[i];
+    while i < items.len() {
+        codes[i] = items[i] as u64;
         i += 1;
     }
-    Numbers { count: i, items }
+    Codes {
+        count,
+        items: codes,
+    }
+}
+
+// The codes of packages.
+fn package_codes(count: usize, numbers: &[u32], versions: &[u16]) -> Codes
+    requires { ⌜ (length (now numbers) ≤ most-listed) × (length (now versions) ≡ length (now numbers)) ⌝ }
+    ensures { λ r. ⌜ r ≡ as-codes count (map package-code (packages (now (numbers .entry)) (now (versions .entry)))) ⌝ }
+{
+    let mut codes = [0u64; MOST_LISTED];
+    let mut i: usize = 0;
+    while i < numbers.len() {
+        codes[i] = (numbers[i] as u64) * VERSIONS + (versions[i] as u64);
+        i += 1;
+    }
+    Codes {
+        count,
+        items: codes,
+    }
+}
+
+// The codes of entries of a package part.
+fn entry_codes(count: usize, numbers: &[u32], lowest: &[u16], highest: &[u16]) -> Codes
+    requires { ⌜ (length (now numbers) ≤ most-listed) × ((length (now lowest) ≡ length (now numbers)) × (length (now highest) ≡ length (now numbers))) ⌝ }
+    ensures { λ r. ⌜ r ≡ as-codes count (map entry-code (entries (now (numbers .entry)) (now (lowest .entry)) (now (highest .entry)))) ⌝ }
+{
+    let mut codes = [0u64; MOST_LISTED];
+    let mut i: usize = 0;
+    while i < numbers.len() {
+        let from = (numbers[i] as u64) * VERSIONS + (lowest[i] as u64);
+        codes[i] = from * VERSIONS + (highest[i] as u64);
+        i += 1;
+    }
+    Codes {
+        count,
+        items: codes,
+    }
 }
 
 // How many records a section may have.
@@ -48,8 +98,8 @@ pub fn most_records(section: Section) -> usize
     ensures { λ r. ⌜ r ≡ most-records section ⌝ }
 {
     match section {
-        Section::Bundles => MOST_BUNDLES,
-        Section::Connections => MOST_CONNECTIONS,
+        Section::Bundles(_) => MOST_BUNDLES,
+        Section::Connections(_) => MOST_CONNECTIONS,
     }
 }
 
@@ -58,8 +108,8 @@ pub fn field_count(section: Section) -> usize
     ensures { λ r. ⌜ r ≡ field-count section ⌝ }
 {
     match section {
-        Section::Bundles => 4,
-        Section::Connections => 5,
+        Section::Bundles(_) => 4,
+        Section::Connections(_) => 5,
     }
 }
 
@@ -68,8 +118,8 @@ pub fn first_width(section: Section) -> usize
     ensures { λ r. ⌜ r ≡ first-width section ⌝ }
 {
     match section {
-        Section::Bundles => 4,
-        Section::Connections => 1,
+        Section::Bundles(_) => 4,
+        Section::Connections(_) => 1,
     }
 }
 
@@ -78,8 +128,8 @@ pub fn most_in(section: Section) -> usize
     ensures { λ r. ⌜ r ≡ most-in section ⌝ }
 {
     match section {
-        Section::Bundles => MOST_PROVIDED,
-        Section::Connections => MOST_LISTED,
+        Section::Bundles(_) => MOST_PROVIDED,
+        Section::Connections(_) => MOST_LISTED,
     }
 }
 
@@ -88,8 +138,8 @@ pub fn width(section: Section) -> usize
     ensures { λ r. ⌜ r ≡ row-width section ⌝ }
 {
     match section {
-        Section::Bundles => BUNDLE_WIDTH,
-        Section::Connections => CONNECTION_WIDTH,
+        Section::Bundles(_) => BUNDLE_WIDTH,
+        Section::Connections(_) => CONNECTION_WIDTH,
     }
 }
 
@@ -98,19 +148,20 @@ pub fn field_key(section: Section, first: u32, second: u32) -> u64
     ensures { λ r. ⌜ r ≡ field-key section first second ⌝ }
 {
     match section {
-        Section::Bundles => first as u64,
-        Section::Connections => (first as u64) * 256 + (second as u64),
+        Section::Bundles(_) => first as u64,
+        Section::Connections(_) => (first as u64) * 256 + (second as u64),
     }
 }
 
 pub fn bundle_values(b: StoredBundle) -> FieldValues
     requires { ⌜ BundleFits b ⌝ }
-    ensures { λ r. ⌜ ValuesAre Section.Bundles r (bundle-in b) ⌝ }
+    ensures { λ r. ⌜ ((v : ℕ) → ValuesAre (Section.Bundles v) r (bundle-in b)) ⌝ }
 {
-    let packages = b.packages;
+    let numbers = b.packages.numbers;
+    let versions = b.packages.versions;
     let services = b.services;
-    let provided = widened(packages);
-    let published = widened(services);
+    let provided = package_codes(b.packages.count, &numbers, &versions);
+    let published = widened(services.count, &services.items);
     let mut parts = [provided; 3];
     parts[1] = published;
     FieldValues {
@@ -122,14 +173,19 @@ pub fn bundle_values(b: StoredBundle) -> FieldValues
 
 pub fn connection_values(c: StoredConnection) -> FieldValues
     requires { ⌜ ConnectionFits c ⌝ }
-    ensures { λ r. ⌜ ValuesAre Section.Connections r (connection-in c) ⌝ }
+    ensures { λ r. ⌜ ((v : ℕ) → ValuesAre (Section.Connections v) r (connection-in c)) ⌝ }
 {
     let bundles = c.bundles;
-    let packages = c.packages;
+    let numbers = c.packages.numbers;
+    let lowest = c.packages.lowest;
+    let highest = c.packages.highest;
     let services = c.services;
-    let mut parts = [packages; 3];
-    parts[0] = bundles;
-    parts[2] = services;
+    let named = widened(bundles.count, &bundles.items);
+    let passed = entry_codes(c.packages.count, &numbers, &lowest, &highest);
+    let offered = widened(services.count, &services.items);
+    let mut parts = [named; 3];
+    parts[1] = passed;
+    parts[2] = offered;
     FieldValues {
         first: c.source,
         second: c.target,
@@ -143,7 +199,7 @@ pub fn count(graph: Graph, section: Section) -> usize
     ensures { λ r. ⌜ r ≡ length (elements section (meaning graph)) ⌝ }
 {
     match section {
-        Section::Bundles => graph.bundle_count(),
-        Section::Connections => graph.connection_count(),
+        Section::Bundles(_) => graph.bundle_count(),
+        Section::Connections(_) => graph.connection_count(),
     }
 }

@@ -5,9 +5,15 @@ ghost use Prim.Native.Nat.{_≤_, _<_, _+_, _*_};
 ghost use lib.ListN.{length};
 ghost use Rattle.region_graph.specs.Size.{regions, «most-listed»};
 ghost use Rattle.region_graph.specs.Sets.{members};
+ghost use Rattle.region_archive.specs.Forms.{FormFits};
 ghost use Rattle.region_archive.specs.RecordFields.{«field-count», «first-good», «second-good», «part-open», «most-records», «row-width»};
 ghost use Rattle.region_archive.specs.Sections.{ListRead, PartRead, FieldRead, LengthRead, RegionsRead, SectionRead};
+use crate::forms::Form;
+use crate::forms::code_at;
+use crate::forms::code_key;
+use crate::forms::form_of;
 use crate::numbers::count_at;
+use crate::numbers::low_word;
 use crate::record_fields::Section;
 use crate::record_fields::field_count;
 use crate::record_fields::field_key;
@@ -39,10 +45,11 @@ pub struct SectionAt {
     pub count: usize,
 }
 
-// The list at a place: a count, then its numbers in ascending order.
-fn list_at(bytes: &[u8], at: usize, most: usize, row: &mut [u32]) -> FieldAt
+// The list at a place: a count, then its elements in ascending order.
+fn list_at(bytes: &[u8], at: usize, most: usize, form: Form, row: &mut [u64]) -> FieldAt
     requires { ⌜ (at ≤ length (now bytes)) × ((most ≤ most-listed) × (most + 1 ≤ length (now row))) ⌝ }
-    ensures { λ r. ⌜ ListRead most (now (bytes .entry)) at (now (row .entry)) (now (row .exit)) r ⌝ }
+    requires { ⌜ FormFits form ⌝ }
+    ensures { λ r. ⌜ ListRead form most (now (bytes .entry)) at (now (row .entry)) (now (row .exit)) r ⌝ }
 {
     let count = count_at(bytes, at, most);
     if !count.ok {
@@ -52,20 +59,13 @@ fn list_at(bytes: &[u8], at: usize, most: usize, row: &mut [u32]) -> FieldAt
         };
     }
     let total = count.number as usize;
-    row[0] = count.number;
+    row[0] = count.number as u64;
     let mut to = count.next;
     let mut least: u64 = 0;
     let mut n: usize = 0;
     while n < total {
-        let read = number_at(bytes, to, 4);
+        let read = code_at(bytes, to, form, least);
         if !read.ok {
-            return FieldAt {
-                ok: false,
-                next: at,
-            };
-        }
-        let number = read.number as u64;
-        if number < least {
             return FieldAt {
                 ok: false,
                 next: at,
@@ -74,15 +74,16 @@ fn list_at(bytes: &[u8], at: usize, most: usize, row: &mut [u32]) -> FieldAt
         n += 1;
         row[n] = read.number;
         to = read.next;
-        least = number + 1;
+        least = code_key(form, read.number) + 1;
     }
     FieldAt { ok: true, next: to }
 }
 
 // The part at a place: a list, or the sign for everything where it may stand.
-fn part_at(bytes: &[u8], at: usize, most: usize, all: bool, row: &mut [u32]) -> FieldAt
+fn part_at(bytes: &[u8], at: usize, most: usize, all: bool, form: Form, row: &mut [u64]) -> FieldAt
     requires { ⌜ (at ≤ length (now bytes)) × ((most ≤ most-listed) × (most + 1 ≤ length (now row))) ⌝ }
-    ensures { λ r. ⌜ PartRead most all (now (bytes .entry)) at (now (row .entry)) (now (row .exit)) r ⌝ }
+    requires { ⌜ FormFits form ⌝ }
+    ensures { λ r. ⌜ PartRead form most all (now (bytes .entry)) at (now (row .entry)) (now (row .exit)) r ⌝ }
 {
     if at < bytes.len() {
         if bytes[at] == 255 {
@@ -91,7 +92,7 @@ fn part_at(bytes: &[u8], at: usize, most: usize, all: bool, row: &mut [u32]) -> 
             return FieldAt { ok: all, next };
         }
     }
-    list_at(bytes, at, most, row)
+    list_at(bytes, at, most, form, row)
 }
 
 // Whether a record may start with a number, where orders are at least so high.
@@ -102,8 +103,8 @@ fn first_good(section: Section, first: u32, regions: u64, least: u64) -> bool
         return false;
     }
     match section {
-        Section::Bundles => true,
-        Section::Connections => has(regions, first),
+        Section::Bundles(_) => true,
+        Section::Connections(_) => has(regions, first),
     }
 }
 
@@ -115,8 +116,8 @@ fn second_good(section: Section, first: u32, second: u32, regions: u64, least: u
         return false;
     }
     match section {
-        Section::Bundles => has(regions, second),
-        Section::Connections => {
+        Section::Bundles(_) => has(regions, second),
+        Section::Connections(_) => {
             if first == second {
                 return false;
             }
@@ -130,8 +131,8 @@ fn part_open(section: Section, field: usize) -> bool
     ensures { λ r. ⌜ r ≡ part-open section field ⌝ }
 {
     match section {
-        Section::Bundles => false,
-        Section::Connections => 2 < field,
+        Section::Bundles(_) => false,
+        Section::Connections(_) => 2 < field,
     }
 }
 
@@ -142,7 +143,7 @@ fn first_at(
     section: Section,
     regions: u64,
     least: u64,
-    row: &mut [u32],
+    row: &mut [u64],
 ) -> FieldAt
     requires { ⌜ (at ≤ length (now bytes)) × (2 ≤ length (now row)) ⌝ }
     ensures { λ r. ⌜ FieldRead section (members regions) least 0 (now (bytes .entry)) at (now (row .entry)) (now (row .exit)) r ⌝ }
@@ -156,7 +157,7 @@ fn first_at(
         };
     }
     let number = read.number;
-    row[0] = number;
+    row[0] = number as u64;
     let ok = first_good(section, number, regions, least);
     FieldAt {
         ok,
@@ -171,7 +172,7 @@ fn second_at(
     section: Section,
     regions: u64,
     least: u64,
-    row: &mut [u32],
+    row: &mut [u64],
 ) -> FieldAt
     requires { ⌜ (at ≤ length (now bytes)) × (2 ≤ length (now row)) ⌝ }
     ensures { λ r. ⌜ FieldRead section (members regions) least 1 (now (bytes .entry)) at (now (row .entry)) (now (row .exit)) r ⌝ }
@@ -184,8 +185,8 @@ fn second_at(
         };
     }
     let number = read.number;
-    let first = row[0];
-    row[1] = number;
+    let first = low_word(row[0]);
+    row[1] = number as u64;
     let ok = second_good(section, first, number, regions, least);
     FieldAt {
         ok,
@@ -201,7 +202,7 @@ fn field_at(
     field: usize,
     regions: u64,
     least: u64,
-    row: &mut [u32],
+    row: &mut [u64],
 ) -> FieldAt
     requires { ⌜ (at ≤ length (now bytes)) × ((field < field-count section) × (length (now row) ≡ row-width section)) ⌝ }
     ensures { λ r. ⌜ FieldRead section (members regions) least field (now (bytes .entry)) at (now (row .entry)) (now (row .exit)) r ⌝ }
@@ -212,8 +213,9 @@ fn field_at(
         _ => {
             let most = most_in(section);
             let all = part_open(section, field);
+            let form = form_of(section, field);
             let place = 2 + (field - 2) * (most + 1);
-            part_at(bytes, at, most, all, &mut row[place..])
+            part_at(bytes, at, most, all, form, &mut row[place..])
         }
     }
 }
@@ -304,7 +306,7 @@ pub fn section_at(
     from: usize,
     section: Section,
     regions: u64,
-    rows: &mut [u32],
+    rows: &mut [u64],
 ) -> SectionAt
     requires { ⌜ (from ≤ length (now bytes)) × (most-records section * row-width section ≤ length (now rows)) ⌝ }
     ensures { λ r. ⌜ SectionRead section (members regions) (now (bytes .entry)) from (now (rows .exit)) r ⌝ }
@@ -353,8 +355,8 @@ pub fn section_at(
         if to != stop {
             break 'records;
         }
-        let first = rows[base];
-        let second = rows[base + 1];
+        let first = low_word(rows[base]);
+        let second = low_word(rows[base + 1]);
         least = field_key(section, first, second) + 1;
         at = to;
         base = end;

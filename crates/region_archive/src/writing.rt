@@ -3,16 +3,21 @@ ghost use mathlib.Core.Path.{_≡_};
 ghost use Prim.Native.Nat.{_+_, _≤_};
 ghost use lib.ListN.{length};
 ghost use Rattle.region_graph.specs.Size.{regions};
-ghost use Rattle.region_graph.specs.Record.{Valid, meaning, «numbers-of», «part-in»};
+ghost use Rattle.region_graph.specs.Record.{Valid, meaning};
 ghost use Rattle.text_lines.specs.Written.{WrittenAt};
-ghost use Rattle.region_archive.specs.Bounds.{«part-bound», «fields-bound», «section-bound»};
+ghost use Rattle.region_archive.specs.Bounds.{«field-bound», «fields-bound», «section-bound»};
 ghost use Rattle.big_endian.specs.Bytes.{big, counted, sized};
 ghost use Rattle.region_archive.specs.Image.{«part-bytes»};
-ghost use Rattle.region_archive.specs.RecordFields.{NumbersFit, PartFits, ValuesFit, «fields-in», «field-bytes», «fields-bytes», «field-count», «section-bytes»};
+ghost use Rattle.region_archive.specs.Forms.{«element-bytes», FormFits};
+ghost use Rattle.region_archive.specs.RecordFields.{«codes-of», «part-of», CodesFit, CodePartFits, ValuesFit};
+ghost use Rattle.region_archive.specs.RecordFields.{«fields-in», «field-bytes», «fields-bytes», «field-count», «section-bytes»};
 ghost use Rattle.region_archive.specs.Promise.{archived, «write-outcome»};
 use crate::FRONT;
 use crate::Written;
+use crate::forms::Form;
+use crate::forms::form_of;
 use crate::numbers::put_number;
+use crate::record_fields::Codes;
 use crate::record_fields::FieldValues;
 use crate::record_fields::Section;
 use crate::record_fields::bundle_values;
@@ -20,37 +25,37 @@ use crate::record_fields::connection_values;
 use crate::record_fields::count;
 use crate::record_fields::field_count;
 use crate::record_fields::first_width;
-use crate::version::version;
+use crate::version::LATEST;
 use region_graph::Graph;
-use region_graph::Numbers;
 use region_graph::refusals::NO_PLACE;
 use region_graph::region_set::has;
 use region_graph::size::EVERYTHING;
 use region_graph::size::REGIONS;
 
 // How many bytes a part takes.
-fn part_size(part: Numbers) -> usize
-    requires { ⌜ PartFits part ⌝ }
-    ensures { λ r. ⌜ (r ≡ length (part-bytes (big 4) (part-in part))) × (r ≤ part-bound) ⌝ }
+fn part_size(form: Form, part: Codes) -> usize
+    requires { ⌜ FormFits form × CodePartFits part ⌝ }
+    ensures { λ r. ⌜ (r ≡ length (part-bytes (element-bytes form) (part-of part))) × (r ≤ field-bound) ⌝ }
 {
     if part.count == EVERYTHING {
         return 1;
     }
-    1 + part.count * 4
+    1 + part.count * form.width
 }
 
 // How many bytes a field of a record takes.
 fn field_size(section: Section, field: usize, values: FieldValues) -> usize
     requires { ⌜ ValuesFit values ⌝ }
     requires { ⌜ field + 1 ≤ field-count section ⌝ }
-    ensures { λ r. ⌜ (r ≡ length (field-bytes section field (fields-in values))) × (r ≤ part-bound) ⌝ }
+    ensures { λ r. ⌜ (r ≡ length (field-bytes section field (fields-in values))) × (r ≤ field-bound) ⌝ }
 {
     match field {
         0 => first_width(section),
         1 => 1,
         _ => {
             let part = values.parts[field - 2];
-            part_size(part)
+            let form = form_of(section, field);
+            part_size(form, part)
         }
     }
 }
@@ -82,11 +87,11 @@ fn section_size(graph: Graph, section: Section) -> usize
     let mut i: usize = 0;
     while i < total {
         let values = match section {
-            Section::Bundles => {
+            Section::Bundles(_) => {
                 let b = bundles[i];
                 bundle_values(b)
             }
-            Section::Connections => {
+            Section::Connections(_) => {
                 let c = connections[i];
                 connection_values(c)
             }
@@ -115,32 +120,33 @@ fn region_count(graph: Graph) -> usize
     n
 }
 
-// A list: its count, then its numbers.
-fn put_list(buffer: &mut [u8], at: usize, list: Numbers) -> usize
-    requires { ⌜ NumbersFit list ⌝ }
-    requires { ⌜ at + length (counted (big 4) (numbers-of list)) ≤ length (now buffer) ⌝ }
-    ensures { λ r. ⌜ WrittenAt (now (buffer .entry)) (now (buffer .exit)) at (counted (big 4) (numbers-of list)) r ⌝ }
+// A list: its count, then its elements.
+fn put_list(buffer: &mut [u8], at: usize, form: Form, list: Codes) -> usize
+    requires { ⌜ FormFits form × CodesFit list ⌝ }
+    requires { ⌜ at + length (counted (element-bytes form) (codes-of list)) ≤ length (now buffer) ⌝ }
+    ensures { λ r. ⌜ WrittenAt (now (buffer .entry)) (now (buffer .exit)) at (counted (element-bytes form) (codes-of list)) r ⌝ }
 {
     let total = list.count;
     let mut to = put_number(buffer, at, 1, total);
     let mut i: usize = 0;
     while i < total {
-        to = put_number(buffer, to, 4, list.items[i] as usize);
+        let written = (list.items[i] >> form.skipped) as usize;
+        to = put_number(buffer, to, form.width, written);
         i += 1;
     }
     to
 }
 
 // A part: a list, or the sign for everything.
-fn put_part(buffer: &mut [u8], at: usize, part: Numbers) -> usize
-    requires { ⌜ PartFits part ⌝ }
-    requires { ⌜ at + length (part-bytes (big 4) (part-in part)) ≤ length (now buffer) ⌝ }
-    ensures { λ r. ⌜ WrittenAt (now (buffer .entry)) (now (buffer .exit)) at (part-bytes (big 4) (part-in part)) r ⌝ }
+fn put_part(buffer: &mut [u8], at: usize, form: Form, part: Codes) -> usize
+    requires { ⌜ FormFits form × CodePartFits part ⌝ }
+    requires { ⌜ at + length (part-bytes (element-bytes form) (part-of part)) ≤ length (now buffer) ⌝ }
+    ensures { λ r. ⌜ WrittenAt (now (buffer .entry)) (now (buffer .exit)) at (part-bytes (element-bytes form) (part-of part)) r ⌝ }
 {
     if part.count == EVERYTHING {
         return put_number(buffer, at, 1, EVERYTHING);
     }
-    put_list(buffer, at, part)
+    put_list(buffer, at, form, part)
 }
 
 // A field of a record.
@@ -167,7 +173,8 @@ fn put_field(
         }
         _ => {
             let part = values.parts[field - 2];
-            put_part(buffer, at, part)
+            let form = form_of(section, field);
+            put_part(buffer, at, form, part)
         }
     }
 }
@@ -202,11 +209,11 @@ fn put_section(buffer: &mut [u8], at: usize, graph: Graph, section: Section) -> 
     let mut i: usize = 0;
     while i < total {
         let values = match section {
-            Section::Bundles => {
+            Section::Bundles(_) => {
                 let b = bundles[i];
                 bundle_values(b)
             }
-            Section::Connections => {
+            Section::Connections(_) => {
                 let c = connections[i];
                 connection_values(c)
             }
@@ -244,16 +251,16 @@ pub fn write(graph: Graph, buffer: &mut [u8]) -> Written
     ensures { λ r. ⌜ archived r (now (buffer .exit)) ≡ write-outcome (meaning graph) (now (buffer .entry)) ⌝ }
 {
     let regions = region_count(graph);
-    let bundles = section_size(graph, Section::Bundles);
-    let connections = section_size(graph, Section::Connections);
+    let bundles = section_size(graph, Section::Bundles(LATEST));
+    let connections = section_size(graph, Section::Connections(LATEST));
     let size = 1 + regions + bundles + connections;
     if buffer.len() < size + FRONT {
         return Written::Refused(NO_PLACE);
     }
-    let a = put_number(buffer, 0, 1, version(graph.region_set()));
+    let a = put_number(buffer, 0, 1, LATEST);
     let b = put_number(buffer, a, 4, size);
     let c = put_regions(buffer, b, graph);
-    let d = put_section(buffer, c, graph, Section::Bundles);
-    let end = put_section(buffer, d, graph, Section::Connections);
+    let d = put_section(buffer, c, graph, Section::Bundles(LATEST));
+    let end = put_section(buffer, d, graph, Section::Connections(LATEST));
     Written::Bytes(end)
 }

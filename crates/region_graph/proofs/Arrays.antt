@@ -131,9 +131,34 @@ module _ {A : Type 0} {xs old : List A} where
         let e : i ≡ length xs = omega (arith, s .inside) in
         rw (e, take-length) at (s .shape)
 
+-- the same of what a function makes of each element
+pub record Making {A B : Type 0} (f : A → B) (xs : List A) (old new : List B) (i : ℕ) : Type 0 where
+  pub inside : i ≤ length xs
+  pub room : length xs ≤ length old
+  pub putting : Putting (map f xs) old new i
+
+module _ {A B : Type 0} {f : A → B} {xs : List A} {old : List B} where
+  pub making-none : length xs ≤ length old → Making f xs old old 0
+  making-none h = record { inside = omega arith; room = h; putting = putting-none (rw length-map h) }
+
+  module _ {new : List B} {i : ℕ} (s : Making f xs old new i) where
+    pub making-next : {y : B} (d : A) → i < length xs → y ≡ f (getD xs i d) → Making f xs old (set new i y) (i + 1)
+    making-next {y} d l e = record {
+      inside = omega arith;
+      room = s .room;
+      putting = rw (e ∙ sym (getD-map-in f xs i y d l)) (putting-next (s .putting) y (rw length-map l));
+    }
+
+    pub making-end : length xs ≤ i → new ≡ map f xs ++ drop (length (map f xs)) old
+    making-end l = putting-end (s .putting) (rw length-map l)
+
 pub drop-replicate : {A : Type 0} (x : A) (n k : ℕ) → k ≤ n → drop k (replicate n x) ≡ replicate (n - k) x
 drop-replicate x n zero h = rw sub-zero
 drop-replicate x zero (suc k) h = absurd (omega arith)
 drop-replicate x (suc n) (suc k) h =
     let e : n - k ≡ suc n - suc k = omega arith in
     drop-replicate x n k (omega arith) ∙ ap (λ (j : ℕ). replicate j x) e
+
+-- a first part that is not longer than the whole
+pub prefix-counted : {A : Type 0} (items : List A) (count : ℕ) {size : ℕ} → length items ≡ size → count ≤ size → count ≡ length (take count items)
+prefix-counted items count e h = sym (length-take-le count items (omega (arith, e)))

@@ -1,7 +1,7 @@
 -- Facts about ascending lists, for any element and strict order; the orders of numbers, bundles and connections.
 use mathlib.Core.Path.{_≡_, refl, sym, ap, _∙_}
 use mathlib.Core.Bool.{Bool, true, false, _&&_, _||_, and-assoc}
-use mathlib.Core.List.{List, [], _∷_, _++_}
+use mathlib.Core.List.{List, [], _∷_, _++_, map}
 use Prim.Native.Nat.{ℕ, zero, suc, _+_, _-_, _*_, _≤_, _<_}
 use native.Mathlib.Nat.{mul-le-mul-right}
 use native.Mathlib.Omega.{arith}
@@ -91,6 +91,13 @@ ascends-append before (x ∷ z ∷ xs) y ys =
     ap (λ (t : Bool). before x z && t) (ascends-append before (z ∷ xs) y ys)
     ∙ sym (and-assoc (before x z) (ascends before (z ∷ (xs ++ (y ∷ [])))) (ascends before (y ∷ ys)))
 
+-- what the elements are ordered by ascends as they do
+pub ascends-map : {A B : Type 0} (key : A → B) (before : B → B → Bool) (xs : List A)
+    → ascends before (map key xs) ≡ ascends (λ x y. before (key x) (key y)) xs
+ascends-map key before [] = refl
+ascends-map key before (x ∷ []) = refl
+ascends-map key before (x ∷ y ∷ ys) = ap (λ (t : Bool). before (key x) (key y) && t) (ascends-map key before (y ∷ ys))
+
 -- the orders by one number
 
 strict-by : {A : Type 0} (key : A → ℕ) → Strict (λ x y. ltb (key x) (key y))
@@ -163,31 +170,45 @@ pub connection-order : (n : ℕ) (a b : Connection) → a .target < n → b .tar
     → connection-before a b ≡ ltb (a .source * n + a .target) (b .source * n + b .target)
 connection-order n a b h k = pair-order n (a .source) (a .target) (b .source) (b .target) h k
 
--- a test of each number from the second on against the one before it
+-- a test of each element from the second on against the one before it
 
-ascends-short : (xs : List ℕ) → length xs ≤ 1 → ascends ltb xs ≡ true
-ascends-short [] h = refl
-ascends-short (x ∷ []) h = refl
-ascends-short (x ∷ y ∷ ys) h = absurd (omega arith)
+module _ {A : Type 0} (before : A → A → Bool) where
+  ascends-short : (xs : List A) → length xs ≤ 1 → ascends before xs ≡ true
+  ascends-short [] h = refl
+  ascends-short (x ∷ []) h = refl
+  ascends-short (x ∷ y ∷ ys) h = absurd (omega arith)
 
+  module _ (xs : List A) (i : ℕ) (pos : 1 ≤ i) where
+    pub steps-end : length xs ≤ i → ascends before xs ≡ ascends before (drop (i - 1) xs) → true ≡ ascends before xs
+    steps-end h e = sym (e ∙ ascends-short (drop (i - 1) xs) (rw length-drop (omega arith)))
+
+    module _ (d : A) (h : i < length xs) where
+      step-next : ascends before (drop (i - 1) xs) ≡ (before (getD xs (i - 1) d) (getD xs i d) && ascends before (drop i xs))
+      step-next =
+          let s : suc (i - 1) ≡ i = omega arith in
+          rw (drop-cons xs (i - 1) d (omega arith), s, drop-cons xs i d h)
+
+      pub steps-later : before (getD xs (i - 1) d) (getD xs i d) ≡ true → ascends before xs ≡ ascends before (drop (i - 1) xs)
+          → ascends before xs ≡ ascends before (drop (i + 1 - 1) xs)
+      steps-later t e =
+          let s : i + 1 - 1 ≡ i = omega arith in
+          rw s (e ∙ step-next ∙ rw t)
+
+      pub steps-stop : before (getD xs (i - 1) d) (getD xs i d) ≡ false → ascends before xs ≡ ascends before (drop (i - 1) xs)
+          → false ≡ ascends before xs
+      steps-stop t e = sym (e ∙ step-next ∙ and-left (ascends before (drop i xs)) t)
+
+-- of numbers
 module _ (xs : List ℕ) (i : ℕ) (pos : 1 ≤ i) where
   pub ascends-end : length xs ≤ i → ascends ltb xs ≡ ascends ltb (drop (i - 1) xs) → true ≡ ascends ltb xs
-  ascends-end h e = sym (e ∙ ascends-short (drop (i - 1) xs) (rw length-drop (omega arith)))
+  ascends-end = steps-end ltb xs i pos
 
-  module _ (h : i < length xs) where
-    ascends-two : ascends ltb (drop (i - 1) xs) ≡ (ltb (getD xs (i - 1) 0) (getD xs i 0) && ascends ltb (drop i xs))
-    ascends-two =
-        let s : suc (i - 1) ≡ i = omega arith in
-        rw (drop-cons xs (i - 1) 0 (omega arith), s, drop-cons xs i 0 h)
+  pub ascends-later : i < length xs → getD xs (i - 1) 0 < getD xs i 0 → ascends ltb xs ≡ ascends ltb (drop (i - 1) xs)
+      → ascends ltb xs ≡ ascends ltb (drop (i + 1 - 1) xs)
+  ascends-later h t = steps-later ltb xs i pos 0 h (lt-ltb _ _ t)
 
-    pub ascends-later : getD xs (i - 1) 0 < getD xs i 0 → ascends ltb xs ≡ ascends ltb (drop (i - 1) xs)
-        → ascends ltb xs ≡ ascends ltb (drop (i + 1 - 1) xs)
-    ascends-later t e =
-        let s : i + 1 - 1 ≡ i = omega arith in
-        rw s (e ∙ ascends-two ∙ rw (lt-ltb _ _ t))
-
-    pub ascends-stop : getD xs i 0 ≤ getD xs (i - 1) 0 → ascends ltb xs ≡ ascends ltb (drop (i - 1) xs) → false ≡ ascends ltb xs
-    ascends-stop t e = sym (e ∙ ascends-two ∙ and-left (ascends ltb (drop i xs)) (le-ltb _ _ t))
+  pub ascends-stop : i < length xs → getD xs i 0 ≤ getD xs (i - 1) 0 → ascends ltb xs ≡ ascends ltb (drop (i - 1) xs) → false ≡ ascends ltb xs
+  ascends-stop h t = steps-stop ltb xs i pos 0 h (le-ltb _ _ t)
 
 -- an ascending list of numbers below k is what a count to k meets
 

@@ -9,10 +9,12 @@ use lib.ListN.{length}
 use borrow.Author.Tests.{leb-true, ltb-true, lt-ltb, eqb-true, eqb-false, ne-eqb, not-true}
 use Rattle.region_graph.specs.Size.{regions, most-bundles, most-connections, most-provided, most-listed}
 use Rattle.region_graph.specs.Refusals.{not-refused}
-use Rattle.region_graph.specs.Lists.{pick, keep, exists, All, member, insert-by, ascends}
-use Rattle.region_graph.specs.Model.{Word, Sorted, Model, Bundle, Part, Connection, NumberedPart, LegalBundle, LegalConnection, Legal, nothing}
+use Rattle.region_graph.specs.Lists.{pick, keep, exists, every, All, member, insert-by, ascends}
+use Rattle.region_graph.specs.Model.{Word, PackageFits, EntryFits, LegalEntry, Sorted, SortedPart, LegalBundle, LegalConnection, Legal}
+use Rattle.region_graph.specs.Model.{Model, PackageEntry, Bundle, Part, Connection}
+use Rattle.region_graph.specs.Model.{nothing, package-before, entry-before, ordered}
 use Rattle.region_graph.specs.Calls.{Call, Question, first-no, end-questions, questions, number, accepted, after, run, is-region, at-location}
-use Rattle.region_graph.specs.Calls.{in-region, joins, touches, within, part-within, part-ascends}
+use Rattle.region_graph.specs.Calls.{in-region, joins, touches, within, of-listed, part-within}
 use Rattle.region_graph.specs.Places.{ShortPart}
 use Rattle.region_graph.specs.Promise.{new-part}
 use Rattle.region_graph.proofs.Lists.{eqb-sym, and-fst, and-snd, false-true, pick-yes, keep-length, exists-insert, insert-length, exists-none}
@@ -20,17 +22,17 @@ use Rattle.region_graph.proofs.Lists.{all-map, all-kept, all-insert, ke
 use Rattle.region_graph.proofs.Ascending.{Strict, Rising, or-right, ascends-rising, ascends-keep, ascends-insert, strict-numbers, strict-bundles}
 use Rattle.region_graph.proofs.Ascending.{strict-connections, numbers-differ, connections-differ}
 
--- the locations and listed numbers that a call is handed have 32 bits
-abbrev pub PartWords : Part → Type 0
-PartWords (Part.listed xs) = All Word xs
-PartWords Part.everything = Unit {0}
+-- the locations and listed numbers that a call is handed have 32 bits, and the versions 16
+abbrev pub PartAll : {A : Type 0} → (A → Type 0) → Part A → Type 0
+PartAll P (Part.listed xs) = All P xs
+PartAll P Part.everything = Unit {0}
 
 abbrev pub Words : Call → Type 0
 Words (Call.add-region r) = Unit {0}
 Words (Call.remove-region r) = Unit {0}
-Words (Call.install b) = Word (b .location) × All Word (b .packages) × All Word (b .services)
+Words (Call.install b) = Word (b .location) × All PackageFits (b .packages) × All Word (b .services)
 Words (Call.uninstall l) = Unit {0}
-Words (Call.connect c) = All Word (c .filter .bundles) × PartWords (c .filter .packages) × PartWords (c .filter .services)
+Words (Call.connect c) = All Word (c .filter .bundles) × PartAll EntryFits (c .filter .packages) × PartAll Word (c .filter .services)
 Words (Call.disconnect r s) = Unit {0}
 
 -- neither of two tests
@@ -75,7 +77,7 @@ pub record Installable (m : Model) (b : Bundle) : Type 0 where
   pub region : member (b .region) (m .regions) ≡ true
   pub few-packages : length (b .packages) ≤ most-provided
   pub few-services : length (b .services) ≤ most-provided
-  pub packages-ascend : ascends ltb (b .packages) ≡ true
+  pub packages-ascend : ascends package-before (b .packages) ≡ true
   pub services-ascend : ascends ltb (b .services) ≡ true
   pub absent : exists (at-location (b .location)) (m .bundles) ≡ false
   pub room : length (m .bundles) < most-bundles
@@ -87,8 +89,8 @@ installable m b e =
       region = h .1 .0;
       few-packages = leb-true _ _ (and-fst (within most-provided (b .packages)) _ (h .1 .1 .0));
       few-services = leb-true _ _ (and-snd (within most-provided (b .packages)) _ (h .1 .1 .0));
-      packages-ascend = and-fst (ascends ltb (b .packages)) _ (h .1 .1 .1 .0);
-      services-ascend = and-snd (ascends ltb (b .packages)) _ (h .1 .1 .1 .0);
+      packages-ascend = and-fst (ascends package-before (b .packages)) _ (h .1 .1 .1 .0);
+      services-ascend = and-snd (ascends package-before (b .packages)) _ (h .1 .1 .1 .0);
       absent = not-true _ (h .1 .1 .1 .1 .0);
       room = ltb-true _ _ (h .1 .1 .1 .1 .1 .1 .0);
     }
@@ -103,13 +105,14 @@ pub record Connectable (m : Model) (c : Connection) : Type 0 where
   pub packages-within : part-within (c .filter .packages) ≡ true
   pub services-within : part-within (c .filter .services) ≡ true
   pub bundles-ascend : ascends ltb (c .filter .bundles) ≡ true
-  pub packages-ascend : part-ascends (c .filter .packages) ≡ true
-  pub services-ascend : part-ascends (c .filter .services) ≡ true
+  pub packages-ascend : of-listed (ascends entry-before) (c .filter .packages) ≡ true
+  pub services-ascend : of-listed (ascends ltb) (c .filter .services) ≡ true
+  pub packages-ordered : of-listed (every ordered) (c .filter .packages) ≡ true
   pub room : length (m .connections) < most-connections
 
 pub connectable : (m : Model) (c : Connection) → number m (Call.connect c) ≡ not-refused → Connectable m c
 connectable m c e =
-    let h = all-yes (questions m (Call.connect c)) (refl, (refl, (refl, (refl, (refl, (refl, (refl, tt))))))) e in
+    let h = all-yes (questions m (Call.connect c)) (refl, (refl, (refl, (refl, (refl, (refl, (refl, (refl, tt)))))))) e in
     let few = h .1 .1 .1 .1 .0 in
     let ascend = h .1 .1 .1 .1 .1 .0 in
     let parts-few = and-snd (within most-listed (c .filter .bundles)) _ few in
@@ -123,9 +126,10 @@ connectable m c e =
       packages-within = and-fst (part-within (c .filter .packages)) _ parts-few;
       services-within = and-snd (part-within (c .filter .packages)) _ parts-few;
       bundles-ascend = and-fst (ascends ltb (c .filter .bundles)) _ ascend;
-      packages-ascend = and-fst (part-ascends (c .filter .packages)) _ parts-ascend;
-      services-ascend = and-snd (part-ascends (c .filter .packages)) _ parts-ascend;
-      room = ltb-true _ _ (h .1 .1 .1 .1 .1 .1 .0);
+      packages-ascend = and-fst (of-listed (ascends entry-before) (c .filter .packages)) _ parts-ascend;
+      services-ascend = and-snd (of-listed (ascends entry-before) (c .filter .packages)) _ parts-ascend;
+      packages-ordered = h .1 .1 .1 .1 .1 .1 .0;
+      room = ltb-true _ _ (h .1 .1 .1 .1 .1 .1 .1 .0);
     }
 
 -- some elements of a set leave, or one joins
@@ -180,9 +184,20 @@ module _ (rs ts : List ℕ) where
   legal-connection c f g h = record { source = f (h .source); target = g (h .target); differ = h .differ; filter = h .filter }
 
 -- a part of a filter that was handed over
-numbered-part : (p : Part) → PartWords p → part-within p ≡ true → part-ascends p ≡ true → NumberedPart p
-numbered-part (Part.listed xs) w f a = record { few = leb-true (length xs) most-listed f; each = w; ascend = a }
-numbered-part Part.everything w f a = tt
+sorted-part : {A : Type 0} (before : A → A → Bool) (Good : A → Type 0) (p : Part A) → PartAll Good p → part-within p ≡ true
+    → of-listed (ascends before) p ≡ true → SortedPart before Good p
+sorted-part before Good (Part.listed xs) w f a = record { few = leb-true (length xs) most-listed f; each = w; ascend = a }
+sorted-part before Good Part.everything w f a = tt
+
+-- entries that fit, each in order
+entries-legal : (es : List PackageEntry) → All EntryFits es → every ordered es ≡ true → All LegalEntry es
+entries-legal [] w o = tt
+entries-legal (e ∷ es) w o =
+    (record { fits = w .0; order = and-fst (ordered e) (every ordered es) o }, entries-legal es (w .1) (and-snd (ordered e) (every ordered es) o))
+
+legal-entries : (p : Part PackageEntry) → PartAll EntryFits p → of-listed (every ordered) p ≡ true → PartAll LegalEntry p
+legal-entries (Part.listed es) w o = entries-legal es w o
+legal-entries Part.everything w o = tt
 
 pub legal-nothing : Legal nothing
 legal-nothing = record { regions-legal = none; bundles-legal = none; connections-legal = none }
@@ -269,8 +284,10 @@ legal-accepted m (Call.connect c) l w e =
             differ = h .differ;
             filter = record {
               bundles = record { few = h .bundles-few; each = w .0; ascend = h .bundles-ascend };
-              packages = numbered-part (c .filter .packages) (w .1) (h .packages-within) (h .packages-ascend);
-              services = numbered-part (c .filter .services) (w .2) (h .services-within) (h .services-ascend);
+              packages =
+                  sorted-part entry-before LegalEntry (c .filter .packages) (legal-entries (c .filter .packages) (w .1) (h .packages-ordered))
+                  (h .packages-within) (h .packages-ascend);
+              services = sorted-part ltb Word (c .filter .services) (w .2) (h .services-within) (h .services-ascend);
             };
           })
           (h .absent) (rw insert-length (h .room)) (l .connections-legal);
@@ -371,10 +388,10 @@ module _ (m : Model) (l : Legal m) where
       absent false e = exists-none (joins r s) (m .connections) e
 
 -- a part that was handed over as a flag and a list
-pub part-words : (all : Bool) (xs : List ℕ) → All Word xs → PartWords (new-part all xs)
-part-words true xs h = tt
-part-words false xs h = h
+pub part-each : {A : Type 0} (P : A → Type 0) (all : Bool) (xs : List A) → All P xs → PartAll P (new-part all xs)
+part-each P true xs h = tt
+part-each P false xs h = h
 
-pub part-short : (p : Part) → part-within p ≡ true → ShortPart p
+pub part-short : {A : Type 0} (p : Part A) → part-within p ≡ true → ShortPart p
 part-short (Part.listed xs) e = leb-true (length xs) most-listed e
 part-short Part.everything e = tt

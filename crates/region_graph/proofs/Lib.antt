@@ -2,9 +2,11 @@ pub mod Lists
 pub mod Ascending
 pub mod Bits
 pub mod Arrays
+pub mod Columns
 pub mod Legal
 pub mod Storing
 pub mod PlaceLoops
+pub mod Codes
 pub mod FlatLaws
 pub mod Views
 pub mod FlatLoops

@@ -1,4 +1,4 @@
--- Laws of tests, `keep`, `exists`, `position`, `insert-by`, `All`, `concat-map` and lists without repetitions, for any element and test.
+-- Laws of tests, `keep`, `exists`, `every`, `position`, `insert-by`, `All`, `concat-map` and lists without repetitions, for any element and test.
 use mathlib.Core.Path.{_≡_, refl, sym, ap, _∙_, subst}
 use mathlib.Core.Bool.{Bool, true, false, not, _&&_, _||_, and-false}
 use mathlib.Core.List.{List, [], _∷_, _++_, map, append-nil, append-assoc}
@@ -10,7 +10,7 @@ use lib.Dec.{ltb, eqb}
 use lib.ListN.{length, getD, take, drop, length-append, drop-of-length-le}
 use lib.Seq.{take-suc, drop-cons}
 use borrow.Author.Tests.{lt-ltb, le-ltb, eqb-true, eqb-false, eq-eqb, ne-eqb}
-use Rattle.region_graph.specs.Lists.{pick, exists, All, keep, position, insert-by, member, concat-map, count-from}
+use Rattle.region_graph.specs.Lists.{pick, exists, every, All, keep, position, insert-by, member, concat-map, count-from}
 
 -- tests
 
@@ -129,6 +129,15 @@ module _ {A : Type 0} (p : A → Bool) where
     pub exists-later : exists p xs ≡ exists p (drop i xs) → p (getD xs i d) ≡ false → exists p xs ≡ exists p (drop (i + 1) xs)
     exists-later e t = e ∙ exists-next ∙ rw t
 
+    every-next : every p (drop i xs) ≡ (p (getD xs i d) && every p (drop (i + 1) xs))
+    every-next = rw add-one (ap (every p) (drop-cons xs i d h))
+
+    pub every-stop : every p xs ≡ every p (drop i xs) → p (getD xs i d) ≡ false → false ≡ every p xs
+    every-stop e t = sym (e ∙ every-next ∙ rw t)
+
+    pub every-later : every p xs ≡ every p (drop i xs) → p (getD xs i d) ≡ true → every p xs ≡ every p (drop (i + 1) xs)
+    every-later e t = e ∙ every-next ∙ rw t
+
     position-next : position p (drop i xs) ≡ pick (p (getD xs i d)) 0 (suc (position p (drop (i + 1) xs)))
     position-next = rw add-one (ap (position p) (drop-cons xs i d h))
 
@@ -144,6 +153,9 @@ module _ {A : Type 0} (p : A → Bool) where
 
   pub exists-end : (xs : List A) (i : ℕ) → exists p xs ≡ exists p (drop i xs) → length xs ≤ i → false ≡ exists p xs
   exists-end xs i e h = sym (e ∙ rw (drop-of-length-le xs h))
+
+  pub every-end : (xs : List A) (i : ℕ) → every p xs ≡ every p (drop i xs) → length xs ≤ i → true ≡ every p xs
+  every-end xs i e h = sym (e ∙ rw (drop-of-length-le xs h))
 
   pub position-end : (xs : List A) (i : ℕ) → position p xs ≡ i + position p (drop i xs) → length xs ≤ i → i ≡ position p xs
   position-end xs i e h = sym (e ∙ rw (drop-of-length-le xs h) (add-zero i))
@@ -246,6 +258,15 @@ module _ {A : Type 0} where
   pub all-of : (P : A → Type 0) (d : A) (xs : List A) → ((i : ℕ) → i < length xs → P (getD xs i d)) → All P xs
   all-of P d [] f = tt
   all-of P d (x ∷ xs) f = (f 0 (omega arith), all-of P d xs (λ i h. f (suc i) (omega arith)))
+
+  -- a property that the test tells
+  pub all-every : (P : A → Type 0) (p : A → Bool) → ((x : A) → P x → p x ≡ true) → (xs : List A) → All P xs → every p xs ≡ true
+  all-every P p f [] h = refl
+  all-every P p f (x ∷ xs) h = and-yes (f x (h .0)) (all-every P p f xs (h .1))
+
+  pub every-all : (P : A → Type 0) (p : A → Bool) → ((x : A) → p x ≡ true → P x) → (xs : List A) → every p xs ≡ true → All P xs
+  every-all P p f [] e = tt
+  every-all P p f (x ∷ xs) e = (f x (and-fst (p x) (every p xs) e), every-all P p f xs (and-snd (p x) (every p xs) e))
 
   pub exists-none : (p : A → Bool) (xs : List A) → exists p xs ≡ false → All (λ x. p x ≡ false) xs
   exists-none p [] e = tt
@@ -371,11 +392,6 @@ exists-one {A} p P (x ∷ xs) h e = go (p x) refl (exists-one p P xs (h .1)) e
 abbrev pub Distinct : List ℕ → Type 0
 Distinct [] = Unit {0}
 Distinct (x ∷ xs) = (member x xs ≡ false) × Distinct xs
-
-pub distinct-snoc : (xs : List ℕ) (x : ℕ) → Distinct xs → All (λ y. eqb x y ≡ false) xs → Distinct (xs ++ (x ∷ []))
-distinct-snoc [] x d h = (refl, tt)
-distinct-snoc (y ∷ xs) x d h =
-    (exists-append (eqb y) xs (x ∷ []) ∙ rw (d .0, eqb-sym y x, h .0), distinct-snoc xs x (d .1) (h .1))
 
 less-one : (x : ℕ) (ys : List ℕ) → member x ys ≡ true → length (keep (λ y. not (eqb x y)) ys) < length ys
 less-one x [] e = false-true e

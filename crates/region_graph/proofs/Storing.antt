@@ -13,17 +13,23 @@ use Rattle.region_graph.specs.Size.{regions, most-bundles, most-connecti
 use Rattle.region_graph.specs.Refusals.{not-refused}
 use Rattle.region_graph.specs.Lists.{All, member, keep, insert-by, count-from}
 use Rattle.region_graph.specs.Sets.{bit, has, singleton, members, set-of}
-use Rattle.region_graph.specs.Model.{Model, Bundle, Part, Connection, Sorted, Legal, LegalBundle, LegalConnection, NumberedPart, nothing}
+use Rattle.region_graph.specs.Model.{Model, Package, PackageEntry, packages, entries, Bundle, Part, Connection, nothing}
+use Rattle.region_graph.specs.Model.{Sorted, SortedPart, Legal, LegalBundle, LegalConnection}
+use Rattle.region_graph.specs.Model.{Word, LegalEntry, entry-before}
 use Rattle.region_graph.specs.Calls.{Call, number, accepted}
 use Rattle.region_graph.specs.Record
 use Rattle.region_graph.specs.Record.{number-places, Stored, Valid, store, meaning, no-bundle, no-connection}
 use Rattle.region_graph.specs.Record.{store-numbers, numbers-of, store-provided, provided-of, store-part, part-in}
+use Rattle.region_graph.specs.Record.{store-packages, packages-of, store-entries, entries-of, store-package-part, package-part-in}
 use Rattle.region_graph.specs.Record.{store-bundle, bundle-in, store-bundles, bundles-of}
 use Rattle.region_graph.specs.Record.{store-connection, connection-in, store-connections, connections-of}
 use Rattle.region_graph.specs.Places.{put-into, ShortPart, ShortBundle, ShortConnection}
-use Rattle.region_graph.specs.Places.{NumbersStored, ProvidedStored, PartStored, BundleStored, BundlesStored, ConnectionStored, ConnectionsStored}
+use Rattle.region_graph.specs.Places.{NumbersStored, ProvidedStored, PackagesStored, EntriesStored, PartStored, PackagePartStored}
+use Rattle.region_graph.specs.Places.{BundleStored, BundlesStored, ConnectionStored, ConnectionsStored}
 use Rattle.region_graph.specs.declared.numbers.Numbers.{Numbers}
 use Rattle.region_graph.specs.declared.numbers.Provided.{Provided}
+use Rattle.region_graph.specs.declared.packages.Packages.{Packages}
+use Rattle.region_graph.specs.declared.packages.Entries.{Entries}
 use Rattle.region_graph.specs.declared.bundles.StoredBundle.{StoredBundle}
 use Rattle.region_graph.specs.declared.bundles.Bundles.{Bundles}
 use Rattle.region_graph.specs.declared.connections.StoredConnection.{StoredConnection}
@@ -36,6 +42,7 @@ use Rattle.region_graph.proofs.Ascending.{members-back}
 use Rattle.region_graph.proofs.Bits.{has-set, set-ext, set-join, set-leave}
 use Rattle.region_graph.proofs.Legal.{legal-accepted, legal-nothing, Words}
 use Rattle.region_graph.proofs.Arrays.{Filled, filled-none, filled-at, filled-inside, drop-replicate}
+use Rattle.region_graph.proofs.Columns.{packages-whole, entries-whole}
 
 -- the used places hold the list
 took : {A B : Type 0} (f : A → B) (none : B) (n : ℕ) (xs : List A) → take (length xs) (map f xs ++ replicate n none) ≡ map f xs
@@ -61,20 +68,39 @@ pub provided-back : (xs : List ℕ) → provided-of (store-provided xs) ≡ xs
 unfolding provided-of store-provided
 provided-back xs = places-back most-provided xs
 
+pub packages-back : (ps : List Package) → packages-of (store-packages ps) ≡ ps
+unfolding packages-of store-packages
+packages-back ps =
+    let rest = most-provided - length ps in
+    (λ i. packages (took (λ (p : Package). p .number) 0 rest ps i) (took (λ (p : Package). p .version) 0 rest ps i)) ∙ packages-whole ps
+
+pub entries-back : (es : List PackageEntry) → entries-of (store-entries es) ≡ es
+unfolding entries-of store-entries
+entries-back es =
+    let rest = most-listed - length es in
+    (λ i. entries (took (λ (e : PackageEntry). e .number) 0 rest es i) (took (λ (e : PackageEntry). e .lowest) 0 rest es i)
+    (took (λ (e : PackageEntry). e .highest) 0 rest es i))
+    ∙ entries-whole es
+
 -- no list that its places take has the sign for its count
 pub no-sign : {n : ℕ} → n ≤ most-listed → eqb n everything-sign ≡ false
 no-sign {n} h = ne-eqb n everything-sign (λ e. omega arith)
 
-pub part-back : (p : Part) → ShortPart p → part-in (store-part p) ≡ p
+pub part-back : (p : Part ℕ) → ShortPart p → part-in (store-part p) ≡ p
 unfolding store-numbers
 part-back (Part.listed xs) h = rw (no-sign h) (ap Part.listed (numbers-back xs))
 part-back Part.everything h = refl
+
+pub package-part-back : (p : Part PackageEntry) → ShortPart p → package-part-in (store-package-part p) ≡ p
+unfolding store-entries
+package-part-back (Part.listed es) h = rw (no-sign h) (ap Part.listed (entries-back es))
+package-part-back Part.everything h = refl
 
 pub bundle-back : (b : Bundle) → bundle-in (store-bundle b) ≡ b
 bundle-back b = λ i. record {
   location = b .location;
   region = b .region;
-  packages = provided-back (b .packages) i;
+  packages = packages-back (b .packages) i;
   services = provided-back (b .services) i;
 }
 
@@ -84,7 +110,7 @@ connection-back c h = λ i. record {
   target = c .target;
   filter = record {
     bundles = numbers-back (c .filter .bundles) i;
-    packages = part-back (c .filter .packages) (h .packages) i;
+    packages = package-part-back (c .filter .packages) (h .packages) i;
     services = part-back (c .filter .services) (h .services) i;
   };
 }
@@ -124,6 +150,30 @@ pub provided-filled : (n : Provided) → ProvidedStored n → Filled (λ x. x) 0
 unfolding store-provided
 provided-filled n s = record { shape = ap (λ (m : Provided). m .items) (s .stored); counted = ap (λ (m : Provided). m .count) (s .stored); room = s .good }
 
+-- each column of packages, and of entries
+module _ (p : Packages) (s : PackagesStored p) where
+  pub numbers-column : Filled (λ q. q .number) 0 most-provided (p .numbers) (p .count) (packages-of p)
+  unfolding store-packages
+  numbers-column = record { shape = ap (λ (m : Packages). m .numbers) (s .stored); counted = ap (λ (m : Packages). m .count) (s .stored); room = s .good }
+
+  pub versions-column : Filled (λ q. q .version) 0 most-provided (p .versions) (p .count) (packages-of p)
+  unfolding store-packages
+  versions-column = record { shape = ap (λ (m : Packages). m .versions) (s .stored); counted = ap (λ (m : Packages). m .count) (s .stored); room = s .good }
+
+module _ (p : Entries) (s : EntriesStored p) where
+  pub entry-numbers-column : Filled (λ e. e .number) 0 most-listed (p .numbers) (p .count) (entries-of p)
+  unfolding store-entries
+  entry-numbers-column =
+      record { shape = ap (λ (m : Entries). m .numbers) (s .stored); counted = ap (λ (m : Entries). m .count) (s .stored); room = s .good }
+
+  pub lowest-column : Filled (λ e. e .lowest) 0 most-listed (p .lowest) (p .count) (entries-of p)
+  unfolding store-entries
+  lowest-column = record { shape = ap (λ (m : Entries). m .lowest) (s .stored); counted = ap (λ (m : Entries). m .count) (s .stored); room = s .good }
+
+  pub highest-column : Filled (λ e. e .highest) 0 most-listed (p .highest) (p .count) (entries-of p)
+  unfolding store-entries
+  highest-column = record { shape = ap (λ (m : Entries). m .highest) (s .stored); counted = ap (λ (m : Entries). m .count) (s .stored); room = s .good }
+
 pub bundles-filled : (bs : Bundles) → BundlesStored bs
     → Filled store-bundle (store-bundle no-bundle) most-bundles (bs .items) (bs .count) (bundles-of bs)
 unfolding store-bundles
@@ -150,7 +200,7 @@ connection-stored cs s i e l =
     stored-as store-connection connection-in ShortConnection connection-back (getD (connections-of cs) i no-connection) (filled-at h i e no-connection l)
     (all-at ShortConnection (connections-of cs) i no-connection (filled-inside h i l) (s .good .each))
 
-pub packages-stored : (b : StoredBundle) → BundleStored b → ProvidedStored (b .packages)
+pub packages-stored : (b : StoredBundle) → BundleStored b → PackagesStored (b .packages)
 packages-stored b s = record { stored = ap (λ (x : StoredBundle). x .packages) (s .stored); good = s .good .packages }
 
 pub services-stored : (b : StoredBundle) → BundleStored b → ProvidedStored (b .services)
@@ -159,7 +209,7 @@ services-stored b s = record { stored = ap (λ (x : StoredBundle). x .services) 
 pub named-stored : (c : StoredConnection) → ConnectionStored c → NumbersStored (c .bundles)
 named-stored c s = record { stored = ap (λ (x : StoredConnection). x .bundles) (s .stored); good = s .good .bundles }
 
-pub package-part-stored : (c : StoredConnection) → ConnectionStored c → PartStored (c .packages)
+pub package-part-stored : (c : StoredConnection) → ConnectionStored c → PackagePartStored (c .packages)
 package-part-stored c s = record { stored = ap (λ (x : StoredConnection). x .packages) (s .stored); good = s .good .packages }
 
 pub service-part-stored : (c : StoredConnection) → ConnectionStored c → PartStored (c .services)
@@ -168,6 +218,11 @@ service-part-stored c s = record { stored = ap (λ (x : StoredConnection). x .se
 -- a part without the sign is a list
 pub listed-stored : (p : Numbers) → PartStored p → (p .count ≡ everything-sign → ⊥) → NumbersStored p
 listed-stored p s e =
+    let f : eqb (p .count) everything-sign ≡ false = ne-eqb (p .count) everything-sign e in
+    record { stored = rw f at (s .stored); good = rw f at (s .good) }
+
+pub listed-entries-stored : (p : Entries) → PackagePartStored p → (p .count ≡ everything-sign → ⊥) → EntriesStored p
+listed-entries-stored p s e =
     let f : eqb (p .count) everything-sign ≡ false = ne-eqb (p .count) everything-sign e in
     record { stored = rw f at (s .stored); good = rw f at (s .good) }
 
@@ -196,6 +251,15 @@ pub filled-provided : {items : List ℕ} {count : ℕ} {xs : List ℕ} → Fille
     → _≡_ {A = Provided} (record { count = count; items = items }) (store-provided xs)
 unfolding store-provided
 filled-provided h = λ i. record { count = h .counted i; items = h .shape i }
+
+pub no-packages : _≡_ {A = Packages} (record { count = 0; numbers = replicate most-provided 0; versions = replicate most-provided 0 }) (store-packages [])
+unfolding store-packages
+no-packages = refl
+
+pub no-entries : _≡_ {A = Entries}
+    (record { count = 0; numbers = replicate most-listed 0; lowest = replicate most-listed 0; highest = replicate most-listed 0 }) (store-entries [])
+unfolding store-entries
+no-entries = refl
 
 pub filled-bundles : {items : List StoredBundle} {count : ℕ} {bs : List Bundle}
     → Filled store-bundle (store-bundle no-bundle) most-bundles items count bs
@@ -232,9 +296,9 @@ regions-back rs h =
     ∙ members-back regions rs (h .each) (h .ascend)
 
 -- legal lists are short enough for their places
-short-part : (p : Part) → NumberedPart p → ShortPart p
-short-part (Part.listed xs) h = h .few
-short-part Part.everything h = tt
+short-part : {A : Type 0} (before : A → A → Bool) (Good : A → Type 0) (p : Part A) → SortedPart before Good p → ShortPart p
+short-part before Good (Part.listed xs) h = h .few
+short-part before Good Part.everything h = tt
 
 pub short-bundle : {rs : List ℕ} {b : Bundle} → LegalBundle rs b → ShortBundle b
 short-bundle h = record { packages = h .packages .few; services = h .services .few }
@@ -242,8 +306,8 @@ short-bundle h = record { packages = h .packages .few; services = h .services .f
 pub short-connection : {rs : List ℕ} {c : Connection} → LegalConnection rs c → ShortConnection c
 short-connection {c = c} h = record {
   bundles = h .filter .bundles .few;
-  packages = short-part (c .filter .packages) (h .filter .packages);
-  services = short-part (c .filter .services) (h .filter .services);
+  packages = short-part entry-before LegalEntry (c .filter .packages) (h .filter .packages);
+  services = short-part ltb Word (c .filter .services) (h .filter .services);
 }
 
 pub short-connections : {m : Model} → Legal m → All ShortConnection (m .connections)

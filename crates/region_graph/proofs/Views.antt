@@ -13,9 +13,9 @@ use borrow.Author.Tests.{eq-eqb, ne-eqb}
 use Rattle.region_graph.specs.Size.{regions}
 use Rattle.region_graph.specs.Lists.{pick, exists, position, count-from}
 use Rattle.region_graph.specs.Sets.{singleton, set-of}
-use Rattle.region_graph.specs.Model.{Bundle, Filter, Part, LegalConnection}
+use Rattle.region_graph.specs.Model.{Bundle, Filter, LegalConnection}
 use Rattle.region_graph.specs.Calls.{at-location}
-use Rattle.region_graph.specs.Items.{provided, part-of, provides, passes}
+use Rattle.region_graph.specs.Items.{provides-of, passes-of, provides, passes}
 use Rattle.region_graph.specs.Record.{Valid, meaning, no-bundle, no-connection}
 use Rattle.region_graph.specs.Promise.{place-of, provider-place}
 use Rattle.region_graph.specs.declared.Graph.{Graph}
@@ -72,18 +72,18 @@ sets-more f g r {sets} {s} {x} p t l own other =
 -- items
 
 -- of a kind above 2 a bundle brings nothing
-pub provided-none : (k : ℕ) (b : Bundle) → (k ≡ 0 → ⊥) → (k ≡ 1 → ⊥) → (k ≡ 2 → ⊥) → provided k b ≡ []
-provided-none zero b f g h = absurd (f refl)
-provided-none (suc zero) b f g h = absurd (g refl)
-provided-none (suc (suc zero)) b f g h = absurd (h refl)
-provided-none (suc (suc (suc k))) b f g h = refl
+pub provides-none : (k : ℕ) (i : Item) (b : Bundle) → (k ≡ 0 → ⊥) → (k ≡ 1 → ⊥) → (k ≡ 2 → ⊥) → provides-of k i b ≡ false
+provides-none zero i b f g h = absurd (f refl)
+provides-none (suc zero) i b f g h = absurd (g refl)
+provides-none (suc (suc zero)) i b f g h = absurd (h refl)
+provides-none (suc (suc (suc k))) i b f g h = refl
 
--- and a filter's part lists nothing
-pub part-none : (k : ℕ) (f : Filter) → (k ≡ 0 → ⊥) → (k ≡ 1 → ⊥) → (k ≡ 2 → ⊥) → part-of k f ≡ Part.listed []
-part-none zero p f g h = absurd (f refl)
-part-none (suc zero) p f g h = absurd (g refl)
-part-none (suc (suc zero)) p f g h = absurd (h refl)
-part-none (suc (suc (suc k))) p f g h = refl
+-- and a filter passes nothing
+pub passes-none : (k : ℕ) (i : Item) (p : Filter) → (k ≡ 0 → ⊥) → (k ≡ 1 → ⊥) → (k ≡ 2 → ⊥) → passes-of k i p ≡ false
+passes-none zero i p f g h = absurd (f refl)
+passes-none (suc zero) i p f g h = absurd (g refl)
+passes-none (suc (suc zero)) i p f g h = absurd (h refl)
+passes-none (suc (suc (suc k))) i p f g h = refl
 
 -- what is told of the first bundle at a location
 

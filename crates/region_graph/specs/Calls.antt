@@ -5,10 +5,12 @@ use Prim.Native.Nat.{ℕ}
 use lib.Dec.{eqb, leb, ltb}
 use lib.ListN.{length}
 use Rattle.region_graph.specs.Size.{regions, most-bundles, most-connections, most-provided, most-listed}
-use Rattle.region_graph.specs.Refusals.{not-refused, not-a-region, region-used, no-such-region, ends-equal, connected, not-connected, list-too-long, list-out-of-order, installed, filtered, full, not-installed}
-use Rattle.region_graph.specs.Lists.{pick, keep, exists, member, insert-by, ascends}
+use Rattle.region_graph.specs.Refusals.{not-refused, not-a-region, region-used, no-such-region, ends-equal, connected, not-connected}
+use Rattle.region_graph.specs.Refusals.{list-too-long, list-out-of-order, installed, filtered, full, not-installed, range-reversed}
+use Rattle.region_graph.specs.Lists.{pick, keep, exists, every, member, insert-by, ascends}
 use Rattle.region_graph.specs.Steps.{run-by, answers-by}
-use Rattle.region_graph.specs.Model.{Model, Bundle, Filter, Part, Connection, bundle-before, connection-before}
+use Rattle.region_graph.specs.Model.{Model, Package, Bundle, Filter, Part, Connection}
+use Rattle.region_graph.specs.Model.{package-before, entry-before, ordered, bundle-before, connection-before}
 
 pub data Call : Type 0 where
   add-region : ℕ → Call
@@ -50,22 +52,26 @@ touches r c = eqb (c .source) r || eqb (c .target) r
 abbrev pub names : ℕ → ℕ → Connection → Bool
 names r l c = eqb (c .source) r && member l (c .filter .bundles)
 
-abbrev pub within : ℕ → List ℕ → Bool
+abbrev pub within : {A : Type 0} → ℕ → List A → Bool
 within most xs = leb (length xs) most
 
-abbrev pub part-within : Part → Bool
-part-within (Part.listed xs) = within most-listed xs
-part-within Part.everything = true
+-- a test of what a part lists; it is not asked of everything
+abbrev pub of-listed : {A : Type 0} → (List A → Bool) → Part A → Bool
+of-listed test (Part.listed xs) = test xs
+of-listed test Part.everything = true
 
-abbrev pub part-ascends : Part → Bool
-part-ascends (Part.listed xs) = ascends ltb xs
-part-ascends Part.everything = true
+abbrev pub part-within : {A : Type 0} → Part A → Bool
+part-within p = of-listed (within most-listed) p
 
 abbrev pub filter-within : Filter → Bool
 filter-within f = within most-listed (f .bundles) && (part-within (f .packages) && part-within (f .services))
 
 abbrev pub filter-ascends : Filter → Bool
-filter-ascends f = ascends ltb (f .bundles) && (part-ascends (f .packages) && part-ascends (f .services))
+filter-ascends f = ascends ltb (f .bundles) && (of-listed (ascends entry-before) (f .packages) && of-listed (ascends ltb) (f .services))
+
+-- C-15: no entry of the package part has a lowest version above its highest
+abbrev pub filter-ordered : Filter → Bool
+filter-ordered f = of-listed (every ordered) (f .packages)
 
 -- the questions about a region that is to be new
 abbrev pub new-region-questions : List ℕ → ℕ → List Question
@@ -90,11 +96,11 @@ end-questions rs r s =
     ∷ []
 
 -- about a bundle's region and lists
-abbrev pub provided-questions : List ℕ → ℕ → List ℕ → List ℕ → List Question
+abbrev pub provided-questions : List ℕ → ℕ → List Package → List ℕ → List Question
 provided-questions rs r packages services =
     region-questions rs r
     ++ ask list-too-long (within most-provided packages && within most-provided services)
-    ∷ ask list-out-of-order (ascends ltb packages && ascends ltb services)
+    ∷ ask list-out-of-order (ascends package-before packages && ascends ltb services)
     ∷ []
 
 -- about a place for a bundle
@@ -111,6 +117,7 @@ connection-questions cs c =
     ask connected (not (exists (joins (c .source) (c .target)) cs))
     ∷ ask list-too-long (filter-within (c .filter))
     ∷ ask list-out-of-order (filter-ascends (c .filter))
+    ∷ ask range-reversed (filter-ordered (c .filter))
     ∷ ask full (ltb (length cs) most-connections)
     ∷ []
 

@@ -1,39 +1,55 @@
 -- A graph's regions, bundles and connections as lists of plain numbers, which can be lent.
 use mathlib.Core.Path.{_≡_}
-use mathlib.Core.List.{List, [], _∷_}
-use Prim.Native.Nat.{ℕ, _+_, _*_, _≤_}
+use mathlib.Core.List.{List, [], _∷_, map}
+use Prim.Native.Nat.{ℕ, _+_, _*_, _^_, _≤_}
 use lib.ListN.{length, getD, take, drop}
 use Rattle.region_graph.specs.Size.{most-listed, most-provided, everything-sign}
 use Rattle.region_graph.specs.Refusals.{not-refused, broken-layout}
-use Rattle.region_graph.specs.Model.{Model, Bundle, Part, Connection, Legal}
+use Rattle.region_graph.specs.Model.{Model, Package, PackageEntry, Bundle, Part, Connection, Legal}
 use Rattle.region_graph.specs.Record.{Valid, meaning}
 use Rattle.region_graph.specs.Promise.{Empty}
 use Rattle.region_graph.specs.declared.Changed.{Changed}
+
+-- a package and an entry as one number, its code: 32 bits of the number, then 16 of each version
+abbrev pub package-code : Package → ℕ
+package-code p = p .number * 2 ^ 16 + p .version
+
+abbrev pub entry-code : PackageEntry → ℕ
+entry-code e = (e .number * 2 ^ 16 + e .lowest) * 2 ^ 16 + e .highest
+
+abbrev pub map-part : {A B : Type 0} → (A → B) → Part A → Part B
+map-part f (Part.listed xs) = Part.listed (map f xs)
+map-part f Part.everything = Part.everything
 
 -- what a bundle and a connection have in common: two numbers, then parts
 pub record Fields : Type 0 where
   pub first : ℕ
   pub second : ℕ
-  pub parts : List Part
+  pub parts : List (Part ℕ)
 
 abbrev pub fields-of-bundle : Bundle → Fields
-fields-of-bundle b = record { first = b .location; second = b .region; parts = Part.listed (b .packages) ∷ Part.listed (b .services) ∷ [] }
+fields-of-bundle b =
+    record {
+      first = b .location;
+      second = b .region;
+      parts = Part.listed (map package-code (b .packages)) ∷ Part.listed (b .services) ∷ [];
+    }
 
 abbrev pub fields-of-connection : Connection → Fields
 fields-of-connection c =
     record {
       first = c .source;
       second = c .target;
-      parts = Part.listed (c .filter .bundles) ∷ c .filter .packages ∷ c .filter .services ∷ [];
+      parts = Part.listed (c .filter .bundles) ∷ map-part entry-code (c .filter .packages) ∷ c .filter .services ∷ [];
     }
 
 -- from place `at` on the numbers xs have a part: its count and its numbers, or the sign for everything
-abbrev pub FlatPart : List ℕ → ℕ → Part → Type 0
+abbrev pub FlatPart : List ℕ → ℕ → Part ℕ → Type 0
 FlatPart xs at (Part.listed ns) = (getD xs at 0 ≡ length ns) × (take (length ns) (drop (at + 1) xs) ≡ ns)
 FlatPart xs at Part.everything = getD xs at 0 ≡ everything-sign
 
 -- parts one after the other, each with places for `most` numbers; places past its count are free
-abbrev pub FlatParts : ℕ → List ℕ → ℕ → List Part → Type 0
+abbrev pub FlatParts : ℕ → List ℕ → ℕ → List (Part ℕ) → Type 0
 FlatParts most xs at [] = Unit {0}
 FlatParts most xs at (p ∷ ps) = FlatPart xs at p × FlatParts most xs (at + (most + 1)) ps
 

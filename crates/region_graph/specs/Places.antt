@@ -9,10 +9,13 @@ use Rattle.region_graph.specs.Lists.{All}
 use Rattle.region_graph.specs.Model.{Bundle, Part, Connection}
 use Rattle.region_graph.specs.Calls.{at-location, in-region, joins, touches, names}
 use Rattle.region_graph.specs.Record.{Stored, store-numbers, numbers-of, store-provided, provided-of, store-part, part-in}
+use Rattle.region_graph.specs.Record.{store-packages, packages-of, store-entries, entries-of, store-package-part, package-part-in}
 use Rattle.region_graph.specs.Record.{store-bundle, bundle-in, store-bundles, bundles-of}
 use Rattle.region_graph.specs.Record.{store-connection, connection-in, store-connections, connections-of}
 use Rattle.region_graph.specs.declared.numbers.Numbers.{Numbers}
 use Rattle.region_graph.specs.declared.numbers.Provided.{Provided}
+use Rattle.region_graph.specs.declared.packages.Packages.{Packages}
+use Rattle.region_graph.specs.declared.packages.Entries.{Entries}
 use Rattle.region_graph.specs.declared.bundles.StoredBundle.{StoredBundle}
 use Rattle.region_graph.specs.declared.bundles.Bundles.{Bundles}
 use Rattle.region_graph.specs.declared.bundles.BundleTest.{BundleTest}
@@ -27,10 +30,10 @@ abbrev pub put-into : List ℕ → List ℕ → List ℕ
 put-into places xs = xs ++ drop (length xs) places
 
 -- a list that so many places take
-abbrev pub Short : ℕ → List ℕ → Type 0
+abbrev pub Short : {A : Type 0} → ℕ → List A → Type 0
 Short most xs = length xs ≤ most
 
-abbrev pub ShortPart : Part → Type 0
+abbrev pub ShortPart : {A : Type 0} → Part A → Type 0
 ShortPart (Part.listed xs) = Short most-listed xs
 ShortPart Part.everything = Unit {0}
 
@@ -53,6 +56,15 @@ NumbersStored n = Stored store-numbers numbers-of (Short most-listed) n
 
 abbrev pub ProvidedStored : Provided → Type 0
 ProvidedStored n = Stored store-provided provided-of (Short most-provided) n
+
+abbrev pub PackagesStored : Packages → Type 0
+PackagesStored p = Stored store-packages packages-of (Short most-provided) p
+
+abbrev pub EntriesStored : Entries → Type 0
+EntriesStored e = Stored store-entries entries-of (Short most-listed) e
+
+abbrev pub PackagePartStored : Entries → Type 0
+PackagePartStored e = Stored store-package-part package-part-in ShortPart e
 
 abbrev pub PartStored : Numbers → Type 0
 PartStored p = Stored store-part part-in ShortPart p

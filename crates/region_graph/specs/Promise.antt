@@ -8,7 +8,7 @@ use Rattle.region_graph.specs.Size.{regions, most-bundles, most-connecti
 use Rattle.region_graph.specs.Refusals.{not-refused}
 use Rattle.region_graph.specs.Lists.{pick, count-from}
 use Rattle.region_graph.specs.Sets.{set-of}
-use Rattle.region_graph.specs.Model.{Model, Bundle, Filter, Part, Connection, nothing}
+use Rattle.region_graph.specs.Model.{Model, Package, PackageEntry, Bundle, Filter, Part, Connection, nothing}
 use Rattle.region_graph.specs.Calls.{Call, number, after, at-location}
 use Rattle.region_graph.specs.Items.{provides, holds, crosses}
 use Rattle.region_graph.specs.Record.{Valid, meaning, no-bundle, no-connection, store-bundle, store-connection, places}
@@ -33,21 +33,21 @@ pub record Follows (g : Graph) (c : Call) (r : Changed) : Type 0 where
   pub kept : (r .number ≡ not-refused → ⊥) → r .graph ≡ g
 
 -- a part of a filter as a call is handed it: with the flag "all" the list is no part of it
-abbrev pub new-part : Bool → List ℕ → Part
+abbrev pub new-part : {A : Type 0} → Bool → List A → Part A
 new-part all xs = pick all Part.everything (Part.listed xs)
 
 -- the bundle and the connection that a call is handed
-abbrev pub new-bundle : ℕ → ℕ → List ℕ → List ℕ → Bundle
-new-bundle region location packages services =
-    record { location = location; region = region; packages = packages; services = services }
+abbrev pub new-bundle : ℕ → ℕ → List Package → List ℕ → Bundle
+new-bundle region location exported services =
+    record { location = location; region = region; packages = exported; services = services }
 
-abbrev pub new-filter : List ℕ → Bool → List ℕ → Bool → List ℕ → Filter
-new-filter bundles all-packages packages all-services services =
-    record { bundles = bundles; packages = new-part all-packages packages; services = new-part all-services services }
+abbrev pub new-filter : List ℕ → Bool → List PackageEntry → Bool → List ℕ → Filter
+new-filter bundles all-packages listed all-services services =
+    record { bundles = bundles; packages = new-part all-packages listed; services = new-part all-services services }
 
-abbrev pub new-connection : ℕ → ℕ → List ℕ → Bool → List ℕ → Bool → List ℕ → Connection
-new-connection source target bundles all-packages packages all-services services =
-    record { source = source; target = target; filter = new-filter bundles all-packages packages all-services services }
+abbrev pub new-connection : ℕ → ℕ → List ℕ → Bool → List PackageEntry → Bool → List ℕ → Connection
+new-connection source target bundles all-packages listed all-services services =
+    record { source = source; target = target; filter = new-filter bundles all-packages listed all-services services }
 
 -- the region in which a location is installed, if any
 abbrev pub place-of : List Bundle → ℕ → Place

@@ -7,10 +7,12 @@ use lib.ListN.{length, take, replicate}
 use Rattle.region_graph.specs.Size.{most-bundles, most-connections, most-listed, most-provided, everything-sign}
 use Rattle.region_graph.specs.Lists.{pick, member}
 use Rattle.region_graph.specs.Sets.{set-of, members}
-use Rattle.region_graph.specs.Model.{Model, Bundle, Part, Connection, Legal}
+use Rattle.region_graph.specs.Model.{Model, Package, PackageEntry, packages, entries, Bundle, Part, Connection, Legal}
 use Rattle.region_graph.specs.declared.Graph.{Graph}
 use Rattle.region_graph.specs.declared.numbers.Numbers.{Numbers}
 use Rattle.region_graph.specs.declared.numbers.Provided.{Provided}
+use Rattle.region_graph.specs.declared.packages.Packages.{Packages}
+use Rattle.region_graph.specs.declared.packages.Entries.{Entries}
 use Rattle.region_graph.specs.declared.bundles.StoredBundle.{StoredBundle}
 use Rattle.region_graph.specs.declared.bundles.Bundles.{Bundles}
 use Rattle.region_graph.specs.declared.connections.StoredConnection.{StoredConnection}
@@ -30,14 +32,37 @@ store-numbers xs = record { count = length xs; items = number-places most-listed
 unfoldable pub store-provided : List ℕ → Provided
 store-provided xs = record { count = length xs; items = number-places most-provided xs }
 
+-- packages and entries in columns
+unfoldable pub store-packages : List Package → Packages
+store-packages ps =
+    record {
+      count = length ps;
+      numbers = places (λ p. p .number) 0 most-provided ps;
+      versions = places (λ p. p .version) 0 most-provided ps;
+    }
+
+unfoldable pub store-entries : List PackageEntry → Entries
+store-entries es =
+    record {
+      count = length es;
+      numbers = places (λ e. e .number) 0 most-listed es;
+      lowest = places (λ e. e .lowest) 0 most-listed es;
+      highest = places (λ e. e .highest) 0 most-listed es;
+    }
+
 -- a part that is everything has the sign for its count, and no numbers
-abbrev pub store-part : Part → Numbers
+abbrev pub store-part : Part ℕ → Numbers
 store-part (Part.listed xs) = store-numbers xs
 store-part Part.everything = record { count = everything-sign; items = number-places most-listed [] }
 
+abbrev pub store-package-part : Part PackageEntry → Entries
+store-package-part (Part.listed es) = store-entries es
+store-package-part Part.everything =
+    record { count = everything-sign; numbers = number-places most-listed []; lowest = number-places most-listed []; highest = number-places most-listed [] }
+
 abbrev pub store-bundle : Bundle → StoredBundle
 store-bundle b =
-    record { location = b .location; region = b .region; packages = store-provided (b .packages); services = store-provided (b .services) }
+    record { location = b .location; region = b .region; packages = store-packages (b .packages); services = store-provided (b .services) }
 
 abbrev pub store-connection : Connection → StoredConnection
 store-connection c =
@@ -45,7 +70,7 @@ store-connection c =
       source = c .source;
       target = c .target;
       bundles = store-numbers (c .filter .bundles);
-      packages = store-part (c .filter .packages);
+      packages = store-package-part (c .filter .packages);
       services = store-part (c .filter .services);
     }
 
@@ -78,19 +103,28 @@ numbers-of n = take (n .count) (n .items)
 unfoldable pub provided-of : Provided → List ℕ
 provided-of n = take (n .count) (n .items)
 
-abbrev pub part-in : Numbers → Part
+unfoldable pub packages-of : Packages → List Package
+packages-of p = packages (take (p .count) (p .numbers)) (take (p .count) (p .versions))
+
+unfoldable pub entries-of : Entries → List PackageEntry
+entries-of e = entries (take (e .count) (e .numbers)) (take (e .count) (e .lowest)) (take (e .count) (e .highest))
+
+abbrev pub package-part-in : Entries → Part PackageEntry
+package-part-in e = pick (eqb (e .count) everything-sign) Part.everything (Part.listed (entries-of e))
+
+abbrev pub part-in : Numbers → Part ℕ
 part-in n = pick (eqb (n .count) everything-sign) Part.everything (Part.listed (numbers-of n))
 
 abbrev pub bundle-in : StoredBundle → Bundle
 bundle-in b =
-    record { location = b .location; region = b .region; packages = provided-of (b .packages); services = provided-of (b .services) }
+    record { location = b .location; region = b .region; packages = packages-of (b .packages); services = provided-of (b .services) }
 
 abbrev pub connection-in : StoredConnection → Connection
 connection-in c =
     record {
       source = c .source;
       target = c .target;
-      filter = record { bundles = numbers-of (c .bundles); packages = part-in (c .packages); services = part-in (c .services) };
+      filter = record { bundles = numbers-of (c .bundles); packages = package-part-in (c .packages); services = part-in (c .services) };
     }
 
 unfoldable pub bundles-of : Bundles → List Bundle

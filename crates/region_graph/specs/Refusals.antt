@@ -1,4 +1,5 @@
--- The numbers of document 01's questions, and of those that requests of document 02 add, each named after the answer "no". The constants of src/refusals.rt go with them.
+-- The numbers of document 01's questions, and of those that requests of document 02 add, each named after the answer "no". The constants
+-- of src/refusals.rt go with them.
 use Prim.Native.Nat.{ℕ}
 
 -- no question was answered no: the call is accepted
@@ -69,3 +70,7 @@ broken-sheet = 18
 -- no entry of a name sheet has the kind and number
 abbrev pub no-entry : ℕ
 no-entry = 19
+
+-- the lowest version of a package entry exceeds its highest
+abbrev pub range-reversed : ℕ
+range-reversed = 20

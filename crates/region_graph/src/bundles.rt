@@ -7,11 +7,15 @@ ghost use lib.Dec.{ltb};
 ghost use lib.ListN.{length, take, drop};
 ghost use Rattle.region_graph.specs.Size.{«most-bundles», «most-provided»};
 ghost use Rattle.region_graph.specs.Lists.{ascends, keep, position};
+ghost use Rattle.region_graph.specs.Model.{packages, «package-before»};
 ghost use Rattle.region_graph.specs.Calls.{within};
 ghost use Rattle.region_graph.specs.Record.{«store-bundle», «bundle-in», «no-bundle», «store-bundles», «bundles-of»};
 ghost use Rattle.region_graph.specs.Places.{BundleStored, BundlesStored, «bundle-meets»};
 use crate::numbers::Provided;
 use crate::numbers::ascending;
+use crate::packages::Packages;
+use crate::packages::package_count;
+use crate::packages::packages_ascending;
 use crate::size::MOST_BUNDLES;
 use crate::size::MOST_PROVIDED;
 
@@ -19,7 +23,7 @@ use crate::size::MOST_PROVIDED;
 pub struct StoredBundle {
     pub location: u32,
     pub region: u32,
-    pub packages: Provided,
+    pub packages: Packages,
     pub services: Provided,
 }
 
@@ -40,32 +44,35 @@ pub enum BundleTest {
 pub fn no_bundle() -> StoredBundle
     ensures { λ r. ⌜ r ≡ store-bundle no-bundle ⌝ }
 {
-    let none = Provided {
-        count: 0,
-        items: [0u32; MOST_PROVIDED],
-    };
     StoredBundle {
         location: 0,
         region: 0,
-        packages: none,
-        services: none,
+        packages: Packages {
+            count: 0,
+            numbers: [0u32; MOST_PROVIDED],
+            versions: [0u16; MOST_PROVIDED],
+        },
+        services: Provided {
+            count: 0,
+            items: [0u32; MOST_PROVIDED],
+        },
     }
 }
 
 // Whether both lists of a bundle are within their count.
-pub fn provided_within(packages: &[u32], services: &[u32]) -> bool
-    ensures { λ r. ⌜ r ≡ (within most-provided (now (packages .entry)) && within most-provided (now (services .entry))) ⌝ }
+pub fn provided_within(numbers: &[u32], versions: &[u16], services: &[u32]) -> bool
+    ensures { λ r. ⌜ r ≡ (within most-provided (packages (now (numbers .entry)) (now (versions .entry))) && within most-provided (now (services .entry))) ⌝ }
 {
-    if packages.len() <= MOST_PROVIDED {
+    if package_count(numbers, versions) <= MOST_PROVIDED {
         return services.len() <= MOST_PROVIDED;
     }
     false
 }
 
-pub fn provided_ascending(packages: &[u32], services: &[u32]) -> bool
-    ensures { λ r. ⌜ r ≡ (ascends ltb (now (packages .entry)) && ascends ltb (now (services .entry))) ⌝ }
+pub fn provided_ascending(numbers: &[u32], versions: &[u16], services: &[u32]) -> bool
+    ensures { λ r. ⌜ r ≡ (ascends package-before (packages (now (numbers .entry)) (now (versions .entry))) && ascends ltb (now (services .entry))) ⌝ }
 {
-    if ascending(packages) {
+    if packages_ascending(numbers, versions) {
         return ascending(services);
     }
     false

@@ -1,6 +1,7 @@
 // The six changing calls. Each hands back the next graph and a number; a refused one hands back the graph that it got.
 // Each copies the graph first and leaves by one exit, so that the compiler works in the record that a caller lends.
 ghost use mathlib.Core.Path.{_≡_};
+ghost use Rattle.region_graph.specs.Model.{packages, entries};
 ghost use Rattle.region_graph.specs.Calls.{Call, «first-no», «new-region-questions», «region-questions», «end-questions», «provided-questions», «bundle-questions», «connection-questions»};
 ghost use Rattle.region_graph.specs.Sets.{members};
 ghost use Rattle.region_graph.specs.Record.{Valid, «bundles-of», «connections-of»};
@@ -18,9 +19,12 @@ use crate::connections::Connections;
 use crate::connections::StoredConnection;
 use crate::connections::filter_ascending;
 use crate::connections::filter_within;
+use crate::connections::package_part_copied;
+use crate::connections::package_part_ordered;
 use crate::connections::part_copied;
 use crate::numbers::copied;
 use crate::numbers::provided_copied;
+use crate::packages::packages_copied;
 use crate::refusals::CONNECTED;
 use crate::refusals::ENDS_EQUAL;
 use crate::refusals::FILTERED;
@@ -33,6 +37,7 @@ use crate::refusals::NOT_A_REGION;
 use crate::refusals::NOT_CONNECTED;
 use crate::refusals::NOT_INSTALLED;
 use crate::refusals::NOT_REFUSED;
+use crate::refusals::RANGE_REVERSED;
 use crate::refusals::REGION_USED;
 use crate::region_set::difference;
 use crate::region_set::has;
@@ -68,17 +73,23 @@ fn region_number(regions: u64, region: u32) -> u32
 }
 
 // The number that the region and the lists of an install give.
-fn provided_number(regions: u64, region: u32, packages: &[u32], services: &[u32]) -> u32
-    ensures { λ r. ⌜ r ≡ first-no (provided-questions (members regions) region (now (packages .entry)) (now (services .entry))) ⌝ }
+fn provided_number(
+    regions: u64,
+    region: u32,
+    numbers: &[u32],
+    versions: &[u16],
+    services: &[u32],
+) -> u32
+    ensures { λ r. ⌜ r ≡ first-no (provided-questions (members regions) region (packages (now (numbers .entry)) (now (versions .entry))) (now (services .entry))) ⌝ }
 {
     let number = region_number(regions, region);
     if number != NOT_REFUSED {
         return number;
     }
-    if !provided_within(packages, services) {
+    if !provided_within(numbers, versions, services) {
         return LIST_TOO_LONG;
     }
-    if !provided_ascending(packages, services) {
+    if !provided_ascending(numbers, versions, services) {
         return LIST_OUT_OF_ORDER;
     }
     NOT_REFUSED
@@ -132,22 +143,44 @@ fn connect_number(
     bundles: &[u32],
     all_packages: bool,
     packages: &[u32],
+    lowest: &[u16],
+    highest: &[u16],
     all_services: bool,
     services: &[u32],
 ) -> u32
     requires { ⌜ ConnectionsStored connections ⌝ }
-    ensures { λ r. ⌜ r ≡ first-no (connection-questions (connections-of connections) (new-connection source target (now (bundles .entry)) «all_packages» (now (packages .entry)) «all_services» (now (services .entry)))) ⌝ }
+    ensures { λ r. ⌜ r ≡ first-no (connection-questions (connections-of connections) (new-connection source target (now (bundles .entry)) «all_packages» (entries (now (packages .entry)) (now (lowest .entry)) (now (highest .entry))) «all_services» (now (services .entry)))) ⌝ }
 {
     if connections.first(ConnectionTest::Joining(source, target)) < connections.count {
         return CONNECTED;
     }
-    if !filter_within(bundles, all_packages, packages, all_services, services) {
+    if !filter_within(
+        bundles,
+        all_packages,
+        packages,
+        lowest,
+        highest,
+        all_services,
+        services,
+    ) {
         return LIST_TOO_LONG;
     }
-    if !filter_ascending(bundles, all_packages, packages, all_services, services) {
+    if !filter_ascending(
+        bundles,
+        all_packages,
+        packages,
+        lowest,
+        highest,
+        all_services,
+        services,
+    ) {
         return LIST_OUT_OF_ORDER;
     }
-    if MOST_CONNECTIONS <= connections.count {
+    let full = MOST_CONNECTIONS <= connections.count;
+    if !package_part_ordered(all_packages, packages, lowest, highest) {
+        return RANGE_REVERSED;
+    }
+    if full {
         return FULL;
     }
     NOT_REFUSED
@@ -190,24 +223,32 @@ impl Graph {
         }
     }
 
-    pub fn install(self, region: u32, location: u32, packages: &[u32], services: &[u32]) -> Changed
+    // The bundle's packages come as a list of their numbers and one of their versions.
+    pub fn install(
+        self,
+        region: u32,
+        location: u32,
+        numbers: &[u32],
+        versions: &[u16],
+        services: &[u32],
+    ) -> Changed
         requires { ⌜ Valid self ⌝ }
-        ensures { λ r. ⌜ Follows self (Call.install (new-bundle region location (now (packages .entry)) (now (services .entry)))) r ⌝ }
+        ensures { λ r. ⌜ Follows self (Call.install (new-bundle region location (packages (now (numbers .entry)) (now (versions .entry))) (now (services .entry)))) r ⌝ }
     {
         let mut next = self;
         let bundles = self.bundles;
         let connections = self.connections;
-        let mut number = provided_number(self.regions, region, packages, services);
+        let mut number = provided_number(self.regions, region, numbers, versions, services);
         if number == NOT_REFUSED {
             number = install_number(bundles, connections, region, location);
         }
         if number == NOT_REFUSED {
-            let provided = provided_copied(packages);
+            let exported = packages_copied(numbers, versions);
             let published = provided_copied(services);
             let b = StoredBundle {
                 location,
                 region,
-                packages: provided,
+                packages: exported,
                 services: published,
             };
             let place = bundles.first(BundleTest::After(location));
@@ -239,7 +280,8 @@ impl Graph {
         }
     }
 
-    // A filter's package and service parts each come as a flag for "all" and a list, which counts where the flag is not set.
+    // A filter's package and service parts each come as a flag for "all" and what is listed, which counts where the flag is not set: entries as a
+    // list of their numbers, one of their lowest and one of their highest versions.
     pub fn connect(
         self,
         source: u32,
@@ -247,11 +289,13 @@ impl Graph {
         bundles: &[u32],
         all_packages: bool,
         packages: &[u32],
+        lowest: &[u16],
+        highest: &[u16],
         all_services: bool,
         services: &[u32],
     ) -> Changed
         requires { ⌜ Valid self ⌝ }
-        ensures { λ r. ⌜ Follows self (Call.connect (new-connection source target (now (bundles .entry)) «all_packages» (now (packages .entry)) «all_services» (now (services .entry)))) r ⌝ }
+        ensures { λ r. ⌜ Follows self (Call.connect (new-connection source target (now (bundles .entry)) «all_packages» (entries (now (packages .entry)) (now (lowest .entry)) (now (highest .entry))) «all_services» (now (services .entry)))) r ⌝ }
     {
         let mut next = self;
         let connections = self.connections;
@@ -264,13 +308,15 @@ impl Graph {
                 bundles,
                 all_packages,
                 packages,
+                lowest,
+                highest,
                 all_services,
                 services,
             );
         }
         if number == NOT_REFUSED {
             let named = copied(bundles);
-            let passed = part_copied(all_packages, packages);
+            let passed = package_part_copied(all_packages, packages, lowest, highest);
             let offered = part_copied(all_services, services);
             let c = StoredConnection {
                 source,

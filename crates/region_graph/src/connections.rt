@@ -3,29 +3,37 @@ ghost use mathlib.Core.Path.{_≡_};
 ghost use mathlib.Core.Bool.{true, not};
 ghost use mathlib.Core.List.{[], _∷_, _++_};
 ghost use Prim.Native.Nat.{_<_, _≤_};
+ghost use lib.Dec.{ltb};
 ghost use lib.ListN.{length, take, drop};
 ghost use Rattle.region_graph.specs.Size.{«most-connections»};
-ghost use Rattle.region_graph.specs.Lists.{keep, position};
-ghost use Rattle.region_graph.specs.Model.{Part};
-ghost use Rattle.region_graph.specs.Calls.{«part-within», «part-ascends», «filter-within», «filter-ascends»};
-ghost use Rattle.region_graph.specs.Record.{«store-part», «store-connection», «connection-in», «no-connection», «store-connections», «connections-of»};
+ghost use Rattle.region_graph.specs.Lists.{ascends, every, keep, position};
+ghost use Rattle.region_graph.specs.Model.{Part, entries, «entry-before», ordered};
+ghost use Rattle.region_graph.specs.Calls.{«part-within», «of-listed», «filter-within», «filter-ascends»};
+ghost use Rattle.region_graph.specs.Record.{«store-part», «store-package-part», «store-connection», «store-connections»};
+ghost use Rattle.region_graph.specs.Record.{«connection-in», «no-connection», «connections-of»};
 ghost use Rattle.region_graph.specs.Places.{ConnectionStored, ConnectionsStored, «connection-meets»};
 ghost use Rattle.region_graph.specs.Promise.{«new-part», «new-filter»};
 use crate::numbers::Numbers;
 use crate::numbers::ascending;
 use crate::numbers::copied;
 use crate::numbers::has_number;
+use crate::packages::Entries;
+use crate::packages::entries_ascending;
+use crate::packages::entries_copied;
+use crate::packages::entries_ordered;
+use crate::packages::entry_count;
+use crate::packages::every_package;
 use crate::size::EVERYTHING;
 use crate::size::MOST_CONNECTIONS;
 use crate::size::MOST_LISTED;
 
-// A package or a service part has the numbers listed, or the count EVERYTHING and no numbers.
+// A service part has the numbers listed, or the count EVERYTHING and no numbers.
 #[repr(C)]
 pub struct StoredConnection {
     pub source: u32,
     pub target: u32,
     pub bundles: Numbers,
-    pub packages: Numbers,
+    pub packages: Entries,
     pub services: Numbers,
 }
 
@@ -44,7 +52,7 @@ pub enum ConnectionTest {
     After(u32, u32),
 }
 
-// Whether a part handed in is within its count.
+// Whether a service part handed in is within its count.
 pub fn part_within(all: bool, list: &[u32]) -> bool
     ensures { λ r. ⌜ r ≡ part-within (new-part all (now (list .entry))) ⌝ }
 {
@@ -55,7 +63,7 @@ pub fn part_within(all: bool, list: &[u32]) -> bool
 }
 
 pub fn part_ascending(all: bool, list: &[u32]) -> bool
-    ensures { λ r. ⌜ r ≡ part-ascends (new-part all (now (list .entry))) ⌝ }
+    ensures { λ r. ⌜ r ≡ of-listed (ascends ltb) (new-part all (now (list .entry))) ⌝ }
 {
     if all {
         return true;
@@ -63,18 +71,49 @@ pub fn part_ascending(all: bool, list: &[u32]) -> bool
     ascending(list)
 }
 
+// The same of a package part.
+fn package_part_within(all: bool, packages: &[u32], lowest: &[u16], highest: &[u16]) -> bool
+    ensures { λ r. ⌜ r ≡ part-within (new-part all (entries (now (packages .entry)) (now (lowest .entry)) (now (highest .entry)))) ⌝ }
+{
+    if all {
+        return true;
+    }
+    entry_count(packages, lowest, highest) <= MOST_LISTED
+}
+
+fn package_part_ascending(all: bool, packages: &[u32], lowest: &[u16], highest: &[u16]) -> bool
+    ensures { λ r. ⌜ r ≡ of-listed (ascends entry-before) (new-part all (entries (now (packages .entry)) (now (lowest .entry)) (now (highest .entry)))) ⌝ }
+{
+    if all {
+        return true;
+    }
+    entries_ascending(packages, lowest, highest)
+}
+
+// Whether no entry of a package part has a lowest version above its highest.
+pub fn package_part_ordered(all: bool, packages: &[u32], lowest: &[u16], highest: &[u16]) -> bool
+    ensures { λ r. ⌜ r ≡ of-listed (every ordered) (new-part all (entries (now (packages .entry)) (now (lowest .entry)) (now (highest .entry)))) ⌝ }
+{
+    if all {
+        return true;
+    }
+    entries_ordered(packages, lowest, highest)
+}
+
 // Whether each part of a filter is within its count.
 pub fn filter_within(
     bundles: &[u32],
     all_packages: bool,
     packages: &[u32],
+    lowest: &[u16],
+    highest: &[u16],
     all_services: bool,
     services: &[u32],
 ) -> bool
-    ensures { λ r. ⌜ r ≡ filter-within (new-filter (now (bundles .entry)) «all_packages» (now (packages .entry)) «all_services» (now (services .entry))) ⌝ }
+    ensures { λ r. ⌜ r ≡ filter-within (new-filter (now (bundles .entry)) «all_packages» (entries (now (packages .entry)) (now (lowest .entry)) (now (highest .entry))) «all_services» (now (services .entry))) ⌝ }
 {
     if bundles.len() <= MOST_LISTED {
-        if part_within(all_packages, packages) {
+        if package_part_within(all_packages, packages, lowest, highest) {
             return part_within(all_services, services);
         }
     }
@@ -85,20 +124,22 @@ pub fn filter_ascending(
     bundles: &[u32],
     all_packages: bool,
     packages: &[u32],
+    lowest: &[u16],
+    highest: &[u16],
     all_services: bool,
     services: &[u32],
 ) -> bool
-    ensures { λ r. ⌜ r ≡ filter-ascends (new-filter (now (bundles .entry)) «all_packages» (now (packages .entry)) «all_services» (now (services .entry))) ⌝ }
+    ensures { λ r. ⌜ r ≡ filter-ascends (new-filter (now (bundles .entry)) «all_packages» (entries (now (packages .entry)) (now (lowest .entry)) (now (highest .entry))) «all_services» (now (services .entry))) ⌝ }
 {
     if ascending(bundles) {
-        if part_ascending(all_packages, packages) {
+        if package_part_ascending(all_packages, packages, lowest, highest) {
             return part_ascending(all_services, services);
         }
     }
     false
 }
 
-// A part that is everything.
+// A service part that is everything.
 pub fn everything() -> Numbers
     ensures { λ r. ⌜ r ≡ store-part Part.everything ⌝ }
 {
@@ -118,6 +159,16 @@ pub fn part_copied(all: bool, list: &[u32]) -> Numbers
     copied(list)
 }
 
+pub fn package_part_copied(all: bool, packages: &[u32], lowest: &[u16], highest: &[u16]) -> Entries
+    requires { ⌜ part-within (new-part all (entries (now packages) (now lowest) (now highest))) ≡ true ⌝ }
+    ensures { λ r. ⌜ r ≡ store-package-part (new-part all (entries (now (packages .entry)) (now (lowest .entry)) (now (highest .entry)))) ⌝ }
+{
+    if all {
+        return every_package();
+    }
+    entries_copied(packages, lowest, highest)
+}
+
 // What stands in a place that is not used.
 pub fn no_connection() -> StoredConnection
     ensures { λ r. ⌜ r ≡ store-connection no-connection ⌝ }
@@ -130,7 +181,12 @@ pub fn no_connection() -> StoredConnection
         source: 0,
         target: 0,
         bundles: none,
-        packages: none,
+        packages: Entries {
+            count: 0,
+            numbers: [0u32; MOST_LISTED],
+            lowest: [0u16; MOST_LISTED],
+            highest: [0u16; MOST_LISTED],
+        },
         services: none,
     }
 }

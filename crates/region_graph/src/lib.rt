@@ -4,6 +4,7 @@ mod calls;
 mod connections;
 pub mod flat;
 mod numbers;
+mod packages;
 pub mod refusals;
 pub mod region_set;
 pub mod size;
@@ -17,6 +18,9 @@ pub use connections::StoredConnection;
 pub use numbers::Numbers;
 pub use numbers::Provided;
 pub use numbers::has_number;
+pub use packages::Entries;
+pub use packages::Packages;
+pub use packages::has_package;
 
 // R as a set, B and F in ascending order in the first places of their arrays.
 #[repr(C)]
@@ -32,10 +36,11 @@ pub struct Changed {
     pub number: u32,
 }
 
-// A number of one of the kinds 0 bundle, 1 package and 2 service.
+// A number of one of the kinds 0 bundle, 1 package and 2 service, and a version, which counts for a package alone.
 pub struct Item {
     pub kind: u32,
     pub number: u32,
+    pub version: u16,
 }
 
 // The region in which a location is installed.

@@ -1,11 +1,12 @@
 // What the layers above read of a graph. Every function answers every argument.
 ghost use mathlib.Core.Path.{_≡_};
 ghost use lib.ListN.{length};
-ghost use Rattle.region_graph.specs.Lists.{member};
+ghost use Rattle.region_graph.specs.Lists.{exists, member};
+ghost use Rattle.region_graph.specs.Calls.{«of-listed»};
 ghost use Rattle.region_graph.specs.Sets.{«set-of»};
-ghost use Rattle.region_graph.specs.Items.{provides, passes, «part-passes»};
-ghost use Rattle.region_graph.specs.Record.{Valid, meaning, «store-bundle», «store-connection», «bundle-in», «connection-in», «part-in»};
-ghost use Rattle.region_graph.specs.Places.{BundleStored, ConnectionStored, PartStored};
+ghost use Rattle.region_graph.specs.Items.{provides, passes, «entry-passes»};
+ghost use Rattle.region_graph.specs.Record.{Valid, meaning, «store-bundle», «store-connection», «bundle-in», «connection-in», «part-in», «package-part-in»};
+ghost use Rattle.region_graph.specs.Places.{BundleStored, ConnectionStored, PartStored, PackagePartStored};
 ghost use Rattle.region_graph.specs.Promise.{«place-of», «provider-place», «holder-set», «predecessor-sets»};
 ghost use Rattle.region_graph.specs.Promise.{«bundle-places», «connection-places», «bundle-at», «connection-at»};
 use crate::Graph;
@@ -18,6 +19,9 @@ use crate::connections::StoredConnection;
 use crate::connections::no_connection;
 use crate::numbers::Numbers;
 use crate::numbers::has_number;
+use crate::packages::Entries;
+use crate::packages::entries_pass;
+use crate::packages::has_package;
 use crate::region_set::singleton;
 use crate::size::EVERYTHING;
 use crate::size::MOST_BUNDLES;
@@ -34,8 +38,14 @@ fn bundle_provides(b: StoredBundle, item: Item) -> bool
         0 => b.location == item.number,
         1 => {
             let count = b.packages.count;
-            let items = b.packages.items;
-            has_number(&items[..count], item.number)
+            let numbers = b.packages.numbers;
+            let versions = b.packages.versions;
+            has_package(
+                &numbers[..count],
+                &versions[..count],
+                item.number,
+                item.version,
+            )
         }
         2 => {
             let count = b.services.count;
@@ -48,7 +58,7 @@ fn bundle_provides(b: StoredBundle, item: Item) -> bool
 
 fn part_passes(part: Numbers, number: u32) -> bool
     requires { ⌜ PartStored part ⌝ }
-    ensures { λ r. ⌜ r ≡ part-passes number (part-in part) ⌝ }
+    ensures { λ r. ⌜ r ≡ of-listed (member number) (part-in part) ⌝ }
 {
     let count = part.count;
     if count == EVERYTHING {
@@ -56,6 +66,26 @@ fn part_passes(part: Numbers, number: u32) -> bool
     }
     let items = part.items;
     has_number(&items[..count], number)
+}
+
+fn package_part_passes(part: Entries, number: u32, version: u16) -> bool
+    requires { ⌜ PackagePartStored part ⌝ }
+    ensures { λ r. ⌜ r ≡ of-listed (exists (entry-passes number version)) (package-part-in part) ⌝ }
+{
+    let count = part.count;
+    if count == EVERYTHING {
+        return true;
+    }
+    let numbers = part.numbers;
+    let lowest = part.lowest;
+    let highest = part.highest;
+    entries_pass(
+        &numbers[..count],
+        &lowest[..count],
+        &highest[..count],
+        number,
+        version,
+    )
 }
 
 // Whether a connection's filter passes an item.
@@ -72,7 +102,7 @@ fn connection_passes(c: StoredConnection, item: Item) -> bool
         }
         1 => {
             let packages = c.packages;
-            part_passes(packages, item.number)
+            package_part_passes(packages, item.number, item.version)
         }
         2 => {
             let services = c.services;

@@ -34,13 +34,16 @@ use Rattle.region_host.specs.CNumbers.{CountFits}
 use Rattle.region_host.proofs.ReadBack.{PaperNumber, RoutedGiven, KeptGiven, WrittenGiven}
 
 -- the first question answered no has a number of theirs
-pub first-no-within : (most : ℕ) (qs : List Question) → All (λ q. q .number ≤ most) qs → first-no qs ≤ most
-first-no-within most [] a = omega arith
-first-no-within most (q ∷ qs) a = go (q .yes) (first-no-within most qs (a .1))
+pub first-no-of : (P : ℕ → Type 0) → P not-refused → (qs : List Question) → All (λ q. P (q .number)) qs → P (first-no qs)
+first-no-of P z [] a = z
+first-no-of P z (q ∷ qs) a = go (q .yes) (first-no-of P z qs (a .1))
   where
-    go : (b : Bool) → first-no qs ≤ most → pick b (first-no qs) (q .number) ≤ most
+    go : (b : Bool) → P (first-no qs) → P (pick b (first-no qs) (q .number))
     go true h = h
     go false h = a .0
+
+pub first-no-within : (most : ℕ) (qs : List Question) → All (λ q. q .number ≤ most) qs → first-no qs ≤ most
+first-no-within most qs a = first-no-of (λ n. n ≤ most) (omega arith) qs a
 
 positive : (n : ℕ) → (n ≡ 0 → ⊥) → 0 < n
 positive zero u = absurd (u refl)
@@ -109,11 +112,12 @@ shown-from-given : (m : Model) (i : Item) (p : Place) (entry : List ℕ) → Rou
 shown-from-given m i (Within r) entry = shown-given (chosen m i r) entry (chosen-short m i r)
 shown-from-given m i Nowhere entry = tt
 
-pub route-given : (m : Model) (l kind number : ℕ) (entry : List ℕ) → RoutedGiven (route-outcome m l kind number entry .answer)
-route-given m l kind number entry =
+pub route-given : (m : Model) (l kind number version : ℕ) (entry : List ℕ) → RoutedGiven (route-outcome m l kind number version entry .answer)
+route-given m l kind number version entry =
     judged-given RoutedGiven Routed.Refused (λ n g. g) (first-no (route-questions m l kind entry))
     (first-no-within 100 (route-questions m l kind entry) (omega arith, (omega arith, (omega arith, tt))))
-    (shown-from m (item kind number) (place-of (m .bundles) l) entry) (shown-from-given m (item kind number) (place-of (m .bundles) l) entry) entry
+    (shown-from m (item kind number version) (place-of (m .bundles) l) entry)
+    (shown-from-given m (item kind number version) (place-of (m .bundles) l) entry) entry
 
 -- no more are kept than there are
 kept-given : {X E : Type 0} (n : ℕ) → n ≤ 100 → (p : X → Bool) (xs : List X) (exit entry : E) → CountFits (length xs)
@@ -123,14 +127,14 @@ kept-given n h p xs exit entry c =
 
 pub find-given : (m : Model) (k : Kind) (l : ℕ) (xs entry : List ℕ) → CountFits (length xs) → KeptGiven (find-outcome m k l xs entry .answer)
 find-given m k l xs entry c =
-    let sees : ℕ → Bool = λ n. sees-from m (item (kind-number k) n) (place-of (m .bundles) l) in
+    let sees : ℕ → Bool = λ n. sees-from m (item (kind-number k) n 0) (place-of (m .bundles) l) in
     kept-given (first-no (find-questions m l xs entry)) (first-no-within 100 (find-questions m l xs entry) (omega arith, (omega arith, tt)))
     sees xs (written (keep sees xs) entry) entry c
 
 pub event-given : (m : Model) (k : Kind) (xs : List ℕ) (number : ℕ) (entry : List ℕ) → CountFits (length xs)
     → KeptGiven (event-outcome m k xs number entry .answer)
 event-given m k xs number entry c =
-    let sees : ℕ → Bool = λ l. sees-from m (item (kind-number k) number) (place-of (m .bundles) l) in
+    let sees : ℕ → Bool = λ l. sees-from m (item (kind-number k) number 0) (place-of (m .bundles) l) in
     kept-given (first-no (event-questions m xs entry)) (first-no-within 100 (event-questions m xs entry) (omega arith, (omega arith, tt)))
     sees xs (written (keep sees xs) entry) entry c
 

@@ -64,22 +64,22 @@ shown-from-whole : (m : Model) (i : Item) (p : Place) (entry : List ℕ) → Who
 shown-from-whole m i (Within r) entry = shown-whole (chosen m i r) entry
 shown-from-whole m i Nowhere entry = refl
 
-pub route-whole : (m : Model) (l kind number : ℕ) (entry : List ℕ) → Whole routed-as (route-outcome m l kind number entry)
-route-whole m l kind number entry =
+pub route-whole : (m : Model) (l kind number version : ℕ) (entry : List ℕ) → Whole routed-as (route-outcome m l kind number version entry)
+route-whole m l kind number version entry =
     judged-whole routed-as Routed.Refused (λ n. refl) (first-no (route-questions m l kind entry)) entry
-    (shown-from-whole m (item kind number) (place-of (m .bundles) l) entry)
+    (shown-from-whole m (item kind number version) (place-of (m .bundles) l) entry)
 
 kept-whole : {E : Type 0} (n : ℕ) (a : Kept) (exit entry : E) → Whole kept-as (judged Kept.Refused n (kept a exit) entry)
 kept-whole n a exit entry = judged-whole kept-as Kept.Refused (λ n. refl) n {o = kept a exit} entry refl
 
 pub find-whole : (m : Model) (k : Kind) (l : ℕ) (xs entry : List ℕ) → Whole kept-as (find-outcome m k l xs entry)
 find-whole m k l xs entry =
-    let those = keep (λ n. sees-from m (item (kind-number k) n) (place-of (m .bundles) l)) xs in
+    let those = keep (λ n. sees-from m (item (kind-number k) n 0) (place-of (m .bundles) l)) xs in
     kept-whole (first-no (find-questions m l xs entry)) (Kept.Wrote (length those)) (written those entry) entry
 
 pub event-whole : (m : Model) (k : Kind) (xs : List ℕ) (number : ℕ) (entry : List ℕ) → Whole kept-as (event-outcome m k xs number entry)
 event-whole m k xs number entry =
-    let those = keep (λ l. sees-from m (item (kind-number k) number) (place-of (m .bundles) l)) xs in
+    let those = keep (λ l. sees-from m (item (kind-number k) number 0) (place-of (m .bundles) l)) xs in
     kept-whole (first-no (event-questions m xs entry)) (Kept.Wrote (length those)) (written those entry) entry
 
 pub resolve-whole : (m : Model) (l : ℕ) (cs : List Candidate) (entries : List (List ℕ)) → Whole kept-as (resolve-outcome m l cs entries)

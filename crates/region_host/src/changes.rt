@@ -1,5 +1,6 @@
-// The calls that change the lent record. Each puts a copy of the record to the call that takes it by value, stores the record that
+// The calls that change the lent record. A name that ends in a version has the arguments that came with that version of the interface. Each puts a copy of the record to the call that takes it by value, stores the record that
 // this hands back, and returns its number.
+ghost use Rattle.region_graph.specs.Model.{packages, entries};
 ghost use Rattle.region_graph.specs.Calls.{Call};
 ghost use Rattle.region_graph.specs.Record.{Valid};
 ghost use Rattle.region_graph.specs.Promise.{Empty, Follows, «new-bundle», «new-connection»};
@@ -38,17 +39,18 @@ pub extern "C" fn region_remove(graph: &mut Graph, region: u32) -> u32
 }
 
 #[no_mangle]
-pub extern "C" fn region_install(
+pub extern "C" fn region_install_v4(
     graph: &mut Graph,
     region: u32,
     location: u32,
-    packages: &[u32],
+    numbers: &[u32],
+    versions: &[u16],
     services: &[u32],
 ) -> u32
     requires { ⌜ Valid (now graph) ⌝ }
-    ensures { λ n. ⌜ Follows (now (graph .entry)) (Call.install (new-bundle region location (now (packages .entry)) (now (services .entry)))) (record { graph = now (graph .exit); number = n }) ⌝ }
+    ensures { λ n. ⌜ Follows (now (graph .entry)) (Call.install (new-bundle region location (packages (now (numbers .entry)) (now (versions .entry))) (now (services .entry)))) (record { graph = now (graph .exit); number = n }) ⌝ }
 {
-    let changed = graph.install(region, location, packages, services);
+    let changed = graph.install(region, location, numbers, versions, services);
     *graph = changed.graph;
     changed.number
 }
@@ -64,18 +66,20 @@ pub extern "C" fn region_uninstall(graph: &mut Graph, location: u32) -> u32
 }
 
 #[no_mangle]
-pub extern "C" fn region_connect(
+pub extern "C" fn region_connect_v4(
     graph: &mut Graph,
     source: u32,
     target: u32,
     bundles: &[u32],
     all_packages: bool,
     packages: &[u32],
+    lowest: &[u16],
+    highest: &[u16],
     all_services: bool,
     services: &[u32],
 ) -> u32
     requires { ⌜ Valid (now graph) ⌝ }
-    ensures { λ n. ⌜ Follows (now (graph .entry)) (Call.connect (new-connection source target (now (bundles .entry)) «all_packages» (now (packages .entry)) «all_services» (now (services .entry)))) (record { graph = now (graph .exit); number = n }) ⌝ }
+    ensures { λ n. ⌜ Follows (now (graph .entry)) (Call.connect (new-connection source target (now (bundles .entry)) «all_packages» (entries (now (packages .entry)) (now (lowest .entry)) (now (highest .entry))) «all_services» (now (services .entry)))) (record { graph = now (graph .exit); number = n }) ⌝ }
 {
     let changed = graph.connect(
         source,
@@ -83,6 +87,8 @@ pub extern "C" fn region_connect(
         bundles,
         all_packages,
         packages,
+        lowest,
+        highest,
         all_services,
         services,
     );

@@ -7,16 +7,22 @@ use region_graph::size::MOST_LISTED;
 use region_graph::size::MOST_PROVIDED;
 
 // Raised whenever a host must be compiled anew; WIMBORU_VERSION of include/wimboru.h goes with it.
-const VERSION: u32 = 3;
+const VERSION: u32 = 4;
 
-// Bytes of a number, of a count or the set of regions, of a bundle, of a connection and of the record.
+// Bytes of a number, of a version, of a count or the set of regions, of a bundle, of a connection and of the record.
 const NUMBER: usize = 4;
+
+const VERSION_SIZE: usize = 2;
 
 const COUNT: usize = 8;
 
-const BUNDLE: usize = 2 * NUMBER + 2 * (COUNT + MOST_PROVIDED * NUMBER);
+const BUNDLE: usize = 2 * NUMBER
+    + (COUNT + MOST_PROVIDED * (NUMBER + VERSION_SIZE))
+    + (COUNT + MOST_PROVIDED * NUMBER);
 
-const CONNECTION: usize = 2 * NUMBER + 3 * (COUNT + MOST_LISTED * NUMBER);
+const CONNECTION: usize = 2 * NUMBER
+    + 2 * (COUNT + MOST_LISTED * NUMBER)
+    + (COUNT + MOST_LISTED * (NUMBER + 2 * VERSION_SIZE));
 
 const RECORD: usize = COUNT
     + (COUNT + MOST_BUNDLES * BUNDLE)

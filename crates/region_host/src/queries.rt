@@ -1,5 +1,5 @@
 // The queries of the lent record. Each hands a copy of the record to a function `_by_value`, which asks the query of that name and
-// makes its answer one number for C.
+// makes its answer one number for C. A name that ends in a version has the arguments that came with that version of the interface.
 ghost use mathlib.Core.Path.{_≡_};
 ghost use mathlib.Core.List.{[], _∷_};
 ghost use Rattle.region_graph.specs.Record.{Valid, meaning};
@@ -20,27 +20,35 @@ use region_routes::route;
 use region_routes::service_event;
 use region_routes::service_find;
 
-fn route_by_value(graph: Graph, out: &mut [u8], location: u32, kind: u32, item: u32) -> u64
+fn route_by_value(
+    graph: Graph,
+    out: &mut [u8],
+    location: u32,
+    kind: u32,
+    item: u32,
+    version: u16,
+) -> u64
     requires { ⌜ Valid graph ⌝ }
-    ensures { λ n. ⌜ answered n (now (out .exit)) ≡ for-c routed-value (route-outcome (meaning graph) location kind item (now (out .entry))) ⌝ }
+    ensures { λ n. ⌜ answered n (now (out .exit)) ≡ for-c routed-value (route-outcome (meaning graph) location kind item version (now (out .entry))) ⌝ }
 {
-    let answer = route(graph, location, kind, item, out);
+    let answer = route(graph, location, kind, item, version, out);
     routed_value(answer)
 }
 
 // The route that document 01 picks, and its count of connections.
 #[no_mangle]
-pub extern "C" fn region_route(
+pub extern "C" fn region_route_v4(
     graph: &Graph,
     out: &mut [u8],
     location: u32,
     kind: u32,
     item: u32,
+    version: u16,
 ) -> u64
     requires { ⌜ Valid (now graph) ⌝ }
-    ensures { λ n. ⌜ answered n (now (out .exit)) ≡ for-c routed-value (route-outcome (meaning (now (graph .entry))) location kind item (now (out .entry))) ⌝ }
+    ensures { λ n. ⌜ answered n (now (out .exit)) ≡ for-c routed-value (route-outcome (meaning (now (graph .entry))) location kind item version (now (out .entry))) ⌝ }
 {
-    route_by_value(*graph, out, location, kind, item)
+    route_by_value(*graph, out, location, kind, item, version)
 }
 
 fn bundle_find_by_value(graph: Graph, out: &mut [u32], location: u32, candidates: &[u32]) -> u64
@@ -69,45 +77,52 @@ fn resolve_by_value(
     graph: Graph,
     out_exporters: &mut [u32],
     out_packages: &mut [u32],
+    out_versions: &mut [u16],
     location: u32,
     exporters: &[u32],
     packages: &[u32],
+    versions: &[u16],
 ) -> u64
     requires { ⌜ Valid graph ⌝ }
-    ensures { λ n. ⌜ answered n (now («out_exporters» .exit) ∷ now («out_packages» .exit) ∷ []) ≡ for-c kept-value (resolve-outcome (meaning graph) location (candidates (now (exporters .entry)) (now (packages .entry))) (now («out_exporters» .entry) ∷ now («out_packages» .entry) ∷ [])) ⌝ }
+    ensures { λ n. ⌜ answered n (now («out_exporters» .exit) ∷ now («out_packages» .exit) ∷ now («out_versions» .exit) ∷ []) ≡ for-c kept-value (resolve-outcome (meaning graph) location (candidates (now (exporters .entry)) (now (packages .entry)) (now (versions .entry))) (now («out_exporters» .entry) ∷ now («out_packages» .entry) ∷ now («out_versions» .entry) ∷ [])) ⌝ }
 {
     let answer = resolve(
         graph,
         location,
         exporters,
         packages,
+        versions,
         out_exporters,
         out_packages,
+        out_versions,
     );
     kept_value(answer)
 }
 
-// The candidates, exporters with packages, that a bundle is offered. The name ends in the version of the interface in which these arguments
-// came.
+// The candidates, exporters with packages, that a bundle is offered.
 #[no_mangle]
-pub extern "C" fn region_resolve_v3(
+pub extern "C" fn region_resolve_v4(
     graph: &Graph,
     out_exporters: &mut [u32],
     out_packages: &mut [u32],
+    out_versions: &mut [u16],
     location: u32,
     exporters: &[u32],
     packages: &[u32],
+    versions: &[u16],
 ) -> u64
     requires { ⌜ Valid (now graph) ⌝ }
-    ensures { λ n. ⌜ answered n (now («out_exporters» .exit) ∷ now («out_packages» .exit) ∷ []) ≡ for-c kept-value (resolve-outcome (meaning (now (graph .entry))) location (candidates (now (exporters .entry)) (now (packages .entry))) (now («out_exporters» .entry) ∷ now («out_packages» .entry) ∷ [])) ⌝ }
+    ensures { λ n. ⌜ answered n (now («out_exporters» .exit) ∷ now («out_packages» .exit) ∷ now («out_versions» .exit) ∷ []) ≡ for-c kept-value (resolve-outcome (meaning (now (graph .entry))) location (candidates (now (exporters .entry)) (now (packages .entry)) (now (versions .entry))) (now («out_exporters» .entry) ∷ now («out_packages» .entry) ∷ now («out_versions» .entry) ∷ [])) ⌝ }
 {
     resolve_by_value(
         *graph,
         out_exporters,
         out_packages,
+        out_versions,
         location,
         exporters,
         packages,
+        versions,
     )
 }
 
@@ -196,8 +211,14 @@ pub extern "C" fn region_write(graph: &Graph, out: &mut [u8]) -> u64
 
 // Whether the bundle at a location sees an item in the graph of an archive: the query of `region_archive`, as it is.
 #[no_mangle]
-pub extern "C" fn archive_query(bytes: &[u8], location: u32, kind: u32, item: u32) -> u32
-    ensures { λ r. ⌜ Queried (now (bytes .entry)) location kind item r ⌝ }
+pub extern "C" fn archive_query_v4(
+    bytes: &[u8],
+    location: u32,
+    kind: u32,
+    item: u32,
+    version: u16,
+) -> u32
+    ensures { λ r. ⌜ Queried (now (bytes .entry)) location kind item version r ⌝ }
 {
-    region_archive::archive_query(bytes, location, kind, item)
+    region_archive::archive_query_v4(bytes, location, kind, item, version)
 }

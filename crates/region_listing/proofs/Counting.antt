@@ -12,8 +12,10 @@ use lib.Seq.{take-suc, take-all, getD-set-same, getD-set-other}
 use Rattle.region_graph.specs.Size.{regions}
 use Rattle.region_graph.specs.Lists.{pick, keep}
 use Rattle.region_graph.specs.Sets.{bit, set-of}
-use Rattle.region_graph.specs.Model.{Model}
+use Rattle.region_graph.specs.Model.{Model, Package}
+use Rattle.region_graph.specs.declared.Item.{Item}
 use Rattle.region_graph.proofs.Lists.{keep-append, keep-length}
+use Rattle.region_graph.proofs.Columns.{no-package}
 use Rattle.region_graph.proofs.Bits.{bit-le, bit-zero, in-lt, bit-set-below}
 use Rattle.region_routes.specs.Chosen.{sees}
 use Rattle.region_routes.specs.Hooks.{kind-number, item}
@@ -100,43 +102,47 @@ keep-more p xs i d h =
     one true = refl
     one false = refl
 
--- for each region how many of the first i numbers it sees, as items of a kind
-pub record Tally (m : Model) (kind : ℕ) (ns counts : List ℕ) (i : ℕ) : Type 0 where
-  pub size : length counts ≡ regions
-  pub each : (r : ℕ) → r < regions → getD counts r 0 ≡ length (keep (λ n. sees m (item kind n) r) (take i ns))
+-- a package as an item of a kind
+abbrev pub item-of : ℕ → Package → Item
+item-of kind p = item kind (p .number) (p .version)
 
-module _ {m : Model} {kind : ℕ} {ns : List ℕ} where
-  pub tally-none : Tally m kind ns (replicate regions 0) 0
+-- for each region how many of the first i packages it sees, as items of a kind
+pub record Tally (m : Model) (kind : ℕ) (ps : List Package) (counts : List ℕ) (i : ℕ) : Type 0 where
+  pub size : length counts ≡ regions
+  pub each : (r : ℕ) → r < regions → getD counts r 0 ≡ length (keep (λ p. sees m (item-of kind p) r) (take i ps))
+
+module _ {m : Model} {kind : ℕ} {ps : List Package} where
+  pub tally-none : Tally m kind ps (replicate regions 0) 0
   tally-none = record { size = refl; each = λ r h. getD-replicate regions r 0 0 h }
 
-  module _ {counts : List ℕ} {i : ℕ} (t : Tally m kind ns counts i) where
-    -- no count is above the count of the numbers
-    pub tally-fits : length ns ≤ most-different → CountsFit counts
+  module _ {counts : List ℕ} {i : ℕ} (t : Tally m kind ps counts i) where
+    -- no count is above the count of the packages
+    pub tally-fits : length ps ≤ most-different → CountsFit counts
     tally-fits h =
         record {
           size = t .size;
-          few = λ r k. omega (arith, t .each r k, keep-length (λ n. sees m (item kind n) r) (take i ns), length-take i ns);
+          few = λ r k. omega (arith, t .each r k, keep-length (λ p. sees m (item-of kind p) r) (take i ps), length-take i ps);
         }
 
-    -- one number more
-    pub tally-more : {x set : ℕ} {next : List ℕ} → i < length ns → x ≡ getD ns i 0 → set ≡ set-of (sees m (item kind x)) → CountedOnce counts set next
-        → Tally m kind ns next (i + 1)
+    -- one package more
+    pub tally-more : {x : Package} {set : ℕ} {next : List ℕ} → i < length ps → x ≡ getD ps i no-package → set ≡ set-of (sees m (item-of kind x))
+        → CountedOnce counts set next → Tally m kind ps next (i + 1)
     tally-more {x} {set} {next} h e f c = record { size = c .size; each = go }
       where
-        go : (r : ℕ) → r < regions → getD next r 0 ≡ length (keep (λ n. sees m (item kind n) r) (take (i + 1) ns))
+        go : (r : ℕ) → r < regions → getD next r 0 ≡ length (keep (λ p. sees m (item-of kind p) r) (take (i + 1) ps))
         go r k =
-            let p : ℕ → Bool = λ n. sees m (item kind n) r in
-            let d : bit set r ≡ pick (p (getD ns i 0)) 1 0 =
-            ap (λ (s : ℕ). bit s r) f ∙ bit-set-below regions (sees m (item kind x)) r k ∙ ap (λ (n : ℕ). pick (p n) 1 0) e in
-            omega (arith, c .each r k, t .each r k, d, keep-more p ns i 0 h)
+            let p : Package → Bool = λ q. sees m (item-of kind q) r in
+            let d : bit set r ≡ pick (p (getD ps i no-package)) 1 0 =
+            ap (λ (s : ℕ). bit s r) f ∙ bit-set-below regions (sees m (item-of kind x)) r k ∙ ap (λ (q : Package). pick (p q) 1 0) e in
+            omega (arith, c .each r k, t .each r k, d, keep-more p ps i no-package h)
 
--- all numbers
+-- all packages
 pub tally-all : {m : Model} {k : Kind} {counts : List ℕ} {i : ℕ} → length (held k (m .bundles)) ≤ i → Tally m (kind-number k) (held k (m .bundles)) counts i
     → Counted m k counts
 unfolding seen-from
 tally-all {m} {k} {counts} {i} h t =
-    let ns = held k (m .bundles) in
+    let ps = held k (m .bundles) in
     record {
       size = t .size;
-      each = λ r l. t .each r l ∙ ap (λ (xs : List ℕ). length (keep (λ n. sees m (item (kind-number k) n) r) xs)) (take-all i ns h);
+      each = λ r l. t .each r l ∙ ap (λ (xs : List Package). length (keep (λ p. sees m (item-of (kind-number k) p) r) xs)) (take-all i ps h);
     }

@@ -13,7 +13,6 @@ use Rattle.region_graph.specs.Size.{regions, most-bundles, most-provided}
 use Rattle.region_graph.specs.Refusals.{not-refused}
 use Rattle.region_graph.specs.Lists.{pick, All}
 use Rattle.region_graph.specs.Model.{Model, Bundle, Legal, LegalBundle}
-use Rattle.region_graph.specs.Items.{provided}
 use Rattle.region_graph.specs.Record.{no-bundle, bundles-of, bundle-in}
 use Rattle.region_graph.specs.Places.{BundlesStored}
 use Rattle.region_graph.specs.declared.bundles.StoredBundle.{StoredBundle}
@@ -22,7 +21,7 @@ use Rattle.region_graph.proofs.Arrays.{drop-replicate}
 use Rattle.region_graph.proofs.Storing.{short-bundle}
 use Rattle.region_graph.proofs.Legal.{legal-nothing}
 use Rattle.region_routes.specs.Chosen.{sees}
-use Rattle.region_routes.specs.Hooks.{kind-number, item}
+use Rattle.region_routes.specs.Hooks.{kind-number}
 use Rattle.region_routes.specs.declared.Kind.{Kind}
 use Rattle.region_routes.specs.declared.Kind.the-variants as Kind
 use Rattle.text_lines.specs.Written.{WrittenAt}
@@ -31,11 +30,12 @@ use Rattle.text_lines.proofs.Writes.{wrote-then, wrote-is, wrote-length}
 use Rattle.text_lines.proofs.DecimalLaws.{decimal-few, decimal-most}
 use Rattle.region_archive.specs.File.{FileMeaning, means, means-none, read-model, read-number}
 use Rattle.region_archive.proofs.Meaning.{file-meaning}
-use Rattle.region_listing.specs.Listing.{held, seen-from, line-of, line, header, listing-text, refused-word, refusal-text, file-text}
+use Rattle.region_listing.specs.Listing.{provided, held, seen-from, line-of, line, header, listing-text, refused-word, refusal-text, file-text}
 use Rattle.region_listing.specs.Listing.{header-size, line-size, longest-text, store-text, ArchiveListed}
 use Rattle.region_listing.specs.Counts.{Counted}
 use Rattle.region_listing.specs.declared.listing.Text.{Text}
 use Rattle.region_listing.proofs.Collecting.{joined-few, in-places, places-count, place-means, provided-few}
+use Rattle.region_listing.proofs.Counting.{item-of}
 
 -- a line by the counts of each region
 abbrev pub row : List ℕ → List ℕ → List ℕ → Bundle → List ℕ
@@ -126,15 +126,15 @@ line-length : (a b c d e : ℕ)
 line-length a b c d e = simp length-append
 
 module _ (m : Model) (l : Legal m) where
-  seen-most : (k : Kind) (r w : ℕ) → ((b : Bundle) → LegalBundle (m .regions) b → length (provided (kind-number k) b) ≤ w)
+  seen-most : (k : Kind) (r w : ℕ) → ((b : Bundle) → LegalBundle (m .regions) b → length (provided k b) ≤ w)
       → seen-from m k r ≤ length (m .bundles) * w
   unfolding seen-from held
   seen-most k r w h =
       omega (
         arith,
-        keep-length (λ n. sees m (item (kind-number k) n) r) (held k (m .bundles)),
-        joined-few [] (concat-map (provided (kind-number k)) (m .bundles)),
-        concat-most (LegalBundle (m .regions)) (provided (kind-number k)) w h (m .bundles) (l .bundles-legal .each),
+        keep-length (λ p. sees m (item-of (kind-number k) p) r) (held k (m .bundles)),
+        joined-few [] (concat-map (provided k) (m .bundles)),
+        concat-most (LegalBundle (m .regions)) (provided k) w h (m .bundles) (l .bundles-legal .each),
       )
 
   -- a line has no more bytes than its limit
@@ -201,7 +201,7 @@ unfolding refusal-text refused-word
 refusal-fits n = omega (arith, field-most n newline)
 
 pub model-legal : {s : List ℕ} (f : FileMeaning s) → Legal (read-model f)
-model-legal (means m l e) = l
+model-legal (means v m l h e) = l
 model-legal (means-none n) = legal-nothing
 
 pub text-fits : {s : List ℕ} (f : FileMeaning s) → length (file-text f) ≤ longest-text

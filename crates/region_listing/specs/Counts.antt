@@ -1,29 +1,30 @@
--- What the private functions of the listing promise of collections of numbers, and of what is counted in them.
+-- What the private functions of the listing promise of collections of numbers with versions, and of what is counted in them.
 use mathlib.Core.Path.{_≡_}
 use mathlib.Core.List.{List}
 use Prim.Native.Nat.{ℕ, _+_, _*_, _≤_, _<_}
 use lib.ListN.{length, getD, take}
 use Rattle.region_graph.specs.Size.{regions, most-bundles, most-provided}
 use Rattle.region_graph.specs.Sets.{bit}
-use Rattle.region_graph.specs.Model.{Model}
+use Rattle.region_graph.specs.Model.{Model, Package, packages}
 use Rattle.region_routes.specs.declared.Kind.{Kind}
 use Rattle.region_listing.specs.Listing.{seen-from}
 use Rattle.region_listing.specs.declared.collection.Collection.{Collection}
 
--- the places for different numbers of one kind: as many as the bundles can hold
+-- the places for different items of one kind: as many as the bundles can hold
 abbrev pub most-different : ℕ
 most-different = most-bundles * most-provided
 
--- the numbers of a collection
-unfoldable pub numbers-in : Collection → List ℕ
-numbers-in d = take (d .count) (d .items)
+-- what a collection has
+unfoldable pub items-in : Collection → List Package
+items-in d = packages (take (d .count) (d .numbers)) (take (d .count) (d .versions))
 
-pub record Collected (d : Collection) (ns : List ℕ) : Type 0 where
+pub record Collected (d : Collection) (ps : List Package) : Type 0 where
   pub count : d .count ≤ most-different
-  pub size : length (d .items) ≡ most-different
-  pub those : numbers-in d ≡ ns
+  pub numbers-size : length (d .numbers) ≡ most-different
+  pub versions-size : length (d .versions) ≡ most-different
+  pub those : items-in d ≡ ps
 
--- a count for each region, none above the places for numbers
+-- a count for each region, none above the places for items
 pub record CountsFit (counts : List ℕ) : Type 0 where
   pub size : length counts ≡ regions
   pub few : (r : ℕ) → r < regions → getD counts r 0 ≤ most-different

@@ -1,15 +1,15 @@
--- Document 01, "Graph G, and others": the text that the listing program prints for a file.
+-- Document 01, "Graph G, and others", and C-15 of document 02: the text that the listing program prints for a file.
 use mathlib.Core.Path.{_≡_}
-use mathlib.Core.List.{List, [], _∷_, _++_}
+use mathlib.Core.List.{List, [], _∷_, _++_, map}
 use Prim.Native.Nat.{ℕ, _+_, _-_, _*_}
 use lib.Dec.{eqb}
 use lib.ListN.{length, replicate}
 use Rattle.region_graph.specs.Lists.{concat-map}
 use Rattle.region_graph.specs.Size.{most-bundles}
 use Rattle.region_graph.specs.Refusals.{not-refused}
-use Rattle.region_graph.specs.Lists.{pick, keep, member}
-use Rattle.region_graph.specs.Model.{Model, Bundle}
-use Rattle.region_graph.specs.Items.{provided}
+use Rattle.region_graph.specs.Lists.{pick, exists, keep}
+use Rattle.region_graph.specs.Model.{Model, Package, Bundle}
+use Rattle.region_graph.specs.Items.{is-package}
 use Rattle.region_routes.specs.Chosen.{sees}
 use Rattle.region_routes.specs.Hooks.{kind-number, item}
 use Rattle.region_routes.specs.declared.Kind.{Kind}
@@ -18,25 +18,34 @@ use Rattle.text_lines.specs.Decimal.{space, newline, decimal-field}
 use Rattle.region_archive.specs.File.{FileMeaning, read-model, read-number}
 use Rattle.region_listing.specs.declared.listing.Text.{Text}
 
--- a number joins those that are there, unless it is one of them
-abbrev pub joined : List ℕ → ℕ → List ℕ
-joined xs n = pick (member n xs) xs (xs ++ (n ∷ []))
+-- a number with a version joins those that are there, unless it is one of them
+abbrev pub joined : List Package → Package → List Package
+joined xs p = pick (exists (is-package (p .number) (p .version)) xs) xs (xs ++ (p ∷ []))
 
-abbrev pub joined-all : List ℕ → List ℕ → List ℕ
+abbrev pub joined-all : List Package → List Package → List Package
 joined-all xs [] = xs
-joined-all xs (n ∷ ns) = joined-all (joined xs n) ns
+joined-all xs (p ∷ ps) = joined-all (joined xs p) ps
 
--- the different numbers of a list, each where it stands first
-abbrev pub different : List ℕ → List ℕ
-different ns = joined-all [] ns
+-- the different ones of a list, each where it stands first
+abbrev pub different : List Package → List Package
+different ps = joined-all [] ps
 
--- the different numbers of a kind that bundles hold
-unfoldable pub held : Kind → List Bundle → List ℕ
-held k bs = different (concat-map (provided (kind-number k)) bs)
+-- what a bundle brings to its region, of a kind, each a number with a version; one that is no package has version 0
+abbrev pub without-version : ℕ → Package
+without-version n = record { number = n; version = 0 }
+
+abbrev pub provided : Kind → Bundle → List Package
+provided Kind.Bundle b = without-version (b .location) ∷ []
+provided Kind.Package b = b .packages
+provided Kind.Service b = map without-version (b .services)
+
+-- the different ones of a kind that bundles hold
+unfoldable pub held : Kind → List Bundle → List Package
+held k bs = different (concat-map (provided k) bs)
 
 -- how many different items of a kind a region sees
 unfoldable pub seen-from : Model → Kind → ℕ → ℕ
-seen-from m k r = length (keep (λ n. sees m (item (kind-number k) n) r) (held k (m .bundles)))
+seen-from m k r = length (keep (λ p. sees m (item (kind-number k) (p .number) (p .version)) r) (held k (m .bundles)))
 
 abbrev pub line-of : ℕ → ℕ → ℕ → ℕ → ℕ → List ℕ
 line-of location region bundles packages services =

@@ -35,14 +35,19 @@ pub fn seen(graph: Graph, kind: Kind) -> [u32; REGIONS]
     ensures { λ r. ⌜ Counted (meaning graph) kind r ⌝ }
 {
     let all = collect(graph, kind);
-    let items = all.items;
+    let numbers = all.numbers;
+    let versions = all.versions;
     let count = all.count;
     let code = kind_number(kind);
     let mut counts = [0u32; REGIONS];
     let mut i: usize = 0;
     while i < count {
-        let number = items[i];
-        let set = regions_seeing(graph, Item { kind: code, number });
+        let item = Item {
+            kind: code,
+            number: numbers[i],
+            version: versions[i],
+        };
+        let set = regions_seeing(graph, item);
         let next = count_members(counts, set);
         counts = next;
         i += 1;

@@ -15,27 +15,28 @@ use Rattle.region_routes.specs.Chosen.{chosen, sees}
 use Rattle.region_routes.specs.Hooks.{Outcome, item, kind-number, routed, kept, shown, kept-outcome, sees-from, all-installed, route-outcome}
 use Rattle.region_routes.specs.Hooks.{find-outcome, event-outcome}
 use Rattle.region_routes.specs.Resolve.{Candidate, is-offered, resolved, resolve-outcome}
+use Rattle.region_routes.specs.Tables.{Room}
 use Rattle.region_routes.specs.declared.Kind.{Kind}
 use Rattle.region_routes.specs.declared.Routed.{Routed}
 use Rattle.region_routes.specs.declared.Routed.the-variants as Routed
 use Rattle.region_routes.specs.declared.Kept.{Kept}
 use Rattle.region_routes.specs.declared.Kept.the-variants as Kept
 
-module _ (m : Model) (l kind number : ℕ) (entry : List ℕ) where
+module _ (m : Model) (l kind number version : ℕ) (entry : List ℕ) where
   pub route-not-installed : place-of (m .bundles) l ≡ Nowhere
-      → _≡_ {A = Outcome Routed (List ℕ)} (routed (Routed.Refused not-installed) entry) (route-outcome m l kind number entry)
+      → _≡_ {A = Outcome Routed (List ℕ)} (routed (Routed.Refused not-installed) entry) (route-outcome m l kind number version entry)
   route-not-installed e = rw e
 
   module _ {r : ℕ} (e : place-of (m .bundles) l ≡ Within r) where
-    pub route-not-a-kind : 2 < kind → _≡_ {A = Outcome Routed (List ℕ)} (routed (Routed.Refused not-a-kind) entry) (route-outcome m l kind number entry)
+    pub route-not-a-kind : 2 < kind → _≡_ {A = Outcome Routed (List ℕ)} (routed (Routed.Refused not-a-kind) entry) (route-outcome m l kind number version entry)
     route-not-a-kind k = rw (e, lt-leb kind 2 k)
 
     pub route-no-place : kind ≤ 2 → length entry < regions
-        → _≡_ {A = Outcome Routed (List ℕ)} (routed (Routed.Refused no-place) entry) (route-outcome m l kind number entry)
+        → _≡_ {A = Outcome Routed (List ℕ)} (routed (Routed.Refused no-place) entry) (route-outcome m l kind number version entry)
     route-no-place k h = rw (e, le-leb kind 2 k, lt-leb regions (length entry) h)
 
-    pub route-answers : {a : Outcome Routed (List ℕ)} → kind ≤ 2 → regions ≤ length entry → a ≡ shown (chosen m (item kind number) r) entry
-        → a ≡ route-outcome m l kind number entry
+    pub route-answers : {a : Outcome Routed (List ℕ)} → kind ≤ 2 → regions ≤ length entry → a ≡ shown (chosen m (item kind number version) r) entry
+        → a ≡ route-outcome m l kind number version entry
     route-answers k h q = rw (e, le-leb kind 2 k, le-leb regions (length entry) h) q
 
 module _ (m : Model) (kind : Kind) (l : ℕ) (xs entry : List ℕ) where
@@ -48,7 +49,7 @@ module _ (m : Model) (kind : Kind) (l : ℕ) (xs entry : List ℕ) where
     find-no-place h = rw (e, lt-leb (length xs) (length entry) h)
 
     pub find-answers : {a : Outcome Kept (List ℕ)} → length xs ≤ length entry
-        → a ≡ kept-outcome (keep (λ n. sees m (item (kind-number kind) n) r) xs) entry → a ≡ find-outcome m kind l xs entry
+        → a ≡ kept-outcome (keep (λ n. sees m (item (kind-number kind) n 0) r) xs) entry → a ≡ find-outcome m kind l xs entry
     find-answers h q = rw (e, le-leb (length xs) (length entry) h) q
 
 module _ (m : Model) (kind : Kind) (ls : List ℕ) (number : ℕ) (entry : List ℕ) where
@@ -61,14 +62,14 @@ module _ (m : Model) (kind : Kind) (ls : List ℕ) (number : ℕ) (entry : List 
   event-no-place e h = rw (e, lt-leb (length ls) (length entry) h)
 
   pub event-answers : {a : Outcome Kept (List ℕ)} → all-installed m ls ≡ true → length ls ≤ length entry
-      → a ≡ kept-outcome (keep (λ l. sees-from m (item (kind-number kind) number) (place-of (m .bundles) l)) ls) entry
+      → a ≡ kept-outcome (keep (λ l. sees-from m (item (kind-number kind) number 0) (place-of (m .bundles) l)) ls) entry
       → a ≡ event-outcome m kind ls number entry
   event-answers e h q = rw (e, le-leb (length ls) (length entry) h) q
 
-module _ (m : Model) (l : ℕ) (cs : List Candidate) (es ns : List ℕ) where
+module _ (m : Model) (l : ℕ) (cs : List Candidate) (es ns vs : List ℕ) where
   -- the output lists
   abbrev outs : List (List ℕ)
-  outs = es ∷ ns ∷ []
+  outs = es ∷ ns ∷ vs ∷ []
 
   pub resolve-not-installed : place-of (m .bundles) l ≡ Nowhere
       → _≡_ {A = Outcome Kept (List (List ℕ))} (kept (Kept.Refused not-installed) outs) (resolve-outcome m l cs outs)
@@ -79,10 +80,15 @@ module _ (m : Model) (l : ℕ) (cs : List Candidate) (es ns : List ℕ) where
         → _≡_ {A = Outcome Kept (List (List ℕ))} (kept (Kept.Refused no-place) outs) (resolve-outcome m l cs outs)
     resolve-no-exporter-place h = rw (e, lt-leb (length cs) (length es) h)
 
-    pub resolve-no-package-place : length cs ≤ length es → length ns < length cs
+    pub resolve-no-number-place : length cs ≤ length es → length ns < length cs
         → _≡_ {A = Outcome Kept (List (List ℕ))} (kept (Kept.Refused no-place) outs) (resolve-outcome m l cs outs)
-    resolve-no-package-place h k = rw (e, le-leb (length cs) (length es) h, lt-leb (length cs) (length ns) k)
+    resolve-no-number-place h k = rw (e, le-leb (length cs) (length es) h, lt-leb (length cs) (length ns) k)
 
-    pub resolve-answers : {a : Outcome Kept (List (List ℕ))} → length cs ≤ length es → length cs ≤ length ns
-        → a ≡ resolved (keep (λ c. is-offered m c r) cs) outs → a ≡ resolve-outcome m l cs outs
-    resolve-answers h k q = q ∙ rw (e, le-leb (length cs) (length es) h, le-leb (length cs) (length ns) k)
+    pub resolve-no-version-place : length cs ≤ length es → length cs ≤ length ns → length vs < length cs
+        → _≡_ {A = Outcome Kept (List (List ℕ))} (kept (Kept.Refused no-place) outs) (resolve-outcome m l cs outs)
+    resolve-no-version-place h k j = rw (e, le-leb (length cs) (length es) h, le-leb (length cs) (length ns) k, lt-leb (length cs) (length vs) j)
+
+    pub resolve-answers : {a : Outcome Kept (List (List ℕ))} → Room cs es ns vs → a ≡ resolved (keep (λ c. is-offered m c r) cs) outs
+        → a ≡ resolve-outcome m l cs outs
+    resolve-answers h q =
+        q ∙ rw (e, le-leb (length cs) (length es) (h .0), le-leb (length cs) (length ns) (h .1 .0), le-leb (length cs) (length vs) (h .1 .1))

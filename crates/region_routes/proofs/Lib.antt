@@ -7,8 +7,10 @@ pub mod Walking
 pub mod Judging
 pub mod TableLoops
 pub mod TableLaws
+pub mod PackageTables
 pub mod Chaining
 pub mod Lookups
+pub mod Stepping
 pub mod Keeping
 pub mod Resolving
 pub mod Answering

@@ -1,20 +1,20 @@
--- What a walk along a chain looks up: the regions that the entries of a number name, the sets of predecessors, the place of the first entry.
+-- What a walk along a chain looks up: the regions that the entries of a number name, and the place of the first entry.
 use mathlib.Core.Path.{_≡_, refl, sym, ap, ap₂, _∙_}
-use mathlib.Core.Bool.{Bool, true, false, _&&_, _||_, and-true, and-false, or-false, or-assoc}
+use mathlib.Core.Bool.{false, _&&_, and-false}
 use mathlib.Core.List.{List}
 use Prim.Native.Nat.{ℕ, _+_, _≤_, _<_}
 use native.Mathlib.Numerals.{add-one}
 use native.Mathlib.Omega.{arith}
 use lib.Bits.{bitOr}
 use lib.Dec.{eqb}
-use lib.ListN.{length, getD, take, drop, set, drop-of-length-le}
+use lib.ListN.{length, getD, take, drop, drop-of-length-le}
 use lib.Seq.{drop-cons, take-all}
 use borrow.Author.Tests.{eq-eqb, ne-eqb}
 use Rattle.region_graph.specs.Lists.{pick}
 use Rattle.region_graph.specs.Sets.{singleton}
 use Rattle.region_graph.specs.declared.Place.the-variants.{Within, Nowhere}
-use Rattle.region_graph.proofs.Views.{exists-more, sets-more, held, held-none, held-took, held-left}
-use Rattle.region_routes.specs.Tables.{number-in, place-in, source-in, target-in, held-in, step-in, step-or, predecessors-by, place-at, place-beside}
+use Rattle.region_graph.proofs.Views.{held, held-none, held-took, held-left}
+use Rattle.region_routes.specs.Tables.{number-in, place-in, held-in, place-at, place-beside}
 use Rattle.region_routes.specs.Chains.{chains, chain, Chained}
 use Rattle.region_routes.proofs.Chaining.{Along, along-start, along-next}
 
@@ -60,7 +60,7 @@ module _ {es links : List ℕ} {n : ℕ} where
     pub later-end : length es ≤ i → Nowhere ≡ place-at es n
     later-end l = sym (w .done .later ∙ rw (drop-of-length-le es l))
 
--- the same with a location beside each entry
+-- the same with an owner beside each entry
 pub record Beside (es ls : List ℕ) (l n : ℕ) (x : Unit {0}) (i : ℕ) : Type 0 where
   pub as-long : length ls ≡ length es
   pub later : place-beside es ls l n ≡ place-beside (drop i es) (drop i ls) l n
@@ -85,61 +85,10 @@ module _ {es ls links : List ℕ} {l n : ℕ} where
     pub beside-here : i < length es → number-in (getD es i 0) ≡ n → getD ls i 0 ≡ l → Within (place-in (getD es i 0)) ≡ place-beside es ls l n
     beside-here h q k = sym (beside-by (w .done) h ∙ rw (eq-eqb (number-in (getD es i 0)) n q, eq-eqb (getD ls i 0) l k))
 
-    -- past an entry of the number with another location beside it
+    -- past an entry of the number with another owner beside it
     pub beside-other : {j : ℕ} → i < length es → (getD ls i 0 ≡ l → ⊥) → j ≡ getD links (chains + i) 0 → Along (Beside es ls l n) es links n tt j
     beside-other h k e =
         along-next w h (beside-passed (w .done) h (rw (ne-eqb (getD ls i 0) l k, and-false (eqb (number-in (getD es i 0)) n)))) e
 
     pub beside-end : length es ≤ i → Nowhere ≡ place-beside es ls l n
     beside-end h = sym (w .done .later ∙ rw (drop-of-length-le es h))
-
--- the sets are those given, with the sources of the entries of the number before place i
-pub record Preceding (es : List ℕ) (n : ℕ) (given sets : List ℕ) (i : ℕ) : Type 0 where
-  pub preceding : (step : ℕ → ℕ → Bool) → given ≡ predecessors-by step → sets ≡ predecessors-by (step-or step (take i es) n)
-
--- a step by the entries up to and with the one at place i, where b says whether this has the number
-module _ (step : ℕ → ℕ → Bool) (es : List ℕ) (n i : ℕ) (h : i < length es) (b : Bool) (q : eqb (number-in (getD es i 0)) n ≡ b) (r s : ℕ) where
-  step-more : step-or step (take (i + 1) es) n r s
-      ≡ (step-or step (take i es) n r s || ((eqb (source-in (getD es i 0)) r && eqb (target-in (getD es i 0)) s) && b))
-  step-more =
-      ap (λ (t : Bool). step r s || t) (exists-more (λ e. (eqb (source-in e) r && eqb (target-in e) s) && eqb (number-in e) n) es i 0 h)
-      ∙ rw q (sym (or-assoc (step r s) (step-in (take i es) n r s) ((eqb (source-in (getD es i 0)) r && eqb (target-in (getD es i 0)) s) && b)))
-
-  step-same : ((eqb (source-in (getD es i 0)) r && eqb (target-in (getD es i 0)) s) && b) ≡ false
-      → step-or step (take (i + 1) es) n r s ≡ step-or step (take i es) n r s
-  step-same e = step-more ∙ ap (λ (t : Bool). step-or step (take i es) n r s || t) e ∙ or-false (step-or step (take i es) n r s)
-
-module _ {es links : List ℕ} {n : ℕ} {given : List ℕ} where
-  pub preceding-start : {j : ℕ} → Chained es links → j ≡ getD links (chain n) 0 → Along (Preceding es n given) es links n given j
-  preceding-start c e =
-      along-start c
-      (λ x i h q p. record {
-        preceding = λ step g.
-            p .preceding step g
-            ∙ ap predecessors-by
-            (λ j r s. sym (step-same step es n i h false q r s (and-false (eqb (source-in (getD es i 0)) r && eqb (target-in (getD es i 0)) s))) j);
-      })
-      given (record { preceding = λ step g. g ∙ ap predecessors-by (λ j r s. sym (or-false (step r s)) j) }) e
-
-  module _ {sets : List ℕ} {i : ℕ} (w : Along (Preceding es n given) es links n sets i) where
-    -- an entry of the number adds its source to the predecessors of its target
-    pub preceding-next : {x j : ℕ} → i < length es → number-in (getD es i 0) ≡ n → x ≡ singleton (source-in (getD es i 0))
-        → j ≡ getD links (chains + i) 0 → (let s = target-in (getD es i 0) in
-        Along (Preceding es n given) es links n (set sets s (bitOr (getD sets s 0) x)) j)
-    unfolding predecessors-by
-    preceding-next h q t f =
-        let e = getD es i 0 in
-        let own = eq-eqb (number-in e) n q in
-        along-next w h
-        (record {
-          preceding = λ step g.
-              sets-more (step-or step (take i es) n) (step-or step (take (i + 1) es) n) (source-in e) (w .done .preceding step g) t (omega arith)
-              (λ r.
-              step-more step es n i h true own r (target-in e)
-              ∙ ap (λ (b : Bool). step-or step (take i es) n r (target-in e) || b)
-              (rw (eq-eqb (target-in e) (target-in e) refl) (and-true (eqb (source-in e) r && true) ∙ and-true (eqb (source-in e) r))))
-              (λ r s k. step-same step es n i h true own r s (rw (ne-eqb (target-in e) s (λ j. k (sym j)), and-false (eqb (source-in e) r))));
-        }) f
-
-    pub preceding-end : length es ≤ i → (step : ℕ → ℕ → Bool) → given ≡ predecessors-by step → sets ≡ predecessors-by (step-or step es n)
-    preceding-end l step g = w .done .preceding step g ∙ ap (λ (t : List ℕ). predecessors-by (step-or step t n)) (take-all i es l)

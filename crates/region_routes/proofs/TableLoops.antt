@@ -1,22 +1,28 @@
 -- Tables: how a loop puts the entries of numbers, and those of the elements of an array.
 use mathlib.Core.Path.{_≡_, refl, sym, ap, _∙_}
+use mathlib.Core.Bool.{Bool, true, false}
 use mathlib.Core.List.{List, [], _∷_, _++_, map, append-assoc, append-nil}
-use Prim.Native.Nat.{ℕ, zero, suc, _+_, _*_, _-_, _≤_, _<_}
+use Prim.Native.Nat.{ℕ, suc, _+_, _*_, _-_, _≤_, _<_}
 use native.Mathlib.Numerals.{add-one}
 use native.Mathlib.Nat.{mul-le-mul-right}
 use native.Mathlib.Omega.{arith}
-use lib.ListN.{length, getD, take, set, replicate, length-append, length-map}
+use lib.Dec.{eqb}
+use lib.ListN.{length, getD, take, set, replicate, length-append, length-map, length-replicate}
 use lib.Seq.{take-suc, take-suc-set, length-take-le, take-at, take-all}
-use Rattle.region_graph.specs.Size.{everything-sign}
-use Rattle.region_graph.specs.Lists.{All, concat-map}
-use Rattle.region_graph.specs.Places.{PartStored, BundleStored, ConnectionStored}
+use borrow.Author.Tests.{eqb-false}
+use Rattle.region_graph.specs.Size.{most-listed, everything-sign}
+use Rattle.region_graph.specs.Lists.{pick, All, concat-map}
+use Rattle.region_graph.specs.Model.{PackageEntry, Part}
+use Rattle.region_graph.specs.Record.{store-numbers, store-part, part-in, entries-of, package-part-in}
+use Rattle.region_graph.specs.Places.{ShortPart, PartStored, PackagePartStored}
+use Rattle.region_graph.specs.Promise.{new-part}
 use Rattle.region_graph.specs.declared.numbers.Numbers.{Numbers}
-use Rattle.region_graph.specs.declared.bundles.StoredBundle.{StoredBundle}
-use Rattle.region_graph.specs.declared.connections.StoredConnection.{StoredConnection}
-use Rattle.region_graph.proofs.Lists.{all-at, map-append}
-use Rattle.region_graph.proofs.Arrays.{Filled, filled-length, filled-inside, filled-means}
-use Rattle.region_graph.proofs.Storing.{map-back, numbers-filled, provided-filled, packages-stored, services-stored, named-stored, listed-stored}
-use Rattle.region_routes.specs.Tables.{most-entries, Appended, Holding}
+use Rattle.region_graph.specs.declared.packages.Entries.{Entries}
+use Rattle.region_graph.proofs.Lists.{all-at, map-append, concat-next, concat-few}
+use Rattle.region_graph.proofs.Arrays.{Filled, filled-at, filled-inside, filled-means}
+use Rattle.region_graph.proofs.Columns.{no-range}
+use Rattle.region_graph.proofs.Storing.{map-back, listed-entries-stored, entry-numbers-column, lowest-column, highest-column}
+use Rattle.region_routes.specs.Tables.{packed, most-entries, listed-numbers, version-span, Appended, Holding}
 
 -- what is put at the end of what stands in a buffer
 
@@ -33,13 +39,13 @@ appended-then {before} {mid} {after} {at} {j} {k} {xs} {ys} a b = record {
   kept = b .kept ∙ ap (λ (l : List ℕ). l ++ ys) (a .kept) ∙ append-assoc (take at before) xs ys;
 }
 
--- a loop has put the entries of the first i numbers of a list
-pub record Appending (f : ℕ → ℕ) (xs before : List ℕ) (at i : ℕ) (out : List ℕ) (n : ℕ) : Type 0 where
+-- a loop has put the entries of the first i elements of a list
+pub record Appending {A : Type 0} (f : A → ℕ) (xs : List A) (before : List ℕ) (at i : ℕ) (out : List ℕ) (n : ℕ) : Type 0 where
   pub upto : i ≤ length xs
   pub long : length out ≡ length before
   pub done : Appended before at (map f (take i xs)) out n
 
-module _ {f : ℕ → ℕ} {xs before : List ℕ} {at : ℕ} where
+module _ {A : Type 0} {f : A → ℕ} {xs : List A} {before : List ℕ} {at : ℕ} where
   pub appending-start : Appending f xs before at 0 before at
   appending-start = record { upto = omega arith; long = refl; done = appended-none }
 
@@ -47,53 +53,54 @@ module _ {f : ℕ → ℕ} {xs before : List ℕ} {at : ℕ} where
     pub appending-room : i < length xs → at + length (map f xs) ≤ length before → n < length out
     appending-room l r = omega (arith, a .long, a .done .counted, length-map xs f, length-map (take i xs) f, length-take-le i xs (omega arith))
 
-    pub appending-next : {after : List ℕ} {k x : ℕ} → i < length xs → x ≡ f (getD xs i 0) → length after ≡ length before → Appended out n (x ∷ []) after k
-        → Appending f xs before at (i + 1) after k
-    appending-next l e h b = record {
+    pub appending-next : (d : A) {after : List ℕ} {k x : ℕ} → i < length xs → x ≡ f (getD xs i d) → length after ≡ length before
+        → Appended out n (x ∷ []) after k → Appending f xs before at (i + 1) after k
+    appending-next d l e h b = record {
       upto = omega arith;
       long = h;
-      done = rw (add-one, take-suc xs i 0 l, map-append, ← e) (appended-then (a .done) b);
+      done = rw (add-one, take-suc xs i d l, map-append, ← e) (appended-then (a .done) b);
     }
 
     pub appending-end : length xs ≤ i → Appended before at (map f xs) out n
     appending-end l = rw (take-all i xs l) at (a .done)
 
--- the numbers of a list stand in its first places
-filled-within : {size count : ℕ} {items xs : List ℕ} → Filled (λ x. x) 0 size items count xs → count ≤ length items
-filled-within h = omega (arith, h .counted, h .room, filled-length h)
+-- what stands in the first places of an array
+pub filled-taken : {A B : Type 0} {store : A → B} {none : B} {size count : ℕ} {items : List B} {xs : List A} → Filled store none size items count xs
+    → take count items ≡ map store xs
+filled-taken {store = store} {none} {size} {xs = xs} h =
+    rw (h .shape, h .counted) (take-at (map store xs) (replicate (size - length xs) none) (length xs) (length-map xs store))
 
-pub packages-within : (b : StoredBundle) → BundleStored b → b .packages .count ≤ length (b .packages .items)
-packages-within b h = filled-within (provided-filled (b .packages) (packages-stored b h))
+-- the numbers of a part of packages
+pub entries-in : (p : Entries) → PackagePartStored p
+    → new-part (eqb (p .count) everything-sign) (take (p .count) (p .numbers)) ≡ listed-numbers (package-part-in p)
+entries-in p s = go (eqb (p .count) everything-sign) refl
+  where
+    go : (b : Bool) → eqb (p .count) everything-sign ≡ b
+        → new-part b (take (p .count) (p .numbers)) ≡ listed-numbers (pick b Part.everything (Part.listed (entries-of p)))
+    go true e = refl
+    go false e =
+        ap Part.listed (filled-taken (entry-numbers-column p (listed-entries-stored p s (eqb-false (p .count) everything-sign e))))
 
-pub services-within : (b : StoredBundle) → BundleStored b → b .services .count ≤ length (b .services .items)
-services-within b h = filled-within (provided-filled (b .services) (services-stored b h))
+-- the places of a part, used or not
+pub part-long : (p : Numbers) → PartStored p → most-listed ≡ length (p .items)
+unfolding store-numbers
+part-long p s = sym (ap (λ (q : Numbers). length (q .items)) (s .stored) ∙ go (part-in p) (s .good))
+  where
+    go : (q : Part ℕ) → ShortPart q → length (store-part q .items) ≡ most-listed
+    go (Part.listed xs) h = rw (length-append, length-map, length-replicate) (omega (arith, h))
+    go Part.everything h = refl
 
-pub named-within : (c : StoredConnection) → ConnectionStored c → c .bundles .count ≤ length (c .bundles .items)
-named-within c h = filled-within (numbers-filled (c .bundles) (named-stored c h))
+-- the columns of the versions of entries
+pub record SpanColumns (count : ℕ) (lowest highest : List ℕ) (es : List PackageEntry) : Type 0 where
+  pub lows : Filled (λ e. e .lowest) 0 most-listed lowest count es
+  pub highs : Filled (λ e. e .highest) 0 most-listed highest count es
 
-pub listed-within : (p : Numbers) → PartStored p → (p .count ≡ everything-sign → ⊥) → p .count ≤ length (p .items)
-listed-within p h e = filled-within (numbers-filled p (listed-stored p h e))
+pub span-columns : (p : Entries) → PackagePartStored p → (p .count ≡ everything-sign → ⊥) → SpanColumns (p .count) (p .lowest) (p .highest) (entries-of p)
+span-columns p s e = let h = listed-entries-stored p s e in record { lows = lowest-column p h; highs = highest-column p h }
 
-pub within-long : (count : ℕ) (items : List ℕ) → count ≤ length items → count ≡ length (take count items)
-within-long count items h = sym (length-take-le count items h)
-
--- the entries of each element
-
-module _ {A : Type 0} (f : A → List ℕ) where
-  concat-append : (xs ys : List A) → concat-map f (xs ++ ys) ≡ concat-map f xs ++ concat-map f ys
-  concat-append [] ys = refl
-  concat-append (x ∷ xs) ys = ap (λ (l : List ℕ). f x ++ l) (concat-append xs ys) ∙ sym (append-assoc (f x) (concat-map f xs) (concat-map f ys))
-
-  concat-more : (xs : List A) (i : ℕ) (d : A) → i < length xs → concat-map f (take (i + 1) xs) ≡ concat-map f (take i xs) ++ f (getD xs i d)
-  concat-more xs i d h =
-      rw (add-one, take-suc xs i d h)
-      (concat-append (take i xs) (getD xs i d ∷ []) ∙ ap (λ (l : List ℕ). concat-map f (take i xs) ++ l) (append-nil (f (getD xs i d))))
-
-  -- with at most w entries of each element
-  concat-few : (w : ℕ) (xs : List A) → All (λ x. length (f x) ≤ w) xs → (i : ℕ) → length (concat-map f (take i xs)) ≤ i * w
-  concat-few w xs h zero = omega arith
-  concat-few w [] h (suc i) = omega arith
-  concat-few w (x ∷ xs) h (suc i) = rw length-append (omega (arith, h .0, concat-few w xs (h .1) i))
+module _ {count : ℕ} {lowest highest : List ℕ} {es : List PackageEntry} (h : SpanColumns count lowest highest es) where
+  pub span-at : (i : ℕ) → i < count → packed (getD lowest i 0) (getD highest i 0) ≡ version-span (getD es i no-range)
+  span-at i l = λ j. packed (filled-at (h .lows) i 0 no-range l j) (filled-at (h .highs) i 0 no-range l j)
 
 -- the first places of an array hold the elements of a list, each of which has at most w entries; a table has room for those of all
 pub record Source {A B : Type 0} (store : A → B) (none : B) (size : ℕ) (out : B → A) (f : A → List ℕ) (w : ℕ)
@@ -117,9 +124,7 @@ gathering-start e = record { upto = omega arith; long = e; done = appended-none 
 module _ {A B : Type 0} {store : A → B} {none : B} {size w : ℕ} {out : B → A} {f : A → List ℕ} {places : List B} {count : ℕ} {xs : List A}
     (s : Source store none size out f w places count xs) where
   source-read : map out (take count places) ≡ xs
-  source-read =
-      rw (s .filled .shape, s .filled .counted)
-      (ap (map out) (take-at (map store xs) (replicate (size - length xs) none) (length xs) (length-map xs store)) ∙ map-back store out xs (s .back))
+  source-read = ap (map out) (filled-taken (s .filled)) ∙ map-back store out xs (s .back)
 
   module _ {before items : List ℕ} {i n : ℕ} (g : Gathering out f places count before i items n) where
     put : Appended before 0 (concat-map f (take i xs)) items n
@@ -140,7 +145,7 @@ module _ {A B : Type 0} {store : A → B} {none : B} {size w : ℕ} {out : B →
         upto = omega arith;
         long = h ∙ g .long;
         done =
-            rw (source-read, concat-more f xs i d (filled-inside (s .filled) i l), ← filled-means (s .filled) out (s .back) i e d l) (appended-then put a);
+            rw (source-read, concat-next f xs i d (filled-inside (s .filled) i l), ← filled-means (s .filled) out (s .back) i e d l) (appended-then put a);
       }
 
     pub gathering-end : count ≤ i → Holding (concat-map f xs) items n

@@ -1,4 +1,4 @@
--- Document 01, "Routes" and "Hooks": what the route call, the finds and the events answer and leave in the buffer that they are lent.
+-- Document 01, "Routes" and "Hooks", and C-15 of document 02: what the route call, the finds and the events answer and leave in the buffer that they are lent.
 use mathlib.Core.Bool.{Bool, true, false, _&&_}
 use mathlib.Core.List.{List, [], _∷_, _++_}
 use mathlib.Core.Option.{Option, some, none}
@@ -28,8 +28,9 @@ kind-number Kind.Bundle = 0
 kind-number Kind.Package = 1
 kind-number Kind.Service = 2
 
-abbrev pub item : ℕ → ℕ → Item
-item kind number = record { kind = kind; number = number }
+-- of a kind, a number and a version, which counts for a package alone
+abbrev pub item : ℕ → ℕ → ℕ → Item
+item kind number version = record { kind = kind; number = number; version = version }
 
 -- what is written stands at the buffer's start; later places keep their values
 abbrev pub written : List ℕ → List ℕ → List ℕ
@@ -106,10 +107,10 @@ abbrev pub shown-from : Model → Item → Place → List ℕ → Outcome Routed
 shown-from m i (Within r) entry = shown (chosen m i r) entry
 shown-from m i Nowhere entry = shown none entry
 
-abbrev pub route-outcome : Model → ℕ → ℕ → ℕ → List ℕ → Outcome Routed (List ℕ)
-route-outcome m location kind number entry =
-    judged Routed.Refused (first-no (route-questions m location kind entry)) (shown-from m (item kind number) (place-of (m .bundles) location) entry)
-    entry
+abbrev pub route-outcome : Model → ℕ → ℕ → ℕ → ℕ → List ℕ → Outcome Routed (List ℕ)
+route-outcome m location kind number version entry =
+    judged Routed.Refused (first-no (route-questions m location kind entry))
+    (shown-from m (item kind number version) (place-of (m .bundles) location) entry) entry
 
 abbrev pub kept-outcome : List ℕ → List ℕ → Outcome Kept (List ℕ)
 kept-outcome xs entry = kept (Kept.Wrote (length xs)) (written xs entry)
@@ -123,10 +124,10 @@ sees-from m i Nowhere = false
 abbrev pub find-outcome : Model → Kind → ℕ → List ℕ → List ℕ → Outcome Kept (List ℕ)
 find-outcome m kind location candidates entry =
     judged Kept.Refused (first-no (find-questions m location candidates entry))
-    (kept-outcome (keep (λ n. sees-from m (item (kind-number kind) n) (place-of (m .bundles) location)) candidates) entry) entry
+    (kept-outcome (keep (λ n. sees-from m (item (kind-number kind) n 0) (place-of (m .bundles) location)) candidates) entry) entry
 
 -- an event writes the listeners that see its item
 abbrev pub event-outcome : Model → Kind → List ℕ → ℕ → List ℕ → Outcome Kept (List ℕ)
 event-outcome m kind listeners number entry =
     judged Kept.Refused (first-no (event-questions m listeners entry))
-    (kept-outcome (keep (λ l. sees-from m (item (kind-number kind) number) (place-of (m .bundles) l)) listeners) entry) entry
+    (kept-outcome (keep (λ l. sees-from m (item (kind-number kind) number 0) (place-of (m .bundles) l)) listeners) entry) entry

@@ -1,4 +1,4 @@
--- Document 02, C-14: what resolve answers and leaves in the output lists that it is lent.
+-- Document 02, C-14 and C-15: what resolve answers and leaves in the output lists that it is lent.
 use mathlib.Core.Bool.{Bool, true, false, _&&_}
 use mathlib.Core.List.{List, [], _∷_, map}
 use Prim.Native.Nat.{ℕ}
@@ -19,23 +19,25 @@ use Rattle.region_routes.specs.declared.Kind.the-variants as Kind
 use Rattle.region_routes.specs.declared.Kept.{Kept}
 use Rattle.region_routes.specs.declared.Kept.the-variants as Kept
 
--- an exporter's location with a package number
+-- an exporter's location with a package
 pub record Candidate : Type 0 where
   pub exporter : ℕ
   pub number : ℕ
+  pub version : ℕ
 
 -- the candidates whose parts stand at equal places of the lists: the shortest list counts them
-abbrev pub candidates : List ℕ → List ℕ → List Candidate
-candidates [] ns = []
-candidates (e ∷ es) [] = []
-candidates (e ∷ es) (n ∷ ns) = record { exporter = e; number = n } ∷ candidates es ns
+abbrev pub candidates : List ℕ → List ℕ → List ℕ → List Candidate
+candidates [] ns vs = []
+candidates (e ∷ es) [] vs = []
+candidates (e ∷ es) (n ∷ ns) [] = []
+candidates (e ∷ es) (n ∷ ns) (v ∷ vs) = record { exporter = e; number = n; version = v } ∷ candidates es ns vs
 
 -- a list for each part
 abbrev pub parts : List Candidate → List (List ℕ)
-parts cs = map (λ c. c .exporter) cs ∷ map (λ c. c .number) cs ∷ []
+parts cs = map (λ c. c .exporter) cs ∷ map (λ c. c .number) cs ∷ map (λ c. c .version) cs ∷ []
 
 abbrev pub package-of : Candidate → Item
-package-of c = item (kind-number Kind.Package) (c .number)
+package-of c = item (kind-number Kind.Package) (c .number) (c .version)
 
 -- whether connections that pass the item lead from region r to region t; whether t holds it is not asked
 unfoldable pub reaches : Model → Item → ℕ → ℕ → Bool

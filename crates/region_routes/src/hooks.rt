@@ -1,6 +1,8 @@
 // The hooks but resolve. A find writes the candidates that its bundle sees, an event the listeners that see its item: order and repetitions
 // kept.
 ghost use mathlib.Core.Path.{_≡_};
+ghost use mathlib.Core.Bool.{false};
+ghost use lib.Dec.{eqb};
 ghost use Prim.Native.Nat.{ℕ, _<_, _≤_};
 ghost use lib.ListN.{length};
 ghost use Rattle.region_graph.specs.Size.{regions};
@@ -9,7 +11,7 @@ ghost use Rattle.region_graph.specs.Model.{Model};
 ghost use Rattle.region_graph.specs.Record.{Valid, meaning};
 ghost use Rattle.region_routes.specs.Chosen.{sees};
 ghost use Rattle.region_routes.specs.Hooks.{«kind-number», item, kept, «kept-outcome», «find-outcome», «event-outcome»};
-ghost use Rattle.region_routes.specs.Tables.{Tables, «most-entries», «place-at», «all-placed», «stands-in»};
+ghost use Rattle.region_routes.specs.Tables.{NumberTables, «most-entries», «place-at», «all-placed», «stands-in»};
 ghost use Rattle.region_routes.specs.Chains.{Chained};
 use crate::Kept;
 use crate::Kind;
@@ -53,7 +55,7 @@ fn keep_seen(
 ) -> usize
     requires { ⌜ (length (now offered) ≤ most-entries) × (length (now passing) ≤ most-entries) ⌝ }
     requires { ⌜ (region < regions) × (length (now candidates) ≤ length (now out)) ⌝ }
-    ensures { λ r. ⌜ ((m : Model) (kind : ℕ) → Tables m kind (now (offered .entry)) (now (passing .entry)) → kept (Kept.Wrote r) (now (out .exit)) ≡ kept-outcome (keep (λ n. sees m (item kind n) region) (now (candidates .entry))) (now (out .entry))) ⌝ }
+    ensures { λ r. ⌜ ((m : Model) (kind : ℕ) → NumberTables m kind (now (offered .entry)) (now (passing .entry)) → kept (Kept.Wrote r) (now (out .exit)) ≡ kept-outcome (keep (λ n. sees m (item kind n 0) region) (now (candidates .entry))) (now (out .entry))) ⌝ }
 {
     let offer_links = chained(offered);
     let pass_links = chained(passing);
@@ -73,11 +75,11 @@ fn keep_seen(
     n
 }
 
-// Writes the candidates of a kind that a region sees: makes the tables of the kind.
+// Writes the candidates of a kind by number that a region sees: makes the tables of the kind.
 fn keep_many(graph: Graph, kind: Kind, region: u32, candidates: &[u32], out: &mut [u32]) -> usize
-    requires { ⌜ Valid graph ⌝ }
+    requires { ⌜ Valid graph × (eqb (kind-number kind) (kind-number Kind.Package) ≡ false) ⌝ }
     requires { ⌜ (region < regions) × (length (now candidates) ≤ length (now out)) ⌝ }
-    ensures { λ r. ⌜ kept (Kept.Wrote r) (now (out .exit)) ≡ kept-outcome (keep (λ n. sees (meaning graph) (item (kind-number kind) n) region) (now (candidates .entry))) (now (out .entry)) ⌝ }
+    ensures { λ r. ⌜ kept (Kept.Wrote r) (now (out .exit)) ≡ kept-outcome (keep (λ n. sees (meaning graph) (item (kind-number kind) n 0) region) (now (candidates .entry))) (now (out .entry)) ⌝ }
 {
     let mut offered = [0u64; MOST_ENTRIES];
     let given = offers(&mut offered, graph, kind);
@@ -96,7 +98,7 @@ fn keep_many(graph: Graph, kind: Kind, region: u32, candidates: &[u32], out: &mu
 fn keep_few(graph: Graph, kind: Kind, region: u32, candidates: &[u32], out: &mut [u32]) -> usize
     requires { ⌜ Valid graph ⌝ }
     requires { ⌜ (region < regions) × (length (now candidates) ≤ length (now out)) ⌝ }
-    ensures { λ r. ⌜ kept (Kept.Wrote r) (now (out .exit)) ≡ kept-outcome (keep (λ n. sees (meaning graph) (item (kind-number kind) n) region) (now (candidates .entry))) (now (out .entry)) ⌝ }
+    ensures { λ r. ⌜ kept (Kept.Wrote r) (now (out .exit)) ≡ kept-outcome (keep (λ n. sees (meaning graph) (item (kind-number kind) n 0) region) (now (candidates .entry))) (now (out .entry)) ⌝ }
 {
     let kind = kind_number(kind);
     let mut n: usize = 0;
@@ -104,7 +106,14 @@ fn keep_few(graph: Graph, kind: Kind, region: u32, candidates: &[u32], out: &mut
     while i < candidates.len() {
         let number = candidates[i];
         i += 1;
-        let set = regions_seeing(graph, Item { kind, number });
+        let set = regions_seeing(
+            graph,
+            Item {
+                kind,
+                number,
+                version: 0,
+            },
+        );
         if has(set, region) {
             out[n] = number;
             n += 1;
@@ -113,9 +122,9 @@ fn keep_few(graph: Graph, kind: Kind, region: u32, candidates: &[u32], out: &mut
     n
 }
 
-// The items of a kind among the candidates that a bundle sees.
-pub fn find(graph: Graph, kind: Kind, location: u32, candidates: &[u32], out: &mut [u32]) -> Kept
-    requires { ⌜ Valid graph ⌝ }
+// The items of a kind by number among the candidates that a bundle sees.
+fn find(graph: Graph, kind: Kind, location: u32, candidates: &[u32], out: &mut [u32]) -> Kept
+    requires { ⌜ Valid graph × (eqb (kind-number kind) (kind-number Kind.Package) ≡ false) ⌝ }
     ensures { λ r. ⌜ kept r (now (out .exit)) ≡ find-outcome (meaning graph) kind location (now (candidates .entry)) (now (out .entry)) ⌝ }
 {
     let place = graph.region_of(location);
@@ -200,7 +209,14 @@ fn event(graph: Graph, kind: Kind, listeners: &[u32], number: u32, out: &mut [u3
         return Kept::Refused(NO_PLACE);
     }
     let kind = kind_number(kind);
-    let set = regions_seeing(graph, Item { kind, number });
+    let set = regions_seeing(
+        graph,
+        Item {
+            kind,
+            number,
+            version: 0,
+        },
+    );
     let written = keep_standing(&bundles[..count], &links, set, listeners, out);
     Kept::Wrote(written)
 }

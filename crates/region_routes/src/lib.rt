@@ -7,7 +7,6 @@ mod tables;
 
 pub use hooks::bundle_event;
 pub use hooks::bundle_find;
-pub use hooks::find;
 pub use hooks::kind_number;
 pub use hooks::service_event;
 pub use hooks::service_find;

@@ -2,7 +2,7 @@
 // route for it leads from the bundle's region to the exporter's. Order and repetitions are kept, the parts of a candidate at equal places.
 ghost use mathlib.Core.Path.{_≡_};
 ghost use mathlib.Core.List.{[], _∷_};
-ghost use Prim.Native.Nat.{_<_, _≤_};
+ghost use Prim.Native.Nat.{_<_, _≤_, min};
 ghost use lib.ListN.{length};
 ghost use Rattle.region_graph.specs.Size.{regions};
 ghost use Rattle.region_graph.specs.Lists.{keep};
@@ -23,10 +23,13 @@ use crate::tables::FEW;
 use crate::tables::MOST_ENTRIES;
 use crate::tables::chained;
 use crate::tables::offers;
+use crate::tables::owner_number;
 use crate::tables::owners;
 use crate::tables::passages;
 use crate::tables::place_beside;
 use crate::tables::predecessors;
+use crate::tables::predecessors_between;
+use crate::tables::spans;
 use crate::tables::wide;
 use region_graph::Graph;
 use region_graph::Item;
@@ -37,24 +40,36 @@ use region_graph::region_set::has;
 use region_graph::region_set::singleton;
 use region_graph::size::REGIONS;
 
-// The count of the candidates: the shorter list's.
-fn counted(exporters: &[u32], packages: &[u32]) -> usize
-    ensures { λ r. ⌜ r ≡ length (candidates (now (exporters .entry)) (now (packages .entry))) ⌝ }
+// The shorter of two lengths.
+fn shorter(first: usize, second: usize) -> usize
+    ensures { λ r. ⌜ r ≡ min first second ⌝ }
 {
-    if packages.len() < exporters.len() {
-        return packages.len();
+    if second < first {
+        return second;
     }
-    exporters.len()
+    first
+}
+
+// The count of the candidates: the shortest list's.
+fn counted(exporters: &[u32], packages: &[u32], versions: &[u16]) -> usize
+    ensures { λ r. ⌜ r ≡ length (candidates (now (exporters .entry)) (now (packages .entry)) (now (versions .entry))) ⌝ }
+{
+    let count = shorter(exporters.len(), packages.len());
+    shorter(count, versions.len())
 }
 
 // Whether a region is offered a candidate: asks the graph, and makes no tables.
-fn is_offered(graph: Graph, region: u32, exporter: u32, number: u32) -> bool
+fn is_offered(graph: Graph, region: u32, exporter: u32, number: u32, version: u16) -> bool
     requires { ⌜ Valid graph ⌝ }
     requires { ⌜ region < regions ⌝ }
-    ensures { λ r. ⌜ r ≡ is-offered (meaning graph) (record { exporter = exporter; number = number }) region ⌝ }
+    ensures { λ r. ⌜ r ≡ is-offered (meaning graph) (record { exporter = exporter; number = number; version = version }) region ⌝ }
 {
     let kind = kind_number(Kind::Package);
-    let item = Item { kind, number };
+    let item = Item {
+        kind,
+        number,
+        version,
+    };
     let place = graph.provider(exporter, item);
     let Place::Within(home) = place else {
         return false;
@@ -64,32 +79,36 @@ fn is_offered(graph: Graph, region: u32, exporter: u32, number: u32) -> bool
     has(found.reached, region)
 }
 
-// The same by the chained tables of the packages, the exporters beside them, and the predecessors that the entries for all numbers give.
+// The same by the chained tables of the packages, the exporters and the spans beside them, and the predecessors that the entries for all
+// numbers give.
 fn is_offered_by(
     exported: &[u64],
     export_links: &[u16],
     owned: &[u64],
     passing: &[u64],
     pass_links: &[u16],
+    spans: &[u32],
     always: [u64; REGIONS],
     region: u32,
     exporter: u32,
     number: u32,
+    version: u16,
 ) -> bool
     requires { ⌜ Chained (now exported) (now «export_links») ⌝ }
     requires { ⌜ length (now owned) ≡ length (now exported) ⌝ }
     requires { ⌜ Chained (now passing) (now «pass_links») ⌝ }
+    requires { ⌜ length (now spans) ≡ length (now passing) ⌝ }
     requires { ⌜ always ≡ predecessors-by (step-in (now passing) everything-number) ⌝ }
     requires { ⌜ region < regions ⌝ }
-    ensures { λ r. ⌜ ((m : Model) → ExportTables m (now (exported .entry)) (now (owned .entry)) (now (passing .entry)) → r ≡ is-offered m (record { exporter = exporter; number = number }) region) ⌝ }
+    ensures { λ r. ⌜ ((m : Model) → ExportTables m (now (exported .entry)) (now (owned .entry)) (now (passing .entry)) (now (spans .entry)) → r ≡ is-offered m (record { exporter = exporter; number = number; version = version }) region) ⌝ }
 {
-    let location = wide(exporter);
+    let owner = owner_number(exporter, version);
     let sought = wide(number);
-    let place = place_beside(exported, export_links, owned, location, sought);
+    let place = place_beside(exported, export_links, owned, owner, sought);
     let Place::Within(home) = place else {
         return false;
     };
-    let pred = predecessors(passing, pass_links, sought, always);
+    let pred = predecessors_between(passing, pass_links, spans, sought, version, always);
     let layers = search(&pred, singleton(home));
     has(layers.reached, region)
 }
@@ -99,27 +118,31 @@ fn resolve_by(
     exported: &[u64],
     owned: &[u64],
     passing: &[u64],
+    spans: &[u32],
     region: u32,
     exporters: &[u32],
     packages: &[u32],
+    versions: &[u16],
     out_exporters: &mut [u32],
     out_packages: &mut [u32],
+    out_versions: &mut [u16],
 ) -> usize
     requires { ⌜ (length (now exported) ≤ most-entries) × (length (now passing) ≤ most-entries) ⌝ }
-    requires { ⌜ length (now owned) ≡ length (now exported) ⌝ }
-    requires { ⌜ (region < regions) × Room (candidates (now exporters) (now packages)) (now «out_exporters») (now «out_packages») ⌝ }
-    ensures { λ r. ⌜ ((m : Model) → ExportTables m (now (exported .entry)) (now (owned .entry)) (now (passing .entry)) → kept (Kept.Wrote r) (now («out_exporters» .exit) ∷ now («out_packages» .exit) ∷ []) ≡ resolved (keep (λ c. is-offered m c region) (candidates (now (exporters .entry)) (now (packages .entry)))) (now («out_exporters» .entry) ∷ now («out_packages» .entry) ∷ [])) ⌝ }
+    requires { ⌜ (length (now owned) ≡ length (now exported)) × (length (now spans) ≡ length (now passing)) ⌝ }
+    requires { ⌜ (region < regions) × Room (candidates (now exporters) (now packages) (now versions)) (now «out_exporters») (now «out_packages») (now «out_versions») ⌝ }
+    ensures { λ r. ⌜ ((m : Model) → ExportTables m (now (exported .entry)) (now (owned .entry)) (now (passing .entry)) (now (spans .entry)) → kept (Kept.Wrote r) (now («out_exporters» .exit) ∷ now («out_packages» .exit) ∷ now («out_versions» .exit) ∷ []) ≡ resolved (keep (λ c. is-offered m c region) (candidates (now (exporters .entry)) (now (packages .entry)) (now (versions .entry)))) (now («out_exporters» .entry) ∷ now («out_packages» .entry) ∷ now («out_versions» .entry) ∷ [])) ⌝ }
 {
     let export_links = chained(exported);
     let pass_links = chained(passing);
     let none = [0u64; REGIONS];
     let always = predecessors(passing, &pass_links, EVERYTHING_NUMBER, none);
-    let count = counted(exporters, packages);
+    let count = counted(exporters, packages, versions);
     let mut n: usize = 0;
     let mut i: usize = 0;
     while i < count {
         let exporter = exporters[i];
         let number = packages[i];
+        let version = versions[i];
         i += 1;
         if is_offered_by(
             exported,
@@ -127,13 +150,16 @@ fn resolve_by(
             owned,
             passing,
             &pass_links,
+            spans,
             always,
             region,
             exporter,
             number,
+            version,
         ) {
             out_exporters[n] = exporter;
             out_packages[n] = number;
+            out_versions[n] = version;
             n += 1;
         }
     }
@@ -146,11 +172,14 @@ fn resolve_many(
     region: u32,
     exporters: &[u32],
     packages: &[u32],
+    versions: &[u16],
     out_exporters: &mut [u32],
     out_packages: &mut [u32],
+    out_versions: &mut [u16],
 ) -> usize
-    requires { ⌜ Valid graph × ((region < regions) × Room (candidates (now exporters) (now packages)) (now «out_exporters») (now «out_packages»)) ⌝ }
-    ensures { λ r. ⌜ kept (Kept.Wrote r) (now («out_exporters» .exit) ∷ now («out_packages» .exit) ∷ []) ≡ resolved (keep (λ c. is-offered (meaning graph) c region) (candidates (now (exporters .entry)) (now (packages .entry)))) (now («out_exporters» .entry) ∷ now («out_packages» .entry) ∷ []) ⌝ }
+    requires { ⌜ Valid graph ⌝ }
+    requires { ⌜ (region < regions) × Room (candidates (now exporters) (now packages) (now versions)) (now «out_exporters») (now «out_packages») (now «out_versions») ⌝ }
+    ensures { λ r. ⌜ kept (Kept.Wrote r) (now («out_exporters» .exit) ∷ now («out_packages» .exit) ∷ now («out_versions» .exit) ∷ []) ≡ resolved (keep (λ c. is-offered (meaning graph) c region) (candidates (now (exporters .entry)) (now (packages .entry)) (now (versions .entry)))) (now («out_exporters» .entry) ∷ now («out_packages» .entry) ∷ now («out_versions» .entry) ∷ []) ⌝ }
 {
     let mut exported = [0u64; MOST_ENTRIES];
     let given = offers(&mut exported, graph, Kind::Package);
@@ -158,15 +187,20 @@ fn resolve_many(
     let located = owners(&mut owned, graph);
     let mut passing = [0u64; MOST_ENTRIES];
     let passed = passages(&mut passing, graph, Kind::Package);
+    let mut span_places = [0u32; MOST_ENTRIES];
+    let spanned = spans(&mut span_places, graph);
     resolve_by(
         &exported[..given],
         &owned[..located],
         &passing[..passed],
+        &span_places[..spanned],
         region,
         exporters,
         packages,
+        versions,
         out_exporters,
         out_packages,
+        out_versions,
     )
 }
 
@@ -176,22 +210,26 @@ fn resolve_few(
     region: u32,
     exporters: &[u32],
     packages: &[u32],
+    versions: &[u16],
     out_exporters: &mut [u32],
     out_packages: &mut [u32],
+    out_versions: &mut [u16],
 ) -> usize
-    requires { ⌜ Valid graph × ((region < regions) × Room (candidates (now exporters) (now packages)) (now «out_exporters») (now «out_packages»)) ⌝ }
-    ensures { λ r. ⌜ kept (Kept.Wrote r) (now («out_exporters» .exit) ∷ now («out_packages» .exit) ∷ []) ≡ resolved (keep (λ c. is-offered (meaning graph) c region) (candidates (now (exporters .entry)) (now (packages .entry)))) (now («out_exporters» .entry) ∷ now («out_packages» .entry) ∷ []) ⌝ }
+    requires { ⌜ Valid graph × ((region < regions) × Room (candidates (now exporters) (now packages) (now versions)) (now «out_exporters») (now «out_packages») (now «out_versions»)) ⌝ }
+    ensures { λ r. ⌜ kept (Kept.Wrote r) (now («out_exporters» .exit) ∷ now («out_packages» .exit) ∷ now («out_versions» .exit) ∷ []) ≡ resolved (keep (λ c. is-offered (meaning graph) c region) (candidates (now (exporters .entry)) (now (packages .entry)) (now (versions .entry)))) (now («out_exporters» .entry) ∷ now («out_packages» .entry) ∷ now («out_versions» .entry) ∷ []) ⌝ }
 {
-    let count = counted(exporters, packages);
+    let count = counted(exporters, packages, versions);
     let mut n: usize = 0;
     let mut i: usize = 0;
     while i < count {
         let exporter = exporters[i];
         let package = packages[i];
+        let version = versions[i];
         i += 1;
-        if is_offered(graph, region, exporter, package) {
+        if is_offered(graph, region, exporter, package, version) {
             out_exporters[n] = exporter;
             out_packages[n] = package;
+            out_versions[n] = version;
             n += 1;
         }
     }
@@ -204,21 +242,26 @@ pub fn resolve(
     location: u32,
     exporters: &[u32],
     packages: &[u32],
+    versions: &[u16],
     out_exporters: &mut [u32],
     out_packages: &mut [u32],
+    out_versions: &mut [u16],
 ) -> Kept
     requires { ⌜ Valid graph ⌝ }
-    ensures { λ r. ⌜ kept r (now («out_exporters» .exit) ∷ now («out_packages» .exit) ∷ []) ≡ resolve-outcome (meaning graph) location (candidates (now (exporters .entry)) (now (packages .entry))) (now («out_exporters» .entry) ∷ now («out_packages» .entry) ∷ []) ⌝ }
+    ensures { λ r. ⌜ kept r (now («out_exporters» .exit) ∷ now («out_packages» .exit) ∷ now («out_versions» .exit) ∷ []) ≡ resolve-outcome (meaning graph) location (candidates (now (exporters .entry)) (now (packages .entry)) (now (versions .entry))) (now («out_exporters» .entry) ∷ now («out_packages» .entry) ∷ now («out_versions» .entry) ∷ []) ⌝ }
 {
     let place = graph.region_of(location);
     let Place::Within(region) = place else {
         return Kept::Refused(NOT_INSTALLED);
     };
-    let count = counted(exporters, packages);
+    let count = counted(exporters, packages, versions);
     if out_exporters.len() < count {
         return Kept::Refused(NO_PLACE);
     }
     if out_packages.len() < count {
+        return Kept::Refused(NO_PLACE);
+    }
+    if out_versions.len() < count {
         return Kept::Refused(NO_PLACE);
     }
     if count < FEW {
@@ -227,8 +270,10 @@ pub fn resolve(
             region,
             exporters,
             packages,
+            versions,
             out_exporters,
             out_packages,
+            out_versions,
         );
         return Kept::Wrote(n);
     }
@@ -237,8 +282,10 @@ pub fn resolve(
         region,
         exporters,
         packages,
+        versions,
         out_exporters,
         out_packages,
+        out_versions,
     );
     Kept::Wrote(n)
 }

@@ -59,9 +59,16 @@ fn walk(out: &mut [u8], pred: &[u64], found: Layers, deep: usize, region: u32)
 }
 
 // The count of connections of the route that document 01 picks, its regions at the buffer's start, one byte each.
-pub fn route(graph: Graph, location: u32, kind: u32, number: u32, out: &mut [u8]) -> Routed
+pub fn route(
+    graph: Graph,
+    location: u32,
+    kind: u32,
+    number: u32,
+    version: u16,
+    out: &mut [u8],
+) -> Routed
     requires { ⌜ Valid graph ⌝ }
-    ensures { λ r. ⌜ routed r (now (out .exit)) ≡ route-outcome (meaning graph) location kind number (now (out .entry)) ⌝ }
+    ensures { λ r. ⌜ routed r (now (out .exit)) ≡ route-outcome (meaning graph) location kind number version (now (out .entry)) ⌝ }
 {
     let place = graph.region_of(location);
     let Place::Within(region) = place else {
@@ -73,7 +80,11 @@ pub fn route(graph: Graph, location: u32, kind: u32, number: u32, out: &mut [u8]
     if out.len() < REGIONS {
         return Routed::Refused(NO_PLACE);
     }
-    let item = Item { kind, number };
+    let item = Item {
+        kind,
+        number,
+        version,
+    };
     let searched = search_for(graph, item, Ends::Holders);
     let pred = searched.pred;
     let found = searched.found;

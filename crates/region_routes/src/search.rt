@@ -8,7 +8,7 @@ ghost use Rattle.region_graph.specs.Record.{Valid, meaning};
 ghost use Rattle.region_graph.specs.Sets.{«set-of»};
 ghost use Rattle.region_routes.specs.Chosen.{sees};
 ghost use Rattle.region_routes.specs.Hooks.{item};
-ghost use Rattle.region_routes.specs.Tables.{Tables, everything-number, «step-in», «predecessors-by»};
+ghost use Rattle.region_routes.specs.Tables.{NumberTables, everything-number, «step-in», «predecessors-by»};
 ghost use Rattle.region_routes.specs.Chains.{Chained};
 ghost use Rattle.region_routes.specs.Search.{RegionSets, SetOfRegions, Layer, Searched, Reached, InLayer, «end-set»};
 use crate::tables::holders;
@@ -132,7 +132,7 @@ pub fn regions_seeing(graph: Graph, item: Item) -> u64
     found.reached
 }
 
-// The regions that see an item, by the chained tables of its kind and the predecessors that the entries for all numbers give.
+// The regions that see an item of a kind by number, by the chained tables of the kind and the predecessors that the entries for all numbers give.
 pub fn regions_seeing_by(
     offered: &[u64],
     offer_links: &[u16],
@@ -144,7 +144,7 @@ pub fn regions_seeing_by(
     requires { ⌜ Chained (now offered) (now «offer_links») ⌝ }
     requires { ⌜ Chained (now passing) (now «pass_links») ⌝ }
     requires { ⌜ always ≡ predecessors-by (step-in (now passing) everything-number) ⌝ }
-    ensures { λ r. ⌜ ((m : Model) (kind : ℕ) → Tables m kind (now (offered .entry)) (now (passing .entry)) → r ≡ set-of (sees m (item kind number))) ⌝ }
+    ensures { λ r. ⌜ ((m : Model) (kind : ℕ) → NumberTables m kind (now (offered .entry)) (now (passing .entry)) → r ≡ set-of (sees m (item kind number 0))) ⌝ }
 {
     let sought = wide(number);
     let held = holders(offered, offer_links, sought);

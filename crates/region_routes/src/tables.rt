@@ -3,16 +3,18 @@ ghost use mathlib.Core.Path.{_≡_};
 ghost use mathlib.Core.Bool.{Bool};
 ghost use mathlib.Core.List.{[], _∷_, map};
 ghost use Prim.Native.Nat.{ℕ, _+_, _<_, _≤_};
-ghost use lib.ListN.{length, getD};
-ghost use Rattle.region_graph.specs.Size.{regions};
-ghost use Rattle.region_graph.specs.Record.{Valid, meaning, «bundle-in», «connection-in», «part-in»};
-ghost use Rattle.region_graph.specs.Places.{BundleStored, PartStored, ConnectionStored};
+ghost use lib.Dec.{eqb};
+ghost use lib.ListN.{length, getD, take};
+ghost use Rattle.region_graph.specs.Size.{regions, «everything-sign»};
+ghost use Rattle.region_graph.specs.Record.{Valid, meaning, «bundle-in», «connection-in», «package-part-in»};
+ghost use Rattle.region_graph.specs.Places.{BundleStored, PackagePartStored, ConnectionStored};
+ghost use Rattle.region_graph.specs.Promise.{«new-part»};
 ghost use Rattle.region_routes.specs.Hooks.{«kind-number»};
 ghost use Rattle.region_routes.specs.Tables;
 ghost use Rattle.region_routes.specs.Chains;
 use crate::Kind;
+use region_graph::Entries;
 use region_graph::Graph;
-use region_graph::Numbers;
 use region_graph::Place;
 use region_graph::StoredBundle;
 use region_graph::StoredConnection;
@@ -52,6 +54,33 @@ fn place(number: u16) -> usize
     number as usize
 }
 
+// A location and a version as one number.
+pub fn owner_number(location: u32, version: u16) -> u64
+    ensures { λ r. ⌜ r ≡ Tables.packed location version ⌝ }
+{
+    wide(location) * WIDTH + (version as u64)
+}
+
+// The lowest and the highest version of an entry as one number.
+fn span_number(lowest: u16, highest: u16) -> u32
+    ensures { λ r. ⌜ r ≡ Tables.packed lowest highest ⌝ }
+{
+    (lowest as u32) * (WIDTH as u32) + (highest as u32)
+}
+
+// Whether a version lies between those of a span.
+fn is_between(version: u16, span: u32) -> bool
+    ensures { λ r. ⌜ r ≡ Tables.span-has version span ⌝ }
+{
+    let asked = version as u32;
+    let lowest = span / (WIDTH as u32);
+    let highest = span % (WIDTH as u32);
+    if lowest <= asked {
+        return asked <= highest;
+    }
+    false
+}
+
 // Puts one entry at a place, and gives the next place.
 fn append_one(out: &mut [u64], at: usize, number: u64, place: u32) -> usize
     requires { ⌜ (at < length (now out)) × (number ≤ Tables.everything-number) ⌝ }
@@ -76,15 +105,15 @@ fn append(out: &mut [u64], at: usize, place: u32, numbers: &[u32]) -> usize
     n
 }
 
-// Puts the location of a bundle for each package of a list.
-fn append_owner(out: &mut [u64], at: usize, location: u32, packages: &[u32]) -> usize
-    requires { ⌜ at + length (map (λ n. location) (now packages)) ≤ length (now out) ⌝ }
-    ensures { λ r. ⌜ Tables.Appended (now (out .entry)) at (map (λ n. location) (now (packages .entry))) (now (out .exit)) r ⌝ }
+// Puts the location of a bundle with the version of each package of a list.
+fn append_owner(out: &mut [u64], at: usize, location: u32, versions: &[u16]) -> usize
+    requires { ⌜ at + length (map (λ v. Tables.packed location v) (now versions)) ≤ length (now out) ⌝ }
+    ensures { λ r. ⌜ Tables.Appended (now (out .entry)) at (map (λ v. Tables.packed location v) (now (versions .entry))) (now (out .exit)) r ⌝ }
 {
     let mut n = at;
     let mut i: usize = 0;
-    while i < packages.len() {
-        out[n] = wide(location);
+    while i < versions.len() {
+        out[n] = owner_number(location, versions[i]);
         n += 1;
         i += 1;
     }
@@ -101,8 +130,8 @@ fn append_offer(out: &mut [u64], at: usize, b: StoredBundle, kind: Kind) -> usiz
         Kind::Bundle => append_one(out, at, wide(b.location), b.region),
         Kind::Package => {
             let count = b.packages.count;
-            let items = b.packages.items;
-            append(out, at, b.region, &items[..count])
+            let numbers = b.packages.numbers;
+            append(out, at, b.region, &numbers[..count])
         }
         Kind::Service => {
             let count = b.services.count;
@@ -112,18 +141,16 @@ fn append_offer(out: &mut [u64], at: usize, b: StoredBundle, kind: Kind) -> usiz
     }
 }
 
-// Puts what a part of a filter passes.
-fn append_part(out: &mut [u64], at: usize, part: Numbers, ends: u32) -> usize
-    requires { ⌜ PartStored part ⌝ }
-    requires { ⌜ at + length (map (λ n. Tables.packed n ends) (Tables.passed (part-in part))) ≤ length (now out) ⌝ }
-    ensures { λ r. ⌜ Tables.Appended (now (out .entry)) at (map (λ n. Tables.packed n ends) (Tables.passed (part-in part))) (now (out .exit)) r ⌝ }
+// Puts what a part of a filter passes: by its count the first numbers, or everything.
+fn append_part(out: &mut [u64], at: usize, ends: u32, count: usize, numbers: &[u32]) -> usize
+    requires { ⌜ ((count ≡ everything-sign → ⊥) → count ≤ length (now numbers)) ⌝ }
+    requires { ⌜ at + length (map (λ n. Tables.packed n ends) (Tables.passed (new-part (eqb count everything-sign) (take count (now numbers))))) ≤ length (now out) ⌝ }
+    ensures { λ r. ⌜ Tables.Appended (now (out .entry)) at (map (λ n. Tables.packed n ends) (Tables.passed (new-part (eqb count everything-sign) (take count (now (numbers .entry)))))) (now (out .exit)) r ⌝ }
 {
-    let count = part.count;
     if count == EVERYTHING {
         return append_one(out, at, EVERYTHING_NUMBER, ends);
     }
-    let items = part.items;
-    append(out, at, ends, &items[..count])
+    append(out, at, ends, &numbers[..count])
 }
 
 // Puts what a connection passes, with its two ends.
@@ -141,12 +168,14 @@ fn append_passage(out: &mut [u64], at: usize, c: StoredConnection, kind: Kind) -
             append(out, at, ends, &items[..count])
         }
         Kind::Package => {
-            let packages = c.packages;
-            append_part(out, at, packages, ends)
+            let count = c.packages.count;
+            let numbers = c.packages.numbers;
+            append_part(out, at, ends, count, &numbers)
         }
         Kind::Service => {
-            let services = c.services;
-            append_part(out, at, services, ends)
+            let count = c.services.count;
+            let items = c.services.items;
+            append_part(out, at, ends, count, &items)
         }
     }
 }
@@ -169,7 +198,7 @@ pub fn offers(items: &mut [u64], graph: Graph, kind: Kind) -> usize
     n
 }
 
-// Puts, for each package that the bundles of a graph bring, the exporter's location, and gives the count.
+// Puts, for each package that the bundles of a graph bring, the exporter's location with the version, and gives the count.
 pub fn owners(items: &mut [u64], graph: Graph) -> usize
     requires { ⌜ Valid graph ⌝ }
     requires { ⌜ length (now items) ≡ Tables.most-entries ⌝ }
@@ -183,8 +212,8 @@ pub fn owners(items: &mut [u64], graph: Graph) -> usize
         let b = bundles[i];
         i += 1;
         let given = b.packages.count;
-        let packages = b.packages.items;
-        n = append_owner(items, n, b.location, &packages[..given]);
+        let versions = b.packages.versions;
+        n = append_owner(items, n, b.location, &versions[..given]);
     }
     n
 }
@@ -203,6 +232,48 @@ pub fn passages(items: &mut [u64], graph: Graph, kind: Kind) -> usize
         let c = connections[i];
         i += 1;
         n = append_passage(items, n, c, kind);
+    }
+    n
+}
+
+// Puts the spans of a package part; for everything, one that nothing asks for.
+fn append_spans(out: &mut [u32], at: usize, part: Entries) -> usize
+    requires { ⌜ PackagePartStored part ⌝ }
+    requires { ⌜ at + length (Tables.part-spans (package-part-in part)) ≤ length (now out) ⌝ }
+    ensures { λ r. ⌜ Tables.Appended (now (out .entry)) at (Tables.part-spans (package-part-in part)) (now (out .exit)) r ⌝ }
+{
+    let count = part.count;
+    if count == EVERYTHING {
+        out[at] = 0;
+        return at + 1;
+    }
+    let lowest = part.lowest;
+    let highest = part.highest;
+    let mut n = at;
+    let mut i: usize = 0;
+    while i < count {
+        out[n] = span_number(lowest[i], highest[i]);
+        n += 1;
+        i += 1;
+    }
+    n
+}
+
+// Puts, for each entry of what the connections of a graph pass of packages, its span, and gives the count.
+pub fn spans(items: &mut [u32], graph: Graph) -> usize
+    requires { ⌜ Valid graph ⌝ }
+    requires { ⌜ length (now items) ≡ Tables.most-entries ⌝ }
+    ensures { λ r. ⌜ Tables.Holding (Tables.spans (meaning graph .connections)) (now (items .exit)) r ⌝ }
+{
+    let connections = graph.connection_places();
+    let count = graph.connection_count();
+    let mut n: usize = 0;
+    let mut i: usize = 0;
+    while i < count {
+        let c = connections[i];
+        i += 1;
+        let packages = c.packages;
+        n = append_spans(items, n, packages);
     }
     n
 }
@@ -294,6 +365,37 @@ pub fn predecessors(
     sets
 }
 
+// The same of the entries that have a number, and beside them a span that has a version.
+pub fn predecessors_between(
+    table: &[u64],
+    links: &[u16],
+    spans: &[u32],
+    number: u64,
+    version: u16,
+    given: [u64; REGIONS],
+) -> [u64; REGIONS]
+    requires { ⌜ Chains.Chained (now table) (now links) ⌝ }
+    requires { ⌜ length (now spans) ≡ length (now table) ⌝ }
+    ensures { λ r. ⌜ ((step : ℕ → ℕ → Bool) → given ≡ Tables.predecessors-by step → r ≡ Tables.predecessors-by (Tables.step-or-between step (now (table .entry)) (now (spans .entry)) number version)) ⌝ }
+{
+    let mut sets = given;
+    let mut i = first_of(links, number);
+    while i < table.len() {
+        let e = table[i];
+        let span = spans[i];
+        i = next_of(links, i);
+        if e / WIDTH == number {
+            if is_between(version, span) {
+                let ends = (e % WIDTH) as usize;
+                let source = ends / REGIONS;
+                let target = ends % REGIONS;
+                sets[target] = sets[target] | singleton(source as u32);
+            }
+        }
+    }
+    sets
+}
+
 // The place of the first entry that has a number.
 pub fn place_of(table: &[u64], links: &[u16], number: u64) -> Place
     requires { ⌜ Chains.Chained (now table) (now links) ⌝ }
@@ -310,17 +412,11 @@ pub fn place_of(table: &[u64], links: &[u16], number: u64) -> Place
     Place::Nowhere
 }
 
-// The place of the first entry that has a number, and a location beside it.
-pub fn place_beside(
-    table: &[u64],
-    links: &[u16],
-    owned: &[u64],
-    location: u64,
-    number: u64,
-) -> Place
+// The place of the first entry that has a number, and an owner beside it.
+pub fn place_beside(table: &[u64], links: &[u16], owned: &[u64], asked: u64, number: u64) -> Place
     requires { ⌜ Chains.Chained (now table) (now links) ⌝ }
     requires { ⌜ length (now owned) ≡ length (now table) ⌝ }
-    ensures { λ r. ⌜ r ≡ Tables.place-beside (now (table .entry)) (now (owned .entry)) location number ⌝ }
+    ensures { λ r. ⌜ r ≡ Tables.place-beside (now (table .entry)) (now (owned .entry)) asked number ⌝ }
 {
     let mut i = first_of(links, number);
     while i < table.len() {
@@ -328,7 +424,7 @@ pub fn place_beside(
         let owner = owned[i];
         i = next_of(links, i);
         if e / WIDTH == number {
-            if owner == location {
+            if owner == asked {
                 return Place::Within((e % WIDTH) as u32);
             }
         }

@@ -1,5 +1,5 @@
 // The answers, as text. The answer of a call with a buffer has three words: the number, the count, and what the buffer holds; `-` is
-// written where there is no count and where the buffer has no place. That of resolve has a word for each of its two buffers.
+// written where there is no count and where the buffer has no place. That of resolve has a word for each of its three buffers.
 use crate::buffers::PLACES;
 use crate::buffers::ROOM;
 use region_archive::Written;
@@ -66,6 +66,23 @@ pub fn show_places(places: &[u32; PLACES], count: usize, after: &[u8]) {
             break;
         }
         show_place(i, places[i]);
+        i += 1;
+    }
+    show_end(i, after);
+}
+
+fn show_version(i: usize, version: u16) {
+    show_place(i, version as u32);
+}
+
+// The same of places for versions.
+pub fn show_versions(places: &[u16; PLACES], count: usize, after: &[u8]) {
+    let mut i: usize = 0;
+    while i < PLACES {
+        if i == count {
+            break;
+        }
+        show_version(i, places[i]);
         i += 1;
     }
     show_end(i, after);

@@ -1,8 +1,8 @@
 // The route call, the write and the query:
-//   route LOCATION KIND ITEM LENGTH
+//   route LOCATION KIND ITEM VERSION LENGTH
 //   write LENGTH
 //   image
-//   query LOCATION KIND ITEM
+//   query LOCATION KIND ITEM VERSION
 // LENGTH is how many bytes the buffer has. The query is of the file that stands.
 ghost use Rattle.region_graph.specs.Record.{Valid};
 use crate::answers::show_room;
@@ -10,8 +10,9 @@ use crate::answers::show_routed;
 use crate::answers::show_written;
 use crate::buffers::BEFORE;
 use crate::buffers::ROOM;
+use crate::versions::version;
 use region_archive::Written;
-use region_archive::archive_query;
+use region_archive::archive_query_v4;
 use region_graph::Graph;
 use script_text::show_number;
 use script_text::value;
@@ -20,12 +21,13 @@ pub fn route(g: Graph, line: &[u8])
     requires { ⌜ Valid g ⌝ }
 {
     let mut room = [BEFORE; ROOM];
-    let n = io::count(value(line, 4) as isize, &room);
+    let n = io::count(value(line, 5) as isize, &room);
     let answer = region_routes::route(
         g,
         value(line, 1),
         value(line, 2),
         value(line, 3),
+        version(line, 4),
         &mut room[..n],
     );
     show_routed(answer);
@@ -55,5 +57,11 @@ pub fn image(g: Graph)
 }
 
 pub fn query(file: &[u8], line: &[u8]) {
-    show_number(archive_query(file, value(line, 1), value(line, 2), value(line, 3)));
+    show_number(archive_query_v4(
+        file,
+        value(line, 1),
+        value(line, 2),
+        value(line, 3),
+        version(line, 4),
+    ));
 }

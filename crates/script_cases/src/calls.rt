@@ -1,5 +1,6 @@
 // The changing calls, as lines of the script.
 ghost use Rattle.region_graph.specs.Record.{Valid};
+use crate::versions::versions;
 use region_graph::Changed;
 use region_graph::Graph;
 use script_text::is;
@@ -14,7 +15,7 @@ const ROOM: usize = 20;
 // What a line that is no call is answered with.
 const NOT_A_CALL: u32 = 999;
 
-// install REGION LOCATION PACKAGES SERVICES
+// install REGION LOCATION PACKAGES VERSIONS SERVICES
 fn install(g: Graph, line: &[u8]) -> Changed
     requires { ⌜ Valid g ⌝ }
     ensures { λ r. ⌜ Valid (r .graph) ⌝ }
@@ -22,35 +23,57 @@ fn install(g: Graph, line: &[u8]) -> Changed
     let region = value(line, 1);
     let location = value(line, 2);
     let mut packages = [0u32; ROOM];
+    let mut of = [0u16; ROOM];
     let mut services = [0u32; ROOM];
     let n = list(word(line, 3), &mut packages);
-    let m = list(word(line, 4), &mut services);
-    g.install(region, location, &packages[..n], &services[..m])
+    let v = versions(word(line, 4), &mut of);
+    let m = list(word(line, 5), &mut services);
+    g.install(region, location, &packages[..n], &of[..v], &services[..m])
 }
 
-// connect SOURCE TARGET BUNDLES PACKAGES SERVICES
+// connect SOURCE TARGET BUNDLES PACKAGES LOWEST HIGHEST SERVICES
 fn connect(g: Graph, line: &[u8]) -> Changed
     requires { ⌜ Valid g ⌝ }
     ensures { λ r. ⌜ Valid (r .graph) ⌝ }
 {
-    let source = value(line, 1);
-    let target = value(line, 2);
     let mut bundles = [0u32; ROOM];
     let mut packages = [0u32; ROOM];
     let mut services = [0u32; ROOM];
     let k = list(word(line, 3), &mut bundles);
     let n = list(word(line, 4), &mut packages);
-    let m = list(word(line, 5), &mut services);
+    let m = list(word(line, 7), &mut services);
+    connect_lists(g, line, &bundles[..k], &packages[..n], &services[..m])
+}
+
+// The same, with the lists of numbers of the line.
+fn connect_lists(
+    g: Graph,
+    line: &[u8],
+    bundles: &[u32],
+    packages: &[u32],
+    services: &[u32],
+) -> Changed
+    requires { ⌜ Valid g ⌝ }
+    ensures { λ r. ⌜ Valid (r .graph) ⌝ }
+{
+    let source = value(line, 1);
+    let target = value(line, 2);
+    let mut lowest = [0u16; ROOM];
+    let mut highest = [0u16; ROOM];
+    let low = versions(word(line, 5), &mut lowest);
+    let high = versions(word(line, 6), &mut highest);
     let all_packages = is_all(word(line, 4));
-    let all_services = is_all(word(line, 5));
+    let all_services = is_all(word(line, 7));
     g.connect(
         source,
         target,
-        &bundles[..k],
+        bundles,
         all_packages,
-        &packages[..n],
+        packages,
+        &lowest[..low],
+        &highest[..high],
         all_services,
-        &services[..m],
+        services,
     )
 }
 

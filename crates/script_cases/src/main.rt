@@ -8,6 +8,7 @@ mod calls;
 mod files;
 mod hooks;
 mod script;
+mod versions;
 mod words;
 
 // Room for the script.

@@ -19,8 +19,9 @@ import org.osgi.framework.InvalidSyntaxException;
  * makes of it. Writes a line for each query, as the script language has it, and at the end the counts to standard error.
  */
 final class Answer {
-    /** What an output list holds before a query, as the script language says. */
+    /** What an output list holds before a query, and what one of versions holds, as the script language says. */
     private static final long FILL = 0xDEAD0000L;
+    private static final long VERSION_FILL = 0xBE00;
 
     private World world = new World();
     /** By call and number: the calls that Equinox accepts, and those that it refuses. */
@@ -66,7 +67,7 @@ final class Answer {
         List<Long> given = World.list(words[3]);
         long first = Long.parseLong(words[1]);
         if (words[0].equals("resolve")) {
-            return resolve(first, World.list(words[2]), given, World.list(words[4]));
+            return resolve(first, World.list(words[2]), given, World.list(words[4]), World.list(words[5]));
         }
         long second = Long.parseLong(words[2]);
         switch (words[0]) {
@@ -84,9 +85,10 @@ final class Answer {
     }
 
     /** The answer to an accepted resolve, with the places of each output list. */
-    private String resolve(long asker, List<Long> places, List<Long> exporters, List<Long> packages) {
-        List<Integer> kept = world.resolve(asker, exporters, packages);
-        return "0 " + kept.size() + " " + output(at(kept, exporters), places.get(0)) + " " + output(at(kept, packages), places.get(1));
+    private String resolve(long asker, List<Long> places, List<Long> exporters, List<Long> packages, List<Long> versions) {
+        List<Integer> kept = world.resolve(asker, exporters, packages, versions);
+        return "0 " + kept.size() + " " + output(at(kept, exporters), places.get(0), FILL) + " "
+                + output(at(kept, packages), places.get(1), FILL) + " " + output(at(kept, versions), places.get(2), VERSION_FILL);
     }
 
     private static List<Long> at(List<Integer> places, List<Long> numbers) {
@@ -95,13 +97,13 @@ final class Answer {
 
     /** The answer to another accepted query with so many places for its output. */
     private static String shown(List<Long> kept, long places) {
-        return "0 " + kept.size() + " " + output(kept, places);
+        return "0 " + kept.size() + " " + output(kept, places, FILL);
     }
 
-    /** An output list with so many places that starts with what is kept. */
-    private static String output(List<Long> kept, long places) {
+    /** An output list with so many places that starts with what is kept, and held numbers from one on before. */
+    private static String output(List<Long> kept, long places, long fill) {
         List<Long> out = new ArrayList<>(kept);
-        LongStream.range(kept.size(), places).forEach(i -> out.add(FILL + i));
+        LongStream.range(kept.size(), places).forEach(i -> out.add(fill + i));
         return out.isEmpty() ? "-" : out.stream().map(String::valueOf).collect(Collectors.joining(","));
     }
 }

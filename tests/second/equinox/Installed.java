@@ -2,6 +2,7 @@ import java.util.LinkedHashMap;
 import java.util.List;
 import java.util.Map;
 import java.util.function.Function;
+import java.util.stream.IntStream;
 import org.osgi.framework.Bundle;
 import org.osgi.framework.BundleContext;
 import org.osgi.framework.Constants;
@@ -17,12 +18,13 @@ final class Installed {
     final long id;
     final BundleContext context;
     final BundleRequirement requirement;
-    /** What the bundle holds, by number: itself, its packages and its services. */
+    /** What the bundle holds, by number: itself and its services; and its packages, by number and version. */
     final Map<Long, Bundle> bundles;
-    final Map<Long, BundleCapability> packages = new LinkedHashMap<>();
+    final Map<List<Long>, BundleCapability> packages = new LinkedHashMap<>();
     final Map<Long, ServiceReference<?>> services = new LinkedHashMap<>();
 
-    Installed(long location, List<Long> packageNumbers, List<Long> serviceNumbers) {
+    /** The packages have their numbers and versions at equal places; the shorter list counts them. */
+    Installed(long location, List<Long> packageNumbers, List<Long> versions, List<Long> serviceNumbers) {
         id = id(location);
         Bundle bundle = Fake.of(Bundle.class, Map.of(
                 "getBundleId", id, "getSymbolicName", bundleName(location), "getVersion", Version.emptyVersion));
@@ -31,7 +33,8 @@ final class Installed {
                 "getBundle", bundle, "getSymbolicName", bundleName(location), "getVersion", Version.emptyVersion));
         requirement = Fake.of(BundleRequirement.class, Map.of("getRevision", revision));
         bundles = Map.of(location, bundle);
-        packageNumbers.forEach(number -> packages.put(number, capability(revision, number)));
+        IntStream.range(0, Math.min(packageNumbers.size(), versions.size())).forEach(i -> packages.put(
+                List.of(packageNumbers.get(i), versions.get(i)), capability(revision, packageNumbers.get(i), versions.get(i))));
         serviceNumbers.forEach(number -> services.put(number, reference(bundle, number)));
     }
 
@@ -52,10 +55,17 @@ final class Installed {
         return "s" + number;
     }
 
-    private static BundleCapability capability(BundleRevision revision, long number) {
+    /** A version of a package is the first number of one of the framework. */
+    static Version version(long number) {
+        return new Version((int) number, 0, 0);
+    }
+
+    private static BundleCapability capability(BundleRevision revision, long number, long version) {
         String namespace = RegionFilter.VISIBLE_PACKAGE_NAMESPACE;
+        Map<String, Object> attributes =
+                Map.of(namespace, packageName(number), Constants.VERSION_ATTRIBUTE, version(version));
         return Fake.of(BundleCapability.class, Map.of(
-                "getNamespace", namespace, "getAttributes", Map.of(namespace, packageName(number)), "getRevision", revision));
+                "getNamespace", namespace, "getAttributes", attributes, "getRevision", revision));
     }
 
     private static ServiceReference<?> reference(Bundle bundle, long number) {

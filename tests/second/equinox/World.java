@@ -44,7 +44,8 @@ final class World {
         change(digraph, words);
         switch (words[0]) {
             case "install":
-                bundles.put(Long.valueOf(words[2]), new Installed(Long.valueOf(words[2]), list(words[3]), list(words[4])));
+                long location = Long.parseLong(words[2]);
+                bundles.put(location, new Installed(location, list(words[3]), list(words[4]), list(words[5])));
                 break;
             case "uninstall":
                 bundles.remove(Long.valueOf(words[1]));
@@ -107,10 +108,26 @@ final class World {
         RegionFilterBuilder builder = digraph.createRegionFilterBuilder();
         allow(builder, RegionFilter.VISIBLE_BUNDLE_LIFECYCLE_NAMESPACE, RegionFilter.VISIBLE_BUNDLE_NAMESPACE, words[3],
                 Installed::bundleName);
-        allow(builder, RegionFilter.VISIBLE_PACKAGE_NAMESPACE, RegionFilter.VISIBLE_PACKAGE_NAMESPACE, words[4],
-                Installed::packageName);
-        allow(builder, RegionFilter.VISIBLE_OSGI_SERVICE_NAMESPACE, Constants.OBJECTCLASS, words[5], Installed::serviceName);
+        allowPackages(builder, words);
+        allow(builder, RegionFilter.VISIBLE_OSGI_SERVICE_NAMESPACE, Constants.OBJECTCLASS, words[7], Installed::serviceName);
         return builder.build();
+    }
+
+    /** The numbers, the lowest and the highest versions stand at equal places; the shortest list counts the entries. */
+    private static void allowPackages(RegionFilterBuilder builder, String[] words) throws InvalidSyntaxException {
+        String namespace = RegionFilter.VISIBLE_PACKAGE_NAMESPACE;
+        if (words[4].equals("*")) {
+            builder.allowAll(namespace);
+            return;
+        }
+        List<Long> numbers = list(words[4]);
+        List<Long> lowest = list(words[5]);
+        List<Long> highest = list(words[6]);
+        for (int i = 0; i < Math.min(numbers.size(), Math.min(lowest.size(), highest.size())); i++) {
+            builder.allow(namespace, "(&(" + namespace + "=" + Installed.packageName(numbers.get(i)) + ")"
+                    + "(" + Constants.VERSION_ATTRIBUTE + ">=" + Installed.version(lowest.get(i)) + ")"
+                    + "(" + Constants.VERSION_ATTRIBUTE + "<=" + Installed.version(highest.get(i)) + "))");
+        }
     }
 
     private static void allow(RegionFilterBuilder builder, String namespace, String attribute, String part,
@@ -140,11 +157,11 @@ final class World {
         return seen(candidates, b -> b.bundles, items -> digraph.getBundleFindHook().find(asker, items));
     }
 
-    /** The places of the candidates, which the shorter list counts, whose capability the hook leaves: that of this very exporter. */
-    List<Integer> resolve(long location, List<Long> exporters, List<Long> packages) {
+    /** The places of the candidates, which the shortest list counts, whose capability the hook leaves: that of this very exporter. */
+    List<Integer> resolve(long location, List<Long> exporters, List<Long> packages, List<Long> versions) {
         List<BundleCapability> candidates = new ArrayList<>();
-        for (int i = 0; i < Math.min(exporters.size(), packages.size()); i++) {
-            candidates.add(capability(exporters.get(i), packages.get(i)));
+        for (int i = 0; i < Math.min(exporters.size(), Math.min(packages.size(), versions.size())); i++) {
+            candidates.add(capability(exporters.get(i), List.of(packages.get(i), versions.get(i))));
         }
         Set<BundleCapability> left = new HashSet<>(candidates);
         left.remove(null);
@@ -154,9 +171,9 @@ final class World {
     }
 
     /** What stands for a candidate; null where the exporter is not installed, or does not have the package. */
-    private BundleCapability capability(long exporter, long number) {
+    private BundleCapability capability(long exporter, List<Long> numberAndVersion) {
         Installed bundle = bundles.get(exporter);
-        return bundle == null ? null : bundle.packages.get(number);
+        return bundle == null ? null : bundle.packages.get(numberAndVersion);
     }
 
     List<Long> serviceFind(long location, List<Long> candidates) {

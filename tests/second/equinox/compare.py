@@ -28,8 +28,14 @@ BLOCK = 500
 
 
 def items_of(graph, kind):
-    """Every item of a kind that is held, and two that are not."""
+    """Every number of a kind that is held, and two that are not."""
     return sorted(cases.numbers_held(graph, kind) | set(UNHELD))
+
+
+def packages_of(graph):
+    """Every package that is held, in its version and in the next, and two that are not."""
+    held = cases.items_held(graph, oracle2.PACKAGE)
+    return sorted(held | {(number, min(version + 1, oracle2.TOP_VERSION)) for number, version in held} | {(number, 0) for number in UNHELD})
 
 
 def some(rnd, pool, most):
@@ -39,9 +45,9 @@ def some(rnd, pool, most):
 
 
 def resolve_line(rnd, graph, location):
-    """A resolve with exporters and their packages, and with others; at times one of the two lists is longer, or an output list."""
-    mixed = [tuple(rnd.choice(items_of(graph, kind)) for kind in (oracle2.BUNDLE, oracle2.PACKAGE)) for _ in range(MIXED)]
-    lists = oracle2.turned(some(rnd, candidates.exported(graph) + mixed, 36), 2)
+    """A resolve with exporters and their packages, and with others; at times one of the three lists is longer, or an output list."""
+    mixed = [(rnd.choice(items_of(graph, oracle2.BUNDLE)), *rnd.choice(packages_of(graph))) for _ in range(MIXED)]
+    lists = oracle2.turned(some(rnd, candidates.exported(graph) + mixed, 36), len(candidates.PARTS))
     rooms = [len(lists[0]) + rnd.choice([0, 0, 1]) for _ in lists]
     rnd.choice(lists).extend(rnd.choice([[], [], [0, 1]]))
     return candidates.line(location, rooms, *lists)

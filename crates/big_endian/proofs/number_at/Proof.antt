@@ -1,34 +1,25 @@
-use mathlib.Core.Path.{sym, _∙_}
-use Prim.Native.Nat.{_+_, _≤_}
-use borrow.Author.Needs.{needs}
-use borrow.Author.Tests.{le-leb, lt-leb, leb-true, not-true, not-false}
+use Prim.Native.Nat.{_≤_}
 use native.Mathlib.Omega.{arith}
-use lib.ListN.{length}
-use Rattle.region_graph.proofs.Lists.{and-left, and-right}
-use Rattle.big_endian.specs.Numbers.{widest}
-use Rattle.big_endian.proofs.Digits.{small-four}
-use Rattle.big_endian.proofs.NumberReads.{read-none, read-one}
+use borrow.Author.Needs.{needs}
+use borrow.Author.Tests.{lt-leb}
+use Rattle.region_graph.proofs.Lists.{and-left}
+use Rattle.big_endian.specs.Numbers.{longest, widest}
+use Rattle.big_endian.proofs.Digits.{small-within}
+use Rattle.big_endian.proofs.NumberReads.{read-none, read-small, read-also}
 use Rattle.big_endian.proofs.number_at.Statement.{statement}
 use Rattle.big_endian.proofs.number_at.Tie as tie
 
-returns-2 : tie.Need-returns-2
-returns-2 c =
-    let r = c .before .before in
-    read-none (and-right (le-leb _ widest (r .before .if1 .left)) (sym (r .has-room .ensures) ∙ not-true _ (c .before .if2 .taken))) (c .missing2 .ensures)
-
--- the bytes of the number are there
-there : (c : tie.After-value) → (c .before .before .before .before .before .args .at + c .before .before .before .before .before .args .width
-    ≤ length (c .before .before .before .before .before .args .bytes .now))
-there c = leb-true _ _ (sym (c .before .before .has-room .ensures) ∙ not-false _ (c .before .if2 .left))
+-- a width that is asked here may be asked of the longer number
+short : (c : tie.After-long-at) → c .before .before .before .args .width ≤ longest
+short c = omega (arith, c .before .if1 .left)
 
 pub number-at-spec : {M : Type 1} → statement M
 number-at-spec =
     tie.close
     (tie.spec
+    (λ c. read-none (and-left _ (lt-leb _ _ (c .if1 .taken))))
     (λ c κs. search needs)
-    (λ c. read-none (and-left _ (lt-leb _ _ (c .before .if1 .taken))) (c .missing .ensures))
-    (λ c κs. search needs) (λ c κs. search needs) returns-2
-    (λ c κs. (leb-true _ _ (sym (c .before .has-room .ensures) ∙ not-false _ (c .if2 .left)), c .before .before .if1 .left))
-    (λ c. omega (arith, small-four _ (c .value .result) (c .before .before .before .if1 .left) (c .value .ensures .is-good)))
-    (λ c. search needs)
-    (λ c. read-one (c .before .before .before .if1 .left) (there c) (c .value .ensures)))
+    (λ c.
+    let a = c .before in
+    record { fits = small-within {w = widest} (a .before .if1 .left) (read-small (short a) (a .long-at .ensures)) })
+    (λ c. let a = c .before in read-also (short a) (a .long-at .ensures) (a .before .if1 .left)))

@@ -1,8 +1,10 @@
 use mathlib.Core.Path.{_≡_}
 use Prim.Native.Nat.{_+_, _-_, _≤_, _<_}
+use native.Mathlib.Nat.{lt-of-le-of-lt, le-add-right}
 use native.Mathlib.Omega.{arith}
 use borrow.Author.Needs.{needs}
-use Rattle.big_endian.proofs.Digits.{Digits, digits-none, digits-more, digits-all, small-four}
+use Rattle.big_endian.specs.Numbers.{longest}
+use Rattle.big_endian.proofs.Digits.{Digits, digits-none, digits-more, digits-all, next-within}
 use Rattle.big_endian.proofs.value.Statement.{statement}
 use Rattle.big_endian.proofs.value.Tie as tie
 
@@ -15,16 +17,19 @@ abbrev μ-loop : tie.MeasureT-loop
 abbrev start : tie.At-loop Inv-loop μ-loop → tie.Start Inv-loop μ-loop
 start c = c .before .before
 
--- the number so far fits in four bytes, and the next byte is one
-small : (c : tie.In-loop Inv-loop μ-loop) → c .before .loop .number < 4294967296
-small c =
-    let l = c .before .loop in
-    small-four (l .i) (l .number) (omega (arith, start (c .before) .pre .1)) (l .inv .1 .small)
-
 byte : (c : tie.After-wide Inv-loop μ-loop) → c .wide .result < 256
 byte c =
     let a = c .before .before .before in
     omega (arith, c .wide .ensures, c .before .shared-slice-known2 .given (start a .args .at + a .loop .i))
+
+-- the number with one byte more is one of at most eight bytes
+added : tie.Need-add-number Inv-loop μ-loop
+added c =
+    let a = c .before .before .before in
+    record { fits = next-within {w = longest} (omega (arith, start a .pre .1)) (a .loop .inv .1 .small) (byte c) }
+
+multiplied : tie.Need-mul-number Inv-loop μ-loop
+multiplied c = record { fits = lt-of-le-of-lt (le-add-right _ (c .wide .result)) (added c .fits) }
 
 loop-again : tie.Need-loop-again Inv-loop μ-loop
 loop-again c =
@@ -44,6 +49,5 @@ value-spec =
     Inv-loop μ-loop
     (λ c. (omega arith, digits-none _ _))
     (λ c. search needs) (λ c. search needs) (λ c κs. search needs)
-    (λ c. omega (arith, small (c .before .before)))
-    (λ c. omega (arith, small (c .before .before), byte c))
+    multiplied added
     (λ c. search needs) (λ c. search needs) loop-again returns)

@@ -5,10 +5,10 @@ use Rattle.drawing.proofs.text.show_first.Statement.{statement}
 use Rattle.drawing.proofs.text.show_first.Tie as tie
 
 abbrev Inv-loop : tie.InvT-loop
-Inv-loop sheet kind items count margin named₀ i₀ named i = Unit {0}
+Inv-loop sheet kind items lowest highest count margin named₀ i₀ named i = Unit {0}
 
 abbrev μ-loop : tie.MeasureT-loop
-μ-loop sheet kind items count margin named₀ i₀ named i = length items - i
+μ-loop sheet kind items lowest highest count margin named₀ i₀ named i = length items - i
 
 pub show-first-spec : {M : Type 1} → statement M
 show-first-spec =

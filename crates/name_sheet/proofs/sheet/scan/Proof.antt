@@ -8,8 +8,8 @@ use native.Mathlib.Omega.{arith}
 use lib.ListN.{length}
 use Rattle.big_endian.specs.Parsing.{Parsed}
 use Rattle.big_endian.proofs.Rows.{low-next}
-use Rattle.name_sheet.specs.Sheet.{LegalEntry, entry-bytes}
-use Rattle.name_sheet.specs.Reading.{entry-in, noted}
+use Rattle.name_sheet.specs.Sheet.{LegalSheetEntry, entry-bytes}
+use Rattle.name_sheet.specs.Reading.{entry-there, noted}
 use Rattle.name_sheet.proofs.EntryLaws.{entry-length, entry-elements}
 use Rattle.name_sheet.proofs.Scanning.{Scanning, scan-start, scan-more, scan-end, scan-broken}
 use Rattle.name_sheet.proofs.sheet.scan.Statement.{statement}
@@ -30,7 +30,7 @@ start c = c .before .before .before
 
 -- the entry that was read
 entry : (c : tie.Else1 Inv-loop μ-loop) → (let s = start (head c) .args .sheet .now in let r = c .before .before .entry-at .result in
-    Parsed LegalEntry entry-bytes s (head c .loop .at) (entry-in s (head c .loop .at) r) (r .next))
+    Parsed LegalSheetEntry entry-bytes s (head c .loop .at) (entry-there s (head c .loop .at) r) (r .next))
 entry c = c .before .before .entry-at .ensures .found (not-false _ (c .if1 .left))
 
 -- its order fits in 64 bits, and it has bytes
@@ -40,7 +40,7 @@ small c = (entry c .is-good .kind, entry c .is-good .number)
 onward : (c : tie.Else1 Inv-loop μ-loop) → (let r = c .before .before .entry-at .result in
     (head c .loop .at + 7 ≤ r .next) × (r .next ≤ length (start (head c) .args .sheet .now)))
 onward c =
-    let e = entry-in (start (head c) .args .sheet .now) (head c .loop .at) (c .before .before .entry-at .result) in
+    let e = entry-there (start (head c) .args .sheet .now) (head c .loop .at) (c .before .before .entry-at .result) in
     (omega (arith, entry c .ends, entry-length e), entry c .room)
 
 loop-again : tie.Need-loop-again Inv-loop μ-loop
@@ -61,7 +61,7 @@ returns c f =
     ∙ scan-broken (l .inv) inside
     (⊎-elim (λ w. absurd (omega (arith, inside, w .left)))
     (⊎-elim (λ w z r g h e. w .1 .ensures .missing (not-true _ (w .3 .taken)) z r g e)
-    (λ w. low-next entry-elements (entry-in s (l .at) (w .1 .result)) (w .1 .ensures .found (not-false _ (w .3 .left))) (w .6 .taken)))
+    (λ w. low-next entry-elements (entry-there s (l .at) (w .1 .result)) (w .1 .ensures .found (not-false _ (w .3 .left))) (w .6 .taken)))
     (c .before .before .loop-test .came)) f
 
 pub scan-spec : {M : Type 1} → statement M

@@ -13,6 +13,9 @@ use Rattle.region_archive.proofs.reading.body_at.Tie as tie
 abbrev regions : tie.Else2 → tie.Else1
 regions c = c .before .before
 
+abbrev start : tie.Else1 → tie.Start
+start c = c .before .before .before .before .before .before
+
 abbrev version : tie.Else3 → tie.Else2
 version c = c .before .before .before .before .before
 
@@ -31,37 +34,38 @@ sections c =
     let y = bundles c in
     let v = version y in
     let x = regions v in
-    three-sections (x .before .before .before .regions-at .ensures) (not-false _ (x .if1 .left)) (y .before .before .before .section-at .ensures)
-    (not-false _ (y .if3 .left)) (c .before .before .before .section-at2 .ensures) (v .before .version .ensures) (omega (arith, v .if2 .left))
-    (not-false _ (c .if4 .left))
+    three-sections (start x .args .first) (x .before .before .before .regions-at .ensures) (not-false _ (x .if1 .left))
+    (y .before .before .before .section-at .ensures) (not-false _ (y .if3 .left)) (c .before .before .before .section-at2 .ensures)
+    (v .before .has-version .ensures) (not-false _ (v .if2 .left)) (not-false _ (c .if4 .left))
 
 returns : tie.Need-returns
 returns c =
     let a = c .before .before .before .before .before .before .before .args in
     let r = c .before .before .before .before .regions-at in
-    no-body (c .refused .ensures) (no-regions (a .bytes .now) (a .at) (r .ensures .answer .missing (not-true _ (c .before .if1 .taken))))
+    no-body (c .refused .ensures) (no-regions (a .first) (a .bytes .now) (a .at) (r .ensures .answer .missing (not-true _ (c .before .if1 .taken))))
 
 returns-2 : tie.Need-returns-2
 returns-2 c =
     let x = c .before .before .before in
     no-body (c .refused2 .ensures)
-    (version-differs (x .before .before .before .regions-at .ensures) (not-false _ (x .if1 .left)) (c .before .before .version .ensures)
-    (λ e. omega (arith, c .before .if2 .taken)))
+    (version-differs (start x .args .first) (x .before .before .before .regions-at .ensures) (not-false _ (x .if1 .left))
+    (c .before .before .has-version .ensures) (not-true _ (c .before .if2 .taken)))
 
 returns-3 : tie.Need-returns-3
 returns-3 c =
     let x = regions (c .before .before .before .before .before .before) in
     no-body (c .refused3 .ensures)
-    (bundles-missing (x .before .before .before .regions-at .ensures) (not-false _ (x .if1 .left)) (c .before .before .before .before .section-at .ensures)
-    (not-true _ (c .before .if3 .taken)))
+    (bundles-missing (start x .args .first) (x .before .before .before .regions-at .ensures) (not-false _ (x .if1 .left))
+    (c .before .before .before .before .section-at .ensures) (not-true _ (c .before .if3 .taken)))
 
 returns-4 : tie.Need-returns-4
 returns-4 c =
     let y = c .before .before .before .before .before .before in
     let x = regions (version y) in
     no-body (c .refused4 .ensures)
-    (connections-missing (x .before .before .before .regions-at .ensures) (not-false _ (x .if1 .left)) (y .before .before .before .section-at .ensures)
-    (not-false _ (y .if3 .left)) (c .before .before .before .before .section-at2 .ensures) (not-true _ (c .before .if4 .taken)))
+    (connections-missing (start x .args .first) (x .before .before .before .regions-at .ensures) (not-false _ (x .if1 .left))
+    (y .before .before .before .section-at .ensures) (not-false _ (y .if3 .left)) (c .before .before .before .before .section-at2 .ensures)
+    (not-true _ (c .before .if4 .taken)))
 
 slice-aggregate-of-flat : tie.Need-slice-aggregate-of-flat
 slice-aggregate-of-flat c =

@@ -4,7 +4,8 @@ use native.Mathlib.Omega.{arith}
 use lib.ListN.{length}
 use borrow.Author.Needs.{needs}
 use Rattle.region_graph.specs.Calls.{first-no}
-use Rattle.region_archive.specs.File.{oldest, latest, front-questions}
+use Rattle.region_archive.specs.Image.{latest}
+use Rattle.region_archive.specs.File.{oldest, front-questions}
 use Rattle.region_archive.proofs.FileReads.{stopped, reads-refused, long-enough, body-reads}
 use Rattle.region_archive.proofs.reading.read.Statement.{statement}
 use Rattle.region_archive.proofs.reading.read.Tie as tie

@@ -19,8 +19,9 @@ returns c =
     record {
       size = length-set (a .row .now) 0 255;
       answer =
-          part-sign (s .pre .1 .0) (a .all) (drop-byte b (a .at) (omega arith) ∙ ap (λ (n : ℕ). n ∷ drop (a .at + 1) b) (c .if2 .taken)) (omega arith)
-          (getD-set-same (a .row .now) 0 255 0 (omega (arith, s .pre .1 .1)));
+          part-sign (a .form) (s .pre .0 .1 .0) (a .all)
+          (drop-byte b (a .at) (omega arith) ∙ ap (λ (n : ℕ). n ∷ drop (a .at + 1) b) (c .if2 .taken)) (omega arith)
+          (getD-set-same (a .row .now) 0 255 0 (omega (arith, s .pre .0 .1 .1)));
     }
 
 returns-2 : tie.Need-returns-2
@@ -31,7 +32,7 @@ returns-2 c =
     record {
       size = r .ensures .size;
       answer =
-          part-from-list (s .pre .1 .0) (a .all)
+          part-from-list (a .form) (s .pre .0 .1 .0) (a .all)
           (not-everything (a .bytes .now) (a .at)
           (⊎-elim (λ w h e. w .2 .left e) (λ w h e. omega arith) (c .before .before .before .before .if1 .came)))
           (r .ensures .answer);

@@ -8,8 +8,10 @@ use Rattle.region_archive.proofs.sections.second_at.Tie as tie
 
 returns-2 : tie.Need-returns-2
 returns-2 c =
-    let a = c .before .before .before .before in
-    second-read (a .number-at .ensures .found (not-false _ (c .before .before .if1 .left))) (a .before .before .before .pre .1) (c .second-good .ensures)
+    let w = c .before in
+    let a = w .before .before .before .before in
+    second-read (a .number-at .ensures .found (not-false _ (w .before .before .if1 .left))) (a .before .before .before .pre .1) (w .low-word .ensures)
+    (c .second-good .ensures)
 
 pub second-at-spec : {M : Type 1} → statement M
 second-at-spec =
@@ -19,4 +21,4 @@ second-at-spec =
     (λ c.
     let p = c .before .before .before .before .before .pre in
     second-missing (no-number (omega arith) (c .before .before .number-at .ensures) (p .0) (not-true _ (c .if1 .taken))))
-    (λ c. search needs) (λ c. search needs) (λ c κs. search needs) (λ c. search needs) returns-2)
+    (λ c. search needs) (λ c κs. search needs) (λ c. search needs) (λ c. search needs) (λ c κs. search needs) (λ c. search needs) returns-2)

@@ -62,7 +62,7 @@ abbrev end-of : tie.At-records Inv-fields μ-fields Inv-records μ-records → �
 end-of c = c .records .base + c .before .width .result
 
 abbrev whole : tie.After-field-key Inv-fields μ-fields Inv-records μ-records → tie.At-fields Inv-fields μ-fields Inv-records μ-records
-whole c = c .before .before .before .before .before
+whole c = c .before .before .before .before .before .before .before
 
 -- the answer about the count, with the section's limit
 counted : (c : tie.After-count-at Inv-fields μ-fields Inv-records μ-records)
@@ -162,7 +162,7 @@ done c =
     let v = f .fields in
     let r = f .before .before .before .length-at .result in
     let e : v .field ≡ field-count (source a .section) =
-    omega (arith, a .before .before .field-count .ensures, v .inv .0, c .before .before .before .before .fields-test .left) in
+    omega (arith, a .before .before .field-count .ensures, v .inv .0, c .before .before .before .before .before .before .fields-test .left) in
     record {
       stands = stands (f .before);
       fields =
@@ -174,7 +174,7 @@ done c =
 
 ordered : (c : tie.After-field-key Inv-fields μ-fields Inv-records μ-records)
     → c .field-key .result ≡ key (source (outer (whole c)) .section) (read-element (done c) .elem)
-ordered c = order-is (done c) refl refl (c .field-key .ensures)
+ordered c = order-is (done c) (c .before .before .before .low-word .ensures) (c .before .low-word2 .ensures) (c .field-key .ensures)
 
 add-least : tie.Need-add-least Inv-fields μ-fields Inv-records μ-records
 add-least c =
@@ -192,7 +192,7 @@ records-again c =
     let l = outer (whole c) .records .inv .1 in
     let v = whole c .fields .inv .1 in (
       omega (arith, whole c .before .before .before .before .records-test .taken),
-      (l .0, (v .1 .0 ∙ l .1 .0, recording-more (done c) (l .1 .1) (c .before .before .before .if4 .left) (v .0) (ordered c))),
+      (l .0, (v .1 .0 ∙ l .1 .0, recording-more (done c) (l .1 .1) (c .before .before .before .before .before .if4 .left) (v .0) (ordered c))),
     )
 
 -- the rows are as many as they were
@@ -262,11 +262,12 @@ section-at-spec =
     (λ c.
     let f = c .before .before .before in
     omega (arith, reached f, outer f .before .width .ensures, wide (source (outer f) .section)))
-    (λ c. omega (arith, room (c .before .before .before .before .before .before .before) .1))
-    (λ c. omega (arith, room (c .before .before .before .before .before .before .before) .1))
+    (λ c κs. search needs)
+    (λ c. omega (arith, room (c .before .before .before .before .before .before .before .before) .1))
+    (λ c. omega (arith, room (c .before .before .before .before .before .before .before .before) .1))
     (λ c.
-    let f = c .before .before .before .before in
+    let f = c .before .before .before .before .before in
     omega (arith, reached f, outer f .before .width .ensures, wide (source (outer f) .section)))
-    (λ c κs. search needs) add-least add-n
+    (λ c κs. search needs) (λ c κs. search needs) add-least add-n
     (λ c. omega (arith, whole c .before .before .before .before .records-test .taken))
     records-again kept returns-2)

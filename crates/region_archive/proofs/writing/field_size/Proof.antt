@@ -5,7 +5,7 @@ use borrow.Author.Needs.{needs}
 use lib.ListN.{length}
 use Rattle.region_graph.proofs.Lists.{all-at}
 use Rattle.big_endian.proofs.Digits.{big-length}
-use Rattle.region_archive.specs.RecordFields.{PartFits, fields-in, first-width}
+use Rattle.region_archive.specs.RecordFields.{CodePartFits, fields-in, first-width}
 use Rattle.region_archive.proofs.Records.{first-field, part-field}
 use Rattle.region_archive.proofs.Fits.{few-fields, narrow-first}
 use Rattle.region_archive.proofs.writing.field_size.Statement.{statement}
@@ -24,8 +24,8 @@ returns c =
 
 returns-3 : tie.Need-returns-3
 returns-3 c =
-    let s = c .before .before .before in
-    let e = part-field (s .args .section) (s .args .t3) (s .args .field) _ (omega arith) (inside s) in
+    let s = c .before .before .before .before in
+    let e = part-field (s .args .section) (s .args .t3) (s .args .field) _ (omega arith) (inside s) (c .before .form-of .ensures .0) in
     (c .part-size .ensures .0 ∙ sym (ap length e), c .part-size .ensures .1)
 
 pub field-size-spec : {M : Type 1} → statement M
@@ -35,5 +35,8 @@ field-size-spec =
     (λ c κs. search needs) (λ c. search needs)
     (λ c. omega (arith, few-fields (c .before .args .section), c .before .pre .1))
     (λ c. omega (arith, few-fields (c .before .args .section), c .before .pre .1))
-    (λ c κs. let s = c .before .before in all-at PartFits (s .args .t3 .parts) _ _ (inside s) (s .pre .0 .each))
+    (λ c κs. search needs)
+    (λ c κs.
+    let s = c .before .before .before in
+    (c .form-of .ensures .1, all-at CodePartFits (s .args .t3 .parts) _ _ (inside s) (s .pre .0 .each)))
     returns (λ c. search needs) returns-3)

@@ -3,7 +3,7 @@ use Prim.Native.Nat.{ℕ, _*_, _-_, _≤_}
 use native.Mathlib.Omega.{arith}
 use borrow.Author.Needs.{needs}
 use lib.ListN.{length, length-append}
-use Rattle.region_archive.specs.Bounds.{part-bound}
+use Rattle.region_archive.specs.Bounds.{field-bound}
 use Rattle.region_archive.specs.RecordFields.{bytes-to, field-bytes, fields-in, field-count}
 use Rattle.region_archive.proofs.Pieces.{bytes-next}
 use Rattle.region_archive.proofs.Fits.{few-fields}
@@ -12,7 +12,7 @@ use Rattle.region_archive.proofs.writing.fields_size.Tie as tie
 
 abbrev Inv-loop : tie.InvT-loop
 Inv-loop section values total size₀ field₀ size field =
-    (field ≤ total) × (size ≡ length (bytes-to (field-bytes section) field (fields-in values))) × (size ≤ field * part-bound)
+    (field ≤ total) × (size ≡ length (bytes-to (field-bytes section) field (fields-in values))) × (size ≤ field * field-bound)
 
 abbrev μ-loop : tie.MeasureT-loop
 μ-loop section values total size₀ field₀ size field = total - field

@@ -4,14 +4,15 @@ use Prim.Native.Nat.{ℕ, _+_, _-_, _≤_, _<_}
 use native.Mathlib.Omega.{arith}
 use borrow.Author.Needs.{needs}
 use lib.ListN.{length, getD}
-use Rattle.region_graph.specs.declared.numbers.Numbers.{Numbers}
-use Rattle.region_graph.specs.Record.{part-in}
 use Rattle.region_graph.proofs.Lists.{all-at}
 use Rattle.text_lines.proofs.Writes.{wrote-is, wrote-length}
 use Rattle.big_endian.specs.Bytes.{big}
 use Rattle.big_endian.proofs.Digits.{big-length}
 use Rattle.region_archive.specs.Image.{part-bytes}
-use Rattle.region_archive.specs.RecordFields.{PartFits, fields-in, first-width, field-bytes}
+use Rattle.region_archive.specs.Forms.{element-bytes, form-of}
+use Rattle.region_archive.specs.RecordFields.{part-of, CodePartFits, fields-in, first-width, field-bytes}
+use Rattle.region_archive.specs.declared.forms.Form.{Form}
+use Rattle.region_archive.specs.declared.record_fields.Codes.{Codes}
 use Rattle.region_archive.proofs.Records.{first-field, second-field, part-field}
 use Rattle.region_archive.proofs.Fits.{few-fields}
 use Rattle.region_archive.proofs.writing.put_field.Statement.{statement}
@@ -22,9 +23,9 @@ inside : (s : tie.Start) → s .args .field - 2 < length (s .args .t5 .parts)
 inside s = omega (arith, few-fields (s .args .section), s .pre .1 .0, s .pre .0 .size)
 
 -- and its bytes are the field's
-part-is : (s : tie.Start) → 2 ≤ s .args .field → (d : Numbers)
+part-is : (s : tie.Start) → 2 ≤ s .args .field → (d : Codes) → {f : Form} → f ≡ form-of (s .args .section) (s .args .field)
     → field-bytes (s .args .section) (s .args .field) (fields-in (s .args .t5))
-    ≡ part-bytes (big 4) (part-in (getD (s .args .t5 .parts) (s .args .field - 2) d))
+    ≡ part-bytes (element-bytes f) (part-of (getD (s .args .t5 .parts) (s .args .field - 2) d))
 part-is s h d = part-field (s .args .section) (s .args .t5) (s .args .field) d h (inside s)
 
 put-number-requires : tie.Need-put-number-requires
@@ -40,9 +41,10 @@ put-number-requires-2 c κs =
 
 put-part-requires : tie.Need-put-part-requires
 put-part-requires c κs =
-    let s = c .before .before .before .before in (
-      all-at PartFits (s .args .t5 .parts) _ _ (inside s) (s .pre .0 .each),
-      subst (λ (l : List ℕ). s .args .at + length l ≤ length (s .args .buffer .now)) (part-is s (omega arith) _) (s .pre .1 .1),
+    let f = c .before .form-of .ensures in
+    let s = c .before .before .before .before .before in (
+      (f .1, all-at CodePartFits (s .args .t5 .parts) _ _ (inside s) (s .pre .0 .each)),
+      subst (λ (l : List ℕ). s .args .at + length l ≤ length (s .args .buffer .now)) (part-is s (omega arith) _ (f .0)) (s .pre .1 .1),
     )
 
 returns : tie.Need-returns
@@ -66,10 +68,12 @@ put-field-spec =
     (λ c. search needs) (λ c κs. search needs) put-number-requires (λ c. search needs) put-number-requires-2 (λ c. search needs)
     (λ c. omega (arith, few-fields (c .before .before .args .section), c .before .before .pre .1 .0))
     (λ c. omega (arith, few-fields (c .before .before .args .section), c .before .before .pre .1 .0))
-    put-part-requires
+    (λ c κs. search needs) put-part-requires
     (λ c. wrote-length (c .before .before .put-number .ensures))
     returns
     (λ c. wrote-length (c .before .before .put-number2 .ensures))
     returns-2
     (λ c. wrote-length (c .before .before .put-part .ensures))
-    (λ c. wrote-is (sym (part-is (c .before .before .before .before .before .before .before) (omega arith) _)) (c .before .before .put-part .ensures)))
+    (λ c.
+    let f = c .before .before .before .before in
+    wrote-is (sym (part-is (f .before .before .before .before) (omega arith) _ (f .form-of .ensures .0))) (c .before .before .put-part .ensures)))

@@ -55,7 +55,8 @@ values-are : (c : tie.At-match-came Inv-loop μ-loop) → (let a = c .before .be
     ValuesAre s (c .match .values) (element-at s (model a) (a .loop .i)))
 values-are c =
     let p = here (c .before) in
-    ⊎-elim (λ w. bundle-element p (w .1 .given .1) _ (w .3 .ensures) (w .4)) (λ w. connection-element p (w .1 .given .1) _ (w .3 .ensures) (w .4))
+    ⊎-elim (λ w. bundle-element p (w .1 .given .1) _ (w .3 .ensures (w .1 .given .0 .0)) (w .4))
+    (λ w. connection-element p (w .1 .given .1) _ (w .3 .ensures (w .1 .given .0 .0)) (w .4))
     (c .match .came)
 
 put-record-requires : tie.Need-put-record-requires Inv-loop μ-loop

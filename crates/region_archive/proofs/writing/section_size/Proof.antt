@@ -5,6 +5,7 @@ use native.Mathlib.Omega.{arith}
 use borrow.Author.Needs.{needs}
 use lib.ListN.{length, length-append}
 use Rattle.region_graph.specs.Model.{Model}
+use Rattle.region_archive.specs.Bounds.{fields-bound}
 use Rattle.region_archive.specs.RecordFields.{record-bytes, fields-in, fields-of, ValuesAre}
 use Rattle.region_archive.proofs.RecordLaws.{same-bytes}
 use Rattle.region_archive.proofs.Fits.{few-elements}
@@ -15,7 +16,7 @@ use Rattle.region_archive.proofs.writing.section_size.Tie as tie
 
 abbrev Inv-loop : tie.InvT-loop
 Inv-loop section bundles connections total size₀ i₀ size i =
-    (i ≤ total) × (size ≡ 1 + length (records-to section (placed-model bundles connections total) i)) × (size ≤ 1 + i * 327)
+    (i ≤ total) × (size ≡ 1 + length (records-to section (placed-model bundles connections total) i)) × (size ≤ 1 + i * (2 + fields-bound))
 
 abbrev μ-loop : tie.MeasureT-loop
 μ-loop section bundles connections total size₀ i₀ size i = total - i
@@ -50,7 +51,8 @@ values-are : (c : tie.At-match-came Inv-loop μ-loop) → (let a = c .before .be
     ValuesAre s (c .match .values) (element-at s (model a) (a .loop .i)))
 values-are c =
     let p = here (c .before) in
-    ⊎-elim (λ w. bundle-element p (w .1 .given .1) _ (w .3 .ensures) (w .4)) (λ w. connection-element p (w .1 .given .1) _ (w .3 .ensures) (w .4))
+    ⊎-elim (λ w. bundle-element p (w .1 .given .1) _ (w .3 .ensures (w .1 .given .0 .0)) (w .4))
+    (λ w. connection-element p (w .1 .given .1) _ (w .3 .ensures (w .1 .given .0 .0)) (w .4))
     (c .match .came)
 
 few : (c : tie.At-loop Inv-loop μ-loop) → c .before .count .result ≤ 64

@@ -1,17 +1,16 @@
-use mathlib.Core.Path.{_≡_, ap, _∙_}
+use mathlib.Core.Path.{_≡_, _∙_}
 use Prim.Native.Nat.{ℕ, _+_, _≤_}
 use native.Mathlib.Omega.{arith}
 use borrow.Author.Needs.{needs}
 use lib.ListN.{length}
-use Rattle.region_graph.specs.Model.{Model}
+use Rattle.region_graph.specs.Model.{Model, Legal}
 use Rattle.region_graph.specs.Record.{meaning}
 use Rattle.text_lines.proofs.Writes.{wrote-is, wrote-then, wrote-length}
 use Rattle.big_endian.specs.Bytes.{big, counted}
-use Rattle.region_archive.specs.Image.{version, body}
+use Rattle.region_archive.specs.Image.{latest, body-in}
 use Rattle.region_archive.specs.RecordFields.{section-bytes}
 use Rattle.region_archive.specs.declared.record_fields.Section.the-variants as Section
 use Rattle.region_archive.proofs.Images.{body-size, image-size, image-pieces, regions-size, wrote-image, no-image}
-use Rattle.region_archive.proofs.Members.{set-members}
 use Rattle.region_archive.proofs.Writes.{wrote-leaves}
 use Rattle.region_archive.proofs.writing.write.Statement.{statement}
 use Rattle.region_archive.proofs.writing.write.Tie as tie
@@ -34,41 +33,39 @@ abbrev bundles-put : tie.After-slice-known6 → tie.After-slice-known5
 bundles-put c = c .before .before .before .before
 
 -- the sizes of the parts are small, and make that of the body
-few : (c : tie.After-section-size2) → c .before .before .region-count .result + c .before .section-size .result + c .section-size2 .result ≤ 42000
+few : (c : tie.After-section-size2) → c .before .before .region-count .result + c .before .section-size .result + c .section-size2 .result ≤ 83000
 few c = omega (arith, c .before .before .region-count .ensures .1, c .before .section-size .ensures .1, c .section-size2 .ensures .1)
 
+legal : (c : tie.After-section-size2) → Legal (model c)
+legal c = c .before .before .before .before .pre .good
+
 size-is : (c : tie.After-section-size2)
-    → 1 + c .before .before .region-count .result + c .before .section-size .result + c .section-size2 .result ≡ length (body (model c))
+    → 1 + c .before .before .region-count .result + c .before .section-size .result + c .section-size2 .result ≡ length (body-in latest (model c))
 size-is c =
-    omega (arith, body-size (model c), c .before .before .region-count .ensures .0, c .before .section-size .ensures .0, c .section-size2 .ensures .0)
+    let whole = body-size latest (model c) (legal c) in
+    omega (arith, whole, c .before .before .region-count .ensures .0, c .before .section-size .ensures .0, c .section-size2 .ensures .0)
 
 abbrev sized : tie.After-slice-known2 → tie.Else1
-sized c = c .before .before .before .before .before .before
-
--- the version that is written is the model's
-version-is : (c : tie.After-version) → c .version .result ≡ version (model (c .before .before .before .before) .regions)
-version-is c =
-    let a = c .before .before .before .before .before .before .before .before in
-    c .version .ensures ∙ ap version (set-members (a .args .graph) (a .pre) (c .before .region-set .ensures))
+sized c = c .before .before .before .before
 
 -- the lengths of the sections, and that the buffer has places for all
 abbrev regions-length : tie.Else1 → ℕ
 regions-length c = length (counted (big 1) (model (c .before) .regions))
 
 abbrev bundles-length : tie.Else1 → ℕ
-bundles-length c = length (section-bytes Section.Bundles (model (c .before)))
+bundles-length c = length (section-bytes (Section.Bundles latest) (model (c .before)))
 
 abbrev connections-length : tie.Else1 → ℕ
-connections-length c = length (section-bytes Section.Connections (model (c .before)))
+connections-length c = length (section-bytes (Section.Connections latest) (model (c .before)))
 
 fits : (c : tie.Else1)
     → 5 + (regions-length c + (bundles-length c + connections-length c)) ≤ length (c .before .before .before .before .before .args .buffer .now)
-fits c = let m = model (c .before) in omega (arith, c .if1 .left, size-is (c .before), body-size m, regions-size (m .regions))
+fits c = let m = model (c .before) in omega (arith, c .if1 .left, size-is (c .before), body-size latest m (legal (c .before)), regions-size (m .regions))
 
 returns : tie.Need-returns
 returns c =
     let a = c .before in
-    no-image (model a) (a .before .before .before .before .args .buffer .now) (omega (arith, image-size (model a), size-is a, c .if1 .taken))
+    no-image (model a) (a .before .before .before .before .args .buffer .now) (omega (arith, image-size latest (model a), size-is a, c .if1 .taken))
 
 put-regions-requires : tie.Need-put-regions-requires
 put-regions-requires c κs =
@@ -126,7 +123,7 @@ returns-2 c =
     let v = version-put d in
     let s = sized v .before in
     wrote-image (model s)
-    (wrote-is (image-pieces (model s) (version-is (v .before .before .before)) (size-is s))
+    (wrote-is (image-pieces (model s) (legal s) (size-is s))
     (wrote-then (v .before .before .put-number .ensures)
     (wrote-then (d .before .before .put-number2 .ensures)
     (wrote-then (b .before .before .put-regions .ensures)
@@ -142,8 +139,7 @@ write-spec =
     (λ c. omega (arith, few c))
     (λ c. omega (arith, few c))
     returns
-    (λ c κs. search needs) (λ c κs. search needs)
-    (λ c κs. omega (arith, c .before .before .before .if1 .left))
+    (λ c κs. omega (arith, c .before .if1 .left))
     (λ c κs.
     let v = c .before in
     wrote-leaves (v .before .before .put-number .ensures) 4 (omega (arith, fits (sized v))))

@@ -1,14 +1,15 @@
 use mathlib.Core.Path.{_≡_, refl, sym, ap, _∙_}
 use mathlib.Core.Logic.{⊎-elim}
 use borrow.Author.Needs.{needs}
-use Rattle.region_graph.specs.Model.{Connection, Word, connection-before}
+use Rattle.region_graph.specs.Model.{Connection, entries, Word, EntryFits, connection-before}
 use Rattle.region_graph.specs.Calls.{Call, number, accepted, end-questions, connection-questions}
 use Rattle.region_graph.specs.Record.{meaning, store-connection, store-connections, connection-in}
 use Rattle.region_graph.specs.Places.{ShortConnection, connection-meets}
 use Rattle.region_graph.specs.Promise.{new-connection}
 use Rattle.region_graph.specs.declared.connections.ConnectionTest.the-variants.{After}
 use Rattle.region_graph.proofs.Lists.{all-of, position-le, insert-stored}
-use Rattle.region_graph.proofs.Legal.{first-step, second-step, Connectable, connectable, part-words, part-short}
+use Rattle.region_graph.proofs.Columns.{entries-fit}
+use Rattle.region_graph.proofs.Legal.{first-step, second-step, Connectable, connectable, part-each, part-short}
 use Rattle.region_graph.proofs.Storing.{stored-as, connection-back, regions-stored, bundles-stored, connections-stored, stored-graph, refused, accepts}
 use Rattle.region_graph.proofs.Graph.connect.Statement.{statement}
 use Rattle.region_graph.proofs.Graph.connect.Tie as tie
@@ -17,11 +18,12 @@ use Rattle.region_graph.proofs.Graph.connect.Tie as tie
 abbrev given : tie.Start → Connection
 given s =
     let a = s .args in
-    new-connection (a .source) (a .target) (a .bundles .now) (a .all-packages) (a .packages .now) (a .all-services) (a .services .now)
+    new-connection (a .source) (a .target) (a .bundles .now) (a .all-packages)
+    (entries (a .packages .now) (a .lowest .now) (a .highest .now)) (a .all-services) (a .services .now)
 
 -- the call's start
 abbrev start : tie.Joined1 → tie.Start
-start c = c .before .before .before .before .before .before
+start c = c .before .before .before .before .before .before .before .before
 
 -- the number of the two steps is the call's
 asked : (c : tie.Joined1) → c .if1 .number ≡ number (meaning (start c .args .self)) (Call.connect (given (start c)))
@@ -52,14 +54,14 @@ short c =
     }
 
 -- the new place stores the connection
-stores : (c : tie.After-part-copied2)
+stores : (c : tie.After-part-copied)
     → (let s = start (c .before .before .before .before) in let a = s .args in
     record {
       source = a .source;
       target = a .target;
       bundles = c .before .before .copied .result;
-      packages = c .before .part-copied .result;
-      services = c .part-copied2 .result;
+      packages = c .before .package-part-copied .result;
+      services = c .part-copied .result;
     }
     ≡ store-connection (given s))
 stores c =
@@ -68,8 +70,8 @@ stores c =
       source = a .source;
       target = a .target;
       bundles = c .before .before .copied .ensures i;
-      packages = c .before .part-copied .ensures i;
-      services = c .part-copied2 .ensures i;
+      packages = c .before .package-part-copied .ensures i;
+      services = c .part-copied .ensures i;
     }
 
 with-requires : tie.Need-with-requires
@@ -96,9 +98,11 @@ returns c =
     let g = a .self in
     let x = given s in
     accepts g (Call.connect x) (s .pre) (asked (c .before .before .before .before .before .before)) (
-      all-of Word 0 (a .bundles .now) (λ i h. known .before .before .shared-slice-known .given i .fits),
-      part-words (a .all-packages) (a .packages .now) (all-of Word 0 (a .packages .now) (λ i h. known .before .shared-slice-known2 .given i .fits)),
-      part-words (a .all-services) (a .services .now) (all-of Word 0 (a .services .now) (λ i h. known .shared-slice-known3 .given i .fits)),
+      all-of Word 0 (a .bundles .now) (λ i h. known .before .before .before .before .shared-slice-known .given i .fits),
+      part-each EntryFits (a .all-packages) (entries (a .packages .now) (a .lowest .now) (a .highest .now))
+          (entries-fit (a .packages .now) (a .lowest .now) (a .highest .now) (λ i. known .before .before .before .shared-slice-known2 .given i .fits)
+          (λ i. known .before .before .shared-slice-known3 .given i .fits) (λ i. known .before .shared-slice-known4 .given i .fits)),
+      part-each Word (a .all-services) (a .services .now) (all-of Word 0 (a .services .now) (λ i h. known .shared-slice-known5 .given i .fits)),
     )
     (c .before .before .before .before .before .if2 .taken)
     (stored-graph (accepted (meaning g) (Call.connect x)) (regions-stored g (s .pre)) (bundles-stored g (s .pre) .stored)
@@ -113,6 +117,7 @@ pub connect-spec : {M : Type 1} → statement M
 connect-spec =
     tie.close
     (tie.spec (λ c κs. search needs)
-    (λ c κs. let s = c .before .before .before .before .before .before in connections-stored (s .args .self) (s .pre)) (λ c κs. passed c .bundles-few)
+    (λ c κs. let s = c .before .before .before .before .before .before .before .before in connections-stored (s .args .self) (s .pre))
+    (λ c κs. passed c .bundles-few)
     (λ c κs. passed (c .before) .packages-within) (λ c κs. passed (c .before .before) .services-within)
     (λ c κs. let s = start (c .before .before .before .before) in connections-stored (s .args .self) (s .pre)) with-requires returns returns-2)

@@ -1,13 +1,14 @@
 use mathlib.Core.Path.{_≡_, refl, sym, ap, _∙_}
 use mathlib.Core.Logic.{⊎-elim}
 use borrow.Author.Needs.{needs}
-use Rattle.region_graph.specs.Model.{Bundle, Word, bundle-before}
+use Rattle.region_graph.specs.Model.{Bundle, packages, Word, bundle-before}
 use Rattle.region_graph.specs.Calls.{Call, number, accepted, provided-questions, bundle-questions}
 use Rattle.region_graph.specs.Record.{meaning, store-bundle, store-bundles, bundle-in}
 use Rattle.region_graph.specs.Places.{ShortBundle, bundle-meets}
 use Rattle.region_graph.specs.Promise.{new-bundle}
 use Rattle.region_graph.specs.declared.bundles.BundleTest.the-variants.{After}
 use Rattle.region_graph.proofs.Lists.{all-of, position-le, insert-stored}
+use Rattle.region_graph.proofs.Columns.{packages-fit}
 use Rattle.region_graph.proofs.Legal.{first-step, second-step, Installable, installable}
 use Rattle.region_graph.proofs.Storing.{stored-as, bundle-back, regions-stored, bundles-stored, connections-stored, stored-graph, refused, accepts}
 use Rattle.region_graph.proofs.Graph.install.Statement.{statement}
@@ -15,11 +16,11 @@ use Rattle.region_graph.proofs.Graph.install.Tie as tie
 
 -- the bundle that is handed in
 abbrev given : tie.Start → Bundle
-given s = let a = s .args in new-bundle (a .region) (a .location) (a .packages .now) (a .services .now)
+given s = let a = s .args in new-bundle (a .region) (a .location) (packages (a .numbers .now) (a .versions .now)) (a .services .now)
 
 -- the call's start
 abbrev start : tie.Joined1 → tie.Start
-start c = c .before .before .before .before .before .before
+start c = c .before .before .before .before .before .before .before
 
 -- the number of the two steps is the call's
 asked : (c : tie.Joined1) → c .if1 .number ≡ number (meaning (start c .args .self)) (Call.install (given (start c)))
@@ -39,17 +40,17 @@ passed : (c : tie.Then2) → (let s = start (c .before) in Installable (meaning 
 passed c = let s = start (c .before) in installable (meaning (s .args .self)) (given s) (sym (asked (c .before)) ∙ c .if2 .taken)
 
 -- the new place stores the bundle
-stores : (c : tie.After-provided-copied2)
+stores : (c : tie.After-provided-copied)
     → (let s = start (c .before .before .before) in let a = s .args in
-    record { location = a .location; region = a .region; packages = c .before .provided-copied .result; services = c .provided-copied2 .result }
+    record { location = a .location; region = a .region; packages = c .before .packages-copied .result; services = c .provided-copied .result }
     ≡ store-bundle (given s))
 stores c =
     let a = start (c .before .before .before) .args in
-    λ i. record { location = a .location; region = a .region; packages = c .before .provided-copied .ensures i; services = c .provided-copied2 .ensures i }
+    λ i. record { location = a .location; region = a .region; packages = c .before .packages-copied .ensures i; services = c .provided-copied .ensures i }
 
 install-number-requires : tie.Need-install-number-requires
 install-number-requires c κs =
-    let s = c .before .before .before .before .before .before in (bundles-stored (s .args .self) (s .pre), connections-stored (s .args .self) (s .pre))
+    let s = c .before .before .before .before .before .before .before in (bundles-stored (s .args .self) (s .pre), connections-stored (s .args .self) (s .pre))
 
 with-requires : tie.Need-with-requires
 unfolding meaning
@@ -73,8 +74,9 @@ returns c =
     let b = given s in
     accepts g (Call.install b) (s .pre) (asked (c .before .before .before .before .before)) (
       s .fits .location .fits,
-      all-of Word 0 (b .packages) (λ i h. known .before .shared-slice-known .given i .fits),
-      all-of Word 0 (b .services) (λ i h. known .shared-slice-known2 .given i .fits),
+      packages-fit (s .args .numbers .now) (s .args .versions .now) (λ i. known .before .before .shared-slice-known .given i .fits)
+          (λ i. known .before .shared-slice-known2 .given i .fits),
+      all-of Word 0 (b .services) (λ i h. known .shared-slice-known3 .given i .fits),
     )
     (c .before .before .before .before .if2 .taken)
     (stored-graph (accepted (meaning g) (Call.install b)) (regions-stored g (s .pre))

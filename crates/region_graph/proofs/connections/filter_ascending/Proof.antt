@@ -6,11 +6,13 @@ use Rattle.region_graph.proofs.connections.filter_ascending.Tie as tie
 returns : tie.Need-returns
 returns c =
     let a = c .before .before .before in
-    rw (sym (a .before .ascending .ensures) ∙ a .if1 .taken, sym (c .before .before .part-ascending .ensures) ∙ c .before .if2 .taken)
-    (c .part-ascending2 .ensures)
+    rw (sym (a .before .ascending .ensures) ∙ a .if1 .taken, sym (c .before .before .package-part-ascending .ensures) ∙ c .before .if2 .taken)
+    (c .part-ascending .ensures)
 
 returns-2 : tie.Need-returns-2
-returns-2 c = rw (sym (c .before .before .before .ascending .ensures) ∙ c .before .before .if1 .taken, sym (c .before .part-ascending .ensures) ∙ c .if2 .left)
+returns-2 c =
+    let a = c .before .before in
+    rw (sym (a .before .ascending .ensures) ∙ a .if1 .taken, sym (c .before .package-part-ascending .ensures) ∙ c .if2 .left)
 
 returns-3 : tie.Need-returns-3
 returns-3 c = rw (sym (c .before .ascending .ensures) ∙ c .if1 .left)

@@ -5,16 +5,16 @@ use Rattle.region_graph.proofs.flat.connection_of.Tie as tie
 
 returns : tie.Need-returns
 returns c =
-    let t = c .before .before .before in
-    let l = c .before .before .before .before .before .before .before .before in
-    let a = l .before .before .before .before .before .before .before .before .before .args in
-    connection-found (a .regions) (a .row .now) (t .before .has .result) (t .has2 .result)
-    (numbers-decoded (l .before .before .before .before .before .before .list-at .ensures))
-    (part-decoded (l .before .before .before .part-at .ensures)) (part-decoded (l .part-at2 .ensures)) (t .before .has .ensures) (t .has2 .ensures)
+    let t = c .before .before .before .before .before in
+    let o = t .before .before .before .before .before in
+    let p = o .before .before .before in
+    let a = p .before .before .before .before .before .args in
+    connection-found (a .regions) (a .row .now) (numbers-decoded (p .before .before .list-at .ensures)) (p .package-part-at .ensures)
+    (part-decoded (o .part-at .ensures)) (t .before .before .region-within .ensures) (t .region-within2 .ensures)
 
 pub connection-of-spec : {M : Type 1} → statement M
 connection-of-spec =
     tie.close
-    (tie.spec (λ c. search needs) (λ c κs. search needs) (λ c. search needs) (λ c. search needs) (λ c. search needs) (λ c κs. search needs)
-    (λ c. search needs) (λ c. search needs) (λ c. search needs) (λ c. search needs) (λ c κs. search needs) (λ c. search needs) (λ c. search needs)
-    (λ c κs. search needs) (λ c κs. search needs) returns)
+    (tie.spec (λ c. search needs) (λ c κs. search needs) (λ c. search needs) (λ c. search needs) (λ c κs. search needs) (λ c. search needs)
+    (λ c. search needs) (λ c. search needs) (λ c. search needs) (λ c κs. search needs) (λ c. search needs) (λ c κs. search needs) (λ c. search needs)
+    (λ c κs. search needs) returns)

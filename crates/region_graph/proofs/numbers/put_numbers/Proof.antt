@@ -12,11 +12,9 @@ Inv-loop places₀ list i₀ places i = Putting list places₀ places i
 abbrev μ-loop : tie.MeasureT-loop
 μ-loop places₀ list i₀ places i = length list - i
 
-loop-again : tie.Need-loop-again Inv-loop μ-loop
-loop-again c = putting-next (c .before .before .loop .inv) 0 (omega arith)
-
 pub put-numbers-spec : {M : Type 1} → statement M
 put-numbers-spec =
     tie.close
     (tie.spec Inv-loop μ-loop (λ c. putting-none (c .pre)) (λ c. search needs) (λ c. search needs) (λ c. search needs) (λ c. search needs)
-    (λ c. search needs) (λ c. search needs) loop-again (λ c. c .before .loop .inv .long) (λ c. putting-end (c .before .loop .inv) (omega arith)))
+    (λ c. search needs) (λ c. search needs) (λ c. putting-next (c .before .before .loop .inv) 0 (omega arith)) (λ c. c .before .loop .inv .long)
+    (λ c. putting-end (c .before .loop .inv) (omega arith)))

@@ -2,7 +2,7 @@ use borrow.Author.Needs.{needs}
 use Rattle.region_graph.specs.Record.{numbers-of}
 use Rattle.region_graph.proofs.Arrays.{filled-within, filled-part}
 use Rattle.region_graph.proofs.Storing.{named-stored, numbers-filled, package-part-stored, service-part-stored}
-use Rattle.region_graph.proofs.Views.{part-none}
+use Rattle.region_graph.proofs.Views.{passes-none}
 use Rattle.region_graph.proofs.view.connection_passes.Statement.{statement}
 use Rattle.region_graph.proofs.view.connection_passes.Tie as tie
 
@@ -22,5 +22,5 @@ connection-passes-spec =
     (tie.spec array-share-prefix-items slice-aggregate-has-number (λ c κs. search needs)
     (λ c κs. package-part-stored (c .before .before .args .c) (c .before .before .pre))
     (λ c κs. service-part-stored (c .before .before .args .c) (c .before .before .pre)) returns
-    (λ c. rw (c .before .before .match .keys2) (c .part-passes .ensures)) (λ c. rw (c .before .before .match .keys3) (c .part-passes2 .ensures))
-    (λ c. rw (part-none _ _ (c .match .rest .0 .0 .1) (c .match .rest .0 .1) (c .match .rest .1))))
+    (λ c. rw (c .before .before .match .keys2) (c .package-part-passes .ensures)) (λ c. rw (c .before .before .match .keys3) (c .part-passes .ensures))
+    (λ c. rw (passes-none _ _ _ (c .match .rest .0 .0 .1) (c .match .rest .0 .1) (c .match .rest .1))))

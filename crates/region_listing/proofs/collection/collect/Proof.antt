@@ -1,19 +1,18 @@
 use borrow.Author.Needs.{needs}
 use mathlib.Core.Path.{_≡_, refl, sym, ap, _∙_, subst}
 use mathlib.Core.List.{List}
-use Prim.Native.Nat.{ℕ, _-_, _≤_}
+use Prim.Native.Nat.{_-_, _≤_}
 use native.Mathlib.Omega.{arith}
 use lib.ListN.{length, getD, take}
 use lib.Seq.{take-all}
-use Rattle.region_graph.specs.Model.{Bundle}
-use Rattle.region_graph.specs.Items.{provided}
-use Rattle.region_graph.specs.Record.{meaning, provided-of, bundles-of, no-bundle}
+use Rattle.region_graph.specs.Model.{Package, Bundle}
+use Rattle.region_graph.specs.Record.{meaning, packages-of, bundles-of, no-bundle}
 use Rattle.region_graph.specs.Places.{BundlesStored}
 use Rattle.region_graph.proofs.Storing.{bundle-stored}
-use Rattle.region_routes.specs.Hooks.{kind-number}
-use Rattle.region_listing.specs.Listing.{held, joined-all}
-use Rattle.region_listing.specs.Counts.{Collected, numbers-in}
-use Rattle.region_listing.proofs.Collecting.{in-places, places-stored, places-mean, places-count, places-few, place-means, held-next, held-room}
+use Rattle.region_listing.specs.Listing.{joined-all, provided, held}
+use Rattle.region_listing.specs.Counts.{Collected, items-in}
+use Rattle.region_listing.proofs.Collecting.{collected-own, held-next, held-room}
+use Rattle.region_listing.proofs.Collecting.{in-places, places-stored, places-mean, places-count, places-few, place-means}
 use Rattle.region_listing.proofs.collection.collect.Statement.{statement}
 use Rattle.region_listing.proofs.collection.collect.Tie as tie
 
@@ -25,12 +24,12 @@ abbrev μ-loop : tie.MeasureT-loop
 μ-loop kind all₀ places count i₀ all i = count - i
 
 loop-holds : tie.Need-loop-holds Inv-loop μ-loop
-unfolding numbers-in held
+unfolding items-in held
 loop-holds c =
     let s = c .before .before in (
       omega arith,
       places-stored (s .pre) (c .before .bundle-places .ensures) (c .bundle-count .ensures),
-      record { count = omega arith; size = refl; those = refl },
+      record { count = omega arith; numbers-size = refl; versions-size = refl; those = refl },
     )
 
 array-copy-out-b : tie.Need-array-copy-out-b Inv-loop μ-loop
@@ -42,11 +41,11 @@ all-bundles c = let l = c .before .before .before in bundles-of (in-places (l .b
 
 brought : (c : tie.After-provided-by Inv-loop μ-loop)
     → (let s = c .before .before .before .before .before .before .args in
-    provided-of (c .provided-by .result) ≡ provided (kind-number (s .kind)) (getD (all-bundles c) (c .before .before .before .loop .i) no-bundle))
+    packages-of (c .provided-by .result) ≡ provided (s .kind) (getD (all-bundles c) (c .before .before .before .loop .i) no-bundle))
 brought c =
     let s = c .before .before .before .before .before .before .args in
     let l = c .before .before .before .loop in
-    c .provided-by .ensures .1 ∙ ap (λ (x : Bundle). provided (kind-number (s .kind)) x) (place-means (l .inv .1) (l .i) _ (omega arith))
+    c .provided-by .ensures .1 ∙ ap (λ (x : Bundle). provided (s .kind) x) (place-means (l .inv .1) (l .i) _ (omega arith))
 
 provided-by-requires : tie.Need-provided-by-requires Inv-loop μ-loop
 provided-by-requires c κs =
@@ -58,7 +57,7 @@ join-requires c κs =
     let s = c .before .before .before .before .before .before in
     let l = c .before .before .before .loop in
     let room = held-room (all-bundles c) (l .inv .1 .good) (s .args .kind) (l .i) (omega (arith, places-count (l .inv .1))) in (
-      record { count = l .inv .2 .count; size = l .inv .2 .size; those = refl },
+      collected-own (l .inv .2),
       (c .provided-by .ensures .0, omega (arith, room, ap length (l .inv .2 .those), ap length (brought c))),
     )
 
@@ -72,9 +71,10 @@ loop-again c =
       l .inv .1,
       record {
         count = r .count;
-        size = r .size;
+        numbers-size = r .numbers-size;
+        versions-size = r .versions-size;
         those =
-            r .those ∙ ap (λ (xs : List ℕ). joined-all xs (provided-of (c .before .provided-by .result))) (l .inv .2 .those)
+            r .those ∙ ap (λ (xs : List Package). joined-all xs (packages-of (c .before .provided-by .result))) (l .inv .2 .those)
             ∙ ap (joined-all (held (s .kind) (take (l .i) bs))) (brought (c .before))
             ∙ sym (held-next (s .kind) bs (l .i) (omega (arith, places-count (l .inv .1))));
       },

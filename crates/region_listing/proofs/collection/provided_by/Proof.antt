@@ -1,13 +1,14 @@
 use borrow.Author.Needs.{needs}
 use mathlib.Core.Path.{refl}
 use native.Mathlib.Omega.{arith}
-use Rattle.region_graph.specs.Record.{provided-of, store-provided}
-use Rattle.region_graph.proofs.Storing.{packages-stored, services-stored}
+use Rattle.region_graph.specs.Record.{packages-of, store-packages}
+use Rattle.region_graph.proofs.Storing.{packages-stored, services-stored, provided-filled}
+use Rattle.region_listing.proofs.Collecting.{cleared-stored}
 use Rattle.region_listing.proofs.collection.provided_by.Statement.{statement}
 use Rattle.region_listing.proofs.collection.provided_by.Tie as tie
 
 returns : tie.Need-returns
-unfolding provided-of store-provided
+unfolding packages-of store-packages
 returns c = rw (c .enum-told .given .1) (record { stored = refl; good = omega arith }, refl)
 
 returns-2 : tie.Need-returns-2
@@ -18,7 +19,7 @@ returns-2 c =
 returns-3 : tie.Need-returns-3
 returns-3 c =
     let s = c .before .before .before in
-    rw (c .before .enum-told3 .given .1) (services-stored (s .args .b) (s .pre), refl)
+    rw (c .before .enum-told3 .given .1) (cleared-stored (provided-filled (s .args .b .services) (services-stored (s .args .b) (s .pre))))
 
 pub provided-by-spec : {M : Type 1} → statement M
 provided-by-spec =

@@ -49,8 +49,8 @@ returns-3 c =
     event-answers m (s .args .kind) (s .args .listeners .now) n (s .args .out .now) (installed (q .before)) (q .if2 .left)
     (c .before .before .keep-standing .ensures
     ∙ ap (λ (ls : List ℕ). kept-outcome ls (s .args .out .now))
-    (keep-stands m (item (kind-number (s .args .kind)) n) (s .pre .good)
-    (d .regions-seeing .ensures ∙ ap (λ (k : ℕ). set-of (sees m (item k n))) (d .before .kind-number .ensures))
+    (keep-stands m (item (kind-number (s .args .kind)) n 0) (s .pre .good)
+    (d .regions-seeing .ensures ∙ ap (λ (k : ℕ). set-of (sees m (item k n 0))) (d .before .kind-number .ensures))
     (place-table (s .pre .good) (q .before .before .before .before .before .before .before .before .offers .ensures .table)) (s .args .listeners .now)))
 
 pub event-spec : {M : Type 1} → statement M

@@ -26,11 +26,11 @@ asked : (c : tie.Else1) → (let s = c .before .before .before .before .before .
     Valid (s .graph) × ((c .before .before .place .given .0 .0 < regions) × (length (s .candidates .now) ≤ length (s .out .now))))
 asked c =
     let s = c .before .before .before .before .before .before .before in
-    (s .pre, (region-inside (meaning (s .args .graph)) (s .pre .good) (s .args .location) (place (c .before)), c .if1 .left))
+    (s .pre .0, (region-inside (meaning (s .args .graph)) (s .pre .0 .good) (s .args .location) (place (c .before)), c .if1 .left))
 
 answers : (c : tie.Else1) (a : Outcome Kept (List ℕ)) → (let s = c .before .before .before .before .before .before .before .args in
     let m = meaning (s .graph) in
-    a ≡ kept-outcome (keep (λ n. sees m (item (kind-number (s .kind)) n) (c .before .before .place .given .0 .0)) (s .candidates .now)) (s .out .now)
+    a ≡ kept-outcome (keep (λ n. sees m (item (kind-number (s .kind)) n 0) (c .before .before .place .given .0 .0)) (s .candidates .now)) (s .out .now)
     → a ≡ find-outcome m (s .kind) (s .location) (s .candidates .now) (s .out .now))
 answers c a e =
     let s = c .before .before .before .before .before .before .before .args in
@@ -57,6 +57,6 @@ find-spec =
     (λ c κs. asked (c .before .before))
     (λ c. search needs)
     (λ c. answers (c .before .before .before .before .before) _ (c .before .before .keep-few .ensures))
-    (λ c κs. asked (c .before .before))
+    (λ c κs. let a = asked (c .before .before) in ((a .0, c .before .before .before .before .before .before .before .before .before .pre .1), a .1))
     (λ c. search needs)
     (λ c. answers (c .before .before .before .before .before) _ (c .before .before .keep-many .ensures)))

@@ -14,7 +14,7 @@ use Rattle.region_routes.proofs.hooks.keep_few.Tie as tie
 
 abbrev Inv-loop : tie.InvT-loop
 Inv-loop graph region candidates out₀ kind n₀ i₀ out n i =
-    Keeping (λ (t : Unit {0}) x. sees (meaning graph) (item kind x) region) candidates i n out₀ out
+    Keeping (λ (t : Unit {0}) x. sees (meaning graph) (item kind x 0) region) candidates i n out₀ out
 
 abbrev μ-loop : tie.MeasureT-loop
 μ-loop graph region candidates out₀ kind n₀ i₀ out n i = length candidates - i
@@ -22,7 +22,7 @@ abbrev μ-loop : tie.MeasureT-loop
 -- whether the region sees the candidate at the loop's place
 tested : (c : tie.After-has Inv-loop μ-loop) {b : Bool} → c .has .result ≡ b → (let a = c .before .before .before .before in
     let s = a .before .before .before .before .args in
-    sees (meaning (s .graph)) (item (a .before .kind-number .result) (getD (s .candidates .now) (a .loop .i) 0)) (s .region) ≡ b)
+    sees (meaning (s .graph)) (item (a .before .kind-number .result) (getD (s .candidates .now) (a .loop .i) 0) 0) (s .region) ≡ b)
 tested c e =
     let s = c .before .before .before .before .before .before .before .before in
     has-by (sees _ _) (s .args .region) (c .before .regions-seeing .ensures) (s .pre .1 .0) (c .has .ensures) e
@@ -31,7 +31,7 @@ returns : tie.Need-returns Inv-loop μ-loop
 returns c =
     let s = c .before .before .before .before .before .args in
     keeping-end (c .before .loop .inv) (omega arith) tt
-    ∙ ap (λ (k : ℕ). kept-outcome (keep (λ x. sees (meaning (s .graph)) (item k x) (s .region)) (s .candidates .now)) (s .out .now))
+    ∙ ap (λ (k : ℕ). kept-outcome (keep (λ x. sees (meaning (s .graph)) (item k x 0) (s .region)) (s .candidates .now)) (s .out .now))
     (c .before .before .kind-number .ensures)
 
 pub keep-few-spec : {M : Type 1} → statement M

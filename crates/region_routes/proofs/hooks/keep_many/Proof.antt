@@ -18,16 +18,19 @@ returns c =
     let b = a .before .before .before in
     let s = b .before .before .before .before in
     c .before .before .keep-seen .ensures (meaning (s .args .graph)) (kind-number (s .args .kind))
-    (record { legal = s .pre .0 .good; offered-is = b .offers .ensures .table; passing-is = a .passages .ensures .table })
+    (record {
+      tables = record { legal = s .pre .0 .0 .good; offered-is = b .offers .ensures .table; passing-is = a .passages .ensures .table };
+      by-number = s .pre .0 .1;
+    })
 
 pub keep-many-spec : {M : Type 1} → statement M
 keep-many-spec =
     tie.close
     (tie.spec
     (λ c. search needs)
-    (λ c κs. (c .before .before .before .pre .0, refl))
+    (λ c κs. (c .before .before .before .pre .0 .0, refl))
     (λ c. search needs)
-    (λ c κs. (c .before .before .before .before .before .before .pre .0, refl))
+    (λ c κs. (c .before .before .before .before .before .before .pre .0 .0, refl))
     (λ c. c .before .before .before .before .offers .ensures .room)
     (λ c. holding-long (c .before .before .before .before .before .offers .ensures))
     (λ c. c .before .before .passages .ensures .room)

@@ -7,7 +7,7 @@ use lib.ListN.{length, getD}
 use Rattle.region_graph.specs.Model.{Model}
 use Rattle.region_routes.specs.Chosen.{sees}
 use Rattle.region_routes.specs.Hooks.{item}
-use Rattle.region_routes.specs.Tables.{Tables}
+use Rattle.region_routes.specs.Tables.{NumberTables}
 use Rattle.region_routes.proofs.TableLaws.{preceding-none}
 use Rattle.region_routes.proofs.Keeping.{Keeping, keeping-start, keeping-passed, keeping-failed, keeping-end, has-by}
 use Rattle.region_routes.proofs.hooks.keep_seen.Statement.{statement}
@@ -16,7 +16,7 @@ use Rattle.region_routes.proofs.hooks.keep_seen.Tie as tie
 -- for each model and kind whose tables they are
 abbrev Inv-loop : tie.InvT-loop
 Inv-loop offered passing region candidates out₀ offers passes always n₀ i₀ out n i =
-    Keeping (λ (t : (m : Model) × (k : ℕ) × Tables m k offered passing) x. sees (t .0) (item (t .1) x) region) candidates i n out₀ out
+    Keeping (λ (t : (m : Model) × (k : ℕ) × NumberTables m k offered passing) x. sees (t .0) (item (t .1) x 0) region) candidates i n out₀ out
 
 abbrev μ-loop : tie.MeasureT-loop
 μ-loop offered passing region candidates out₀ offers passes always n₀ i₀ out n i = length candidates - i
@@ -24,8 +24,8 @@ abbrev μ-loop : tie.MeasureT-loop
 -- whether the region sees the candidate at the loop's place
 tested : (c : tie.After-has Inv-loop μ-loop) {b : Bool} → c .has .result ≡ b → (let a = c .before .before .before .before .before .before in
     let s = a .before .before .before .before .before .before .before .before .before .args in
-    (t : (m : Model) × (k : ℕ) × Tables m k (s .offered .now) (s .passing .now))
-    → sees (t .0) (item (t .1) (getD (s .candidates .now) (a .loop .i) 0)) (s .region) ≡ b)
+    (t : (m : Model) × (k : ℕ) × NumberTables m k (s .offered .now) (s .passing .now))
+    → sees (t .0) (item (t .1) (getD (s .candidates .now) (a .loop .i) 0) 0) (s .region) ≡ b)
 tested c e t =
     let s = c .before .before .before .before .before .before .before .before .before .before .before .before .before .before .before in
     has-by (sees (t .0) _) (s .args .region) (c .before .regions-seeing-by .ensures (t .0) (t .1) (t .2)) (s .pre .1 .0) (c .has .ensures) e

@@ -39,7 +39,7 @@ abbrev model : tie.Else2 → Model
 model c = meaning (start c .args .graph)
 
 abbrev wanted : tie.Else2 → Item
-wanted c = item (start c .args .kind) (start c .args .number)
+wanted c = item (start c .args .kind) (start c .args .number) (start c .args .version)
 
 -- the buffer has a place for each region
 room : (c : tie.Else2) → regions ≤ length (start c .args .out .now)
@@ -47,26 +47,26 @@ room c = omega (arith, c .if2 .left)
 
 answers : (c : tie.Else2) {a : Outcome Routed (List ℕ)} → (let s = start c .args in
     a ≡ shown (chosen (model c) (wanted c) (region (c .before .before))) (s .out .now)
-    → a ≡ route-outcome (model c) (s .location) (s .kind) (s .number) (s .out .now))
+    → a ≡ route-outcome (model c) (s .location) (s .kind) (s .number) (s .version) (s .out .now))
 answers c e =
     let s = start c .args in
-    route-answers (model c) (s .location) (s .kind) (s .number) (s .out .now) (place (c .before .before)) (c .before .if1 .left) (room c) e
+    route-answers (model c) (s .location) (s .kind) (s .number) (s .version) (s .out .now) (place (c .before .before)) (c .before .if1 .left) (room c) e
 
 returns : tie.Need-returns
 returns c =
     let s = c .before .before .before .before .args in
-    route-not-installed (meaning (s .graph)) (s .location) (s .kind) (s .number) (s .out .now)
+    route-not-installed (meaning (s .graph)) (s .location) (s .kind) (s .number) (s .version) (s .out .now)
     (sym (c .before .before .region-of .ensures) ∙ c .enum-told .given .1)
 
 returns-2 : tie.Need-returns-2
 returns-2 c =
     let s = c .before .before .before .before .before .before .args in
-    route-not-a-kind (meaning (s .graph)) (s .location) (s .kind) (s .number) (s .out .now) (place (c .before)) (c .if1 .taken)
+    route-not-a-kind (meaning (s .graph)) (s .location) (s .kind) (s .number) (s .version) (s .out .now) (place (c .before)) (c .if1 .taken)
 
 returns-3 : tie.Need-returns-3
 returns-3 c =
     let s = c .before .before .before .before .before .before .before .args in
-    route-no-place (meaning (s .graph)) (s .location) (s .kind) (s .number) (s .out .now) (place (c .before .before)) (c .before .if1 .left)
+    route-no-place (meaning (s .graph)) (s .location) (s .kind) (s .number) (s .version) (s .out .now) (place (c .before .before)) (c .before .if1 .left)
     (omega (arith, c .if2 .taken))
 
 returns-4 : tie.Need-returns-4

@@ -23,7 +23,7 @@ loop-again : tie.Need-loop-again Inv-loop μ-loop
 loop-again c =
     let t = c .before .before .before .before .before .before in
     let s = t .before .before .before .before in
-    appending-next (t .before .loop .inv) (t .loop-test .taken)
+    appending-next (t .before .loop .inv) 0 (t .loop-test .taken)
     (ap (λ (x : ℕ). packed x (s .args .place)) (c .before .before .before .before .wide .ensures .0)) (search needs) (c .before .before .append-one .ensures)
 
 pub append-spec : {M : Type 1} → statement M

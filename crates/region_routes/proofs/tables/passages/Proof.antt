@@ -6,7 +6,7 @@ use Rattle.region_graph.specs.Record.{meaning, connection-in, no-connection}
 use Rattle.region_routes.specs.Hooks.{kind-number}
 use Rattle.region_routes.specs.Tables.{passage}
 use Rattle.region_routes.proofs.TableLoops.{Gathering, gathering-start, gathering-next, gathering-end}
-use Rattle.region_routes.proofs.TableLaws.{PassagesFrom, passages-from, passages-asked}
+use Rattle.region_routes.proofs.TableLaws.{ConnectionsFrom, connections-from, connections-asked, passages-few}
 use Rattle.region_routes.proofs.tables.passages.Statement.{statement}
 use Rattle.region_routes.proofs.tables.passages.Tie as tie
 
@@ -18,18 +18,20 @@ abbrev μ-loop : tie.MeasureT-loop
 μ-loop items₀ kind connections count n₀ i₀ items n i = count - i
 
 from : (c : tie.After-connection-count Inv-loop μ-loop) → (let s = c .before .before .before in
-    PassagesFrom (meaning (s .args .graph)) (s .pre .0 .good) (kind-number (s .args .kind))
+    ConnectionsFrom (meaning (s .args .graph)) (s .pre .0 .good) (passage (kind-number (s .args .kind)))
     (c .before .connection-places .result) (c .connection-count .result))
 from c =
     let s = c .before .before .before in
-    passages-from (meaning (s .args .graph)) (s .pre .0 .good) (kind-number (s .args .kind))
+    let m = meaning (s .args .graph) in
+    let k = kind-number (s .args .kind) in
+    connections-from m (s .pre .0 .good) (passage k) (passages-few m (s .pre .0 .good) k)
     (c .before .connection-places .ensures) (c .connection-count .ensures)
 
 append-passage-requires : tie.Need-append-passage-requires Inv-loop μ-loop
 append-passage-requires c κs =
     let t = c .before .before in
     let s = t .before .before .before .before .before in
-    passages-asked (meaning (s .args .graph)) (s .pre .0 .good) (kind-number (s .args .kind)) (from (t .before .before)) (t .before .loop .inv) _
+    connections-asked (meaning (s .args .graph)) (s .pre .0 .good) (passage (kind-number (s .args .kind))) (from (t .before .before)) (t .before .loop .inv) _
     (t .loop-test .taken)
 
 pub passages-spec : {M : Type 1} → statement M

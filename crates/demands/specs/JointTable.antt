@@ -46,15 +46,15 @@ passing r s bs ps ss = Call.connect (record { source = r; target = s; filter = r
 abbrev pub edition : ℕ → ℕ → Package
 edition n v = record { number = n; version = v }
 
-abbrev pub range : ℕ → ℕ → ℕ → PackageEntry
-range n l h = record { number = n; lowest = l; highest = h }
+abbrev pub entry-between : ℕ → ℕ → ℕ → PackageEntry
+entry-between n l h = record { number = n; lowest = l; highest = h }
 
 -- packages of version 0, and a package part whose entries pass every version
 abbrev pub plain : List ℕ → List Package
 plain ns = map (λ n. edition n 0) ns
 
 abbrev pub ranges : List ℕ → Part PackageEntry
-ranges ns = Part.listed (map (λ n. range n 0 65535) ns)
+ranges ns = Part.listed (map (λ n. entry-between n 0 65535) ns)
 
 abbrev pub graph-g : List Call
 graph-g =
@@ -116,7 +116,7 @@ editions =
     ∷ Call.add-region 1
     ∷ bundle-of 10 0 [] []
     ∷ bundle-of 20 1 (edition 5 8 ∷ edition 5 9 ∷ edition 5 10 ∷ []) []
-    ∷ passing 0 1 [] (Part.listed (range 5 9 9 ∷ [])) (Part.listed [])
+    ∷ passing 0 1 [] (Part.listed (entry-between 5 9 9 ∷ [])) (Part.listed [])
     ∷ passing 1 0 [] Part.everything (Part.listed [])
     ∷ []
 
@@ -181,9 +181,9 @@ rows =
       calls =
           Call.add-region 0
           ∷ Call.add-region 1
-          ∷ passing 0 1 [] (Part.listed (range 5 9 8 ∷ [])) (Part.listed [])
-          ∷ passing 0 1 [] (Part.listed (range 5 9 8 ∷ range 4 0 0 ∷ [])) (Part.listed [])
-          ∷ passing 0 1 [] (Part.listed (range 5 0 9 ∷ range 5 10 20 ∷ [])) (Part.listed [])
+          ∷ passing 0 1 [] (Part.listed (entry-between 5 9 8 ∷ [])) (Part.listed [])
+          ∷ passing 0 1 [] (Part.listed (entry-between 5 9 8 ∷ entry-between 4 0 0 ∷ [])) (Part.listed [])
+          ∷ passing 0 1 [] (Part.listed (entry-between 5 0 9 ∷ entry-between 5 10 20 ∷ [])) (Part.listed [])
           ∷ bundle-of 10 0 (edition 1 7 ∷ edition 1 7 ∷ []) []
           ∷ bundle-of 10 0 (edition 1 0 ∷ edition 1 7 ∷ edition 2 0 ∷ []) []
           ∷ [];

@@ -1,4 +1,5 @@
--- Document 01, "Routes" and "Hooks", and C-15 of document 02: what the route call, the finds and the events answer and leave in the buffer that they are lent.
+-- Document 01, "Routes" and "Hooks", and C-15 of document 02: what the route call, the finds and the events answer and leave in the buffer that
+-- they are lent.
 use mathlib.Core.Bool.{Bool, true, false, _&&_}
 use mathlib.Core.List.{List, [], _∷_, _++_}
 use mathlib.Core.Option.{Option, some, none}

@@ -1,4 +1,4 @@
-use mathlib.Core.Path.{_≡_, sym, _∙_}
+use mathlib.Core.Path.{_≡_, sym}
 use mathlib.Core.Bool.{Bool}
 use native.Mathlib.Omega.{arith}
 use borrow.Author.Needs.{needs}
@@ -13,7 +13,7 @@ use Rattle.region_archive.proofs.query.archive_query_v4.Tie as tie
 
 -- an accepted read, and what its record means
 accepted : (c : tie.Else1) (f : FileMeaning (c .before .before .before .before .args .bytes .now)) → not-refused ≡ read-number f
-accepted c f = sym (c .if1 .left) ∙ c .before .before .read .ensures .says f .number
+accepted c f = omega (arith, c .if1 .left, c .before .before .read .ensures .says f .number)
 
 means : (c : tie.Else1) (f : FileMeaning (c .before .before .before .before .args .bytes .now))
     → meaning (c .before .before .read .result .graph) ≡ read-model f

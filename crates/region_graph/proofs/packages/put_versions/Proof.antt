@@ -6,15 +6,10 @@ use Rattle.region_graph.proofs.Arrays.{Putting, putting-none, putting-n
 use Rattle.region_graph.proofs.packages.put_versions.Statement.{statement}
 use Rattle.region_graph.proofs.packages.put_versions.Tie as tie
 
-abbrev Inv-loop : tie.InvT-loop
-Inv-loop places₀ list i₀ places i = Putting list places₀ places i
-
-abbrev μ-loop : tie.MeasureT-loop
-μ-loop places₀ list i₀ places i = length list - i
-
 pub put-versions-spec : {M : Type 1} → statement M
 put-versions-spec =
     tie.close
-    (tie.spec Inv-loop μ-loop (λ c. putting-none (c .pre)) (λ c. search needs) (λ c. search needs) (λ c. search needs) (λ c. search needs)
-    (λ c. search needs) (λ c. search needs) (λ c. putting-next (c .before .before .loop .inv) 0 (omega arith)) (λ c. c .before .loop .inv .long)
+    (tie.spec (λ places₀ list i₀ places i. Putting list places₀ places i) (λ places₀ list i₀ places i. length list - i) (λ c. putting-none (c .pre))
+    (λ c. search needs) (λ c. search needs) (λ c. search needs) (λ c. search needs) (λ c. search needs) (λ c. search needs)
+    (λ c. putting-next (c .before .before .loop .inv) 0 (omega arith)) (λ c. c .before .loop .inv .long)
     (λ c. putting-end (c .before .loop .inv) (omega arith)))

@@ -40,11 +40,7 @@ loop-again c =
 pub spans-spec : {M : Type 1} → statement M
 spans-spec =
     tie.close
-    (tie.spec Inv-loop μ-loop (λ c κs. c .before .pre .0) (λ c κs. c .before .before .pre .0)
-    (λ c. gathering-start (c .before .before .before .pre .1))
-    (λ c. search needs) (λ c. search needs) (λ c. search needs)
-    append-spans-requires
-    (λ c. search needs)
-    loop-again
+    (tie.spec Inv-loop μ-loop (λ c κs. c .before .pre .0) (λ c κs. c .before .before .pre .0) (λ c. gathering-start (c .before .before .before .pre .1))
+    (λ c. search needs) (λ c. search needs) (λ c. search needs) append-spans-requires (λ c. search needs) loop-again
     (λ c. c .before .loop .inv .long ∙ sym (c .before .before .before .before .before .pre .1))
     (λ c. gathering-end (from (c .before .before)) (c .before .loop .inv) (omega arith)))

@@ -3,15 +3,9 @@ use borrow.Author.Needs.{needs}
 use Rattle.script_cases.proofs.answers.show_places.Statement.{statement}
 use Rattle.script_cases.proofs.answers.show_places.Tie as tie
 
-abbrev Inv-loop : tie.InvT-loop
-Inv-loop places count after i₀ i = Unit {0}
-
-abbrev μ-loop : tie.MeasureT-loop
-μ-loop places count after i₀ i = 128 - i
-
 pub show-places-spec : {M : Type 1} → statement M
 show-places-spec =
     tie.close
-    (tie.spec Inv-loop μ-loop
+    (tie.spec (λ places count after i₀ i. Unit {0}) (λ places count after i₀ i. 128 - i)
     (λ c. search needs) (λ c. search needs) (λ c. search needs) (λ c κs. search needs) (λ c. search needs) (λ c. search needs)
     (λ c. search needs) (λ c κs. search needs) (λ c. search needs))

@@ -7,15 +7,9 @@ use Rattle.io.proofs.Counting.{counts}
 use Rattle.script_cases.proofs.buffers.fill.Statement.{statement}
 use Rattle.script_cases.proofs.buffers.fill.Tie as tie
 
-abbrev Inv-loop : tie.InvT-loop
-Inv-loop places₀ count next₀ n₀ places next n = (length places ≡ length places₀) × (n ≤ length places₀)
-
-abbrev μ-loop : tie.MeasureT-loop
-μ-loop places₀ count next₀ n₀ places next n = length places₀ - n
-
 pub fill-spec : {M : Type 1} → statement M
 fill-spec =
     tie.close
-    (tie.spec
-    Inv-loop μ-loop (λ c. search needs) (λ c. search needs) (λ c. counts _ _ (omega arith)) (λ c. search needs) (λ c. search needs) (λ c κs. search needs)
+    (tie.spec (λ places₀ count next₀ n₀ places next n. (length places ≡ length places₀) × (n ≤ length places₀))
+    (λ places₀ count next₀ n₀ places next n. length places₀ - n) (λ c. search needs) (λ c. search needs) (λ c. counts _ _ (omega arith)) (λ c. search needs) (λ c. search needs) (λ c κs. search needs)
     (λ c. search needs) (λ c. search needs) (λ c. search needs) (λ c. search needs) (λ c. counts _ _ (omega arith)))

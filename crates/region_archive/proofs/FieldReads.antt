@@ -1,5 +1,5 @@
 -- One field more of a record is read into its row.
-use mathlib.Core.Path.{_≡_, refl, sym, ap, _∙_, subst, transport}
+use mathlib.Core.Path.{_≡_, refl, sym, ap, _∙_, subst}
 use mathlib.Core.Bool.{Bool, false}
 use mathlib.Core.List.{List, [], _∷_, _++_, append-nil}
 use Prim.Native.Nat.{ℕ, zero, suc, _+_, _-_, _*_, _%_, _^_, _≤_, _<_}
@@ -245,26 +245,20 @@ place-room s e k h l = subst (λ (m : ℕ). (part-place m k + (m + 1) ≤ row-wi
 
 -- a part was put to its places
 module _ {s : Section} {rs : List ℕ} {floor : ℕ} {bytes : List ℕ} {at : ℕ} (old : List ℕ) {m k : ℕ} (e : m ≡ most-in s) (two : 2 ≤ k) where
-  pub part-put : part-place m k ≤ length old → {all : Bool} → all ≡ part-open s k → {form : Form} → form ≡ form-of s k
-      → {lent sub : List ℕ} {r : FieldAt} → PartRead form m all bytes at lent sub r
+  pub part-put : part-place m k ≤ length old → {lent sub : List ℕ} {r : FieldAt}
+      → PartRead (form-of s k) (most-in s) (part-open s k) bytes at lent sub r
       → length (putMid (part-place m k) (length old - part-place m k) old sub) ≡ length old
       → FieldRead s rs floor k bytes at old (putMid (part-place m k) (length old - part-place m k) old sub) r
-  part-put room {all} a {form} g {lent} {sub} {r} q size =
+  part-put room {lent} {sub} {r} q size =
       subst (λ (l : List ℕ). FieldRead s rs floor k bytes at old l r) (sym whole)
       (subst (λ (i : ℕ). FieldRead s rs floor i bytes at old (take (part-place m k) old ++ sub) r) two-more
       (subst (λ (n : ℕ). FieldRead s rs floor (suc (suc (k - 2))) bytes at old (take (part-place n k) old ++ sub) r) (sym e)
       (part-read s rs floor old sub (k - 2) (subst (λ (n : ℕ). part-place n k ≤ length old) e room)
-      (transport (λ i. PartRead (formed i) (e i) (opened i) bytes at lent sub r) q)
+      (subst (λ (i : ℕ). PartRead (form-of s i) (most-in s) (part-open s i) bytes at lent sub r) (sym two-more) q)
       (subst (λ (n : ℕ). length (take (part-place n k) old ++ sub) ≡ length old) e (sym (ap length whole) ∙ size)))))
     where
       two-more : suc (suc (k - 2)) ≡ k
       two-more = omega arith
-
-      formed : form ≡ form-of s (suc (suc (k - 2)))
-      formed = g ∙ ap (form-of s) (sym two-more)
-
-      opened : all ≡ part-open s (suc (suc (k - 2)))
-      opened = a ∙ ap (part-open s) (sym two-more)
 
       whole : putMid (part-place m k) (length old - part-place m k) old sub ≡ take (part-place m k) old ++ sub
       whole =

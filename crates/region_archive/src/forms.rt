@@ -1,12 +1,9 @@
 // How the elements of a list stand in a file, and the element at a place. An element is one number, its code.
 ghost use mathlib.Core.Path.{_≡_};
 ghost use Prim.Native.Nat.{_≤_};
-ghost use lib.Dec.{leb};
 ghost use lib.ListN.{length};
-ghost use Rattle.region_graph.specs.Lists.{pick};
 ghost use Rattle.big_endian.specs.Parsing.{Answer};
-ghost use Rattle.region_archive.specs.Forms.{«element-bytes», «code-key», «code-next», NextCode, FormFits, «form-of»};
-ghost use Rattle.region_archive.specs.Forms.{«numbers-form», «packages-form», «bare-packages-form», «entries-form», «bare-entries-form»};
+ghost use Rattle.region_archive.specs.Forms.{«element-bytes», «code-key», «code-next», NextCode, FormFits, «element-form», «form-of»};
 use crate::record_fields::Section;
 use big_endian::LongAt;
 use big_endian::long_at;
@@ -36,76 +33,85 @@ const PACKAGES: usize = 2;
 
 const PACKAGE_PART: usize = 3;
 
-// The form of numbers.
-fn numbers_form() -> Form
-    ensures { λ r. ⌜ (r ≡ numbers-form) × FormFits r ⌝ }
-{
-    Form {
-        width: 4,
-        skipped: 0,
-        rest: 0,
-        lower: 0,
-    }
+// What a list has: numbers, packages or entries; packages and entries without their versions in files before version 3.
+pub enum Elements {
+    Numbers,
+    Packages,
+    BarePackages,
+    Entries,
+    BareEntries,
 }
 
-// The form of packages in a file of a version: without their versions they have version 0.
-fn packages_form(version: usize) -> Form
-    ensures { λ r. ⌜ (r ≡ pick (leb 3 version) packages-form bare-packages-form) × FormFits r ⌝ }
+// The form of elements. Where they are a constant, so is the form.
+pub fn element_form(elements: Elements) -> Form
+    ensures { λ r. ⌜ (r ≡ element-form elements) × FormFits r ⌝ }
 {
-    if version < VERSIONED {
-        return Form {
+    match elements {
+        Elements::Numbers => Form {
+            width: 4,
+            skipped: 0,
+            rest: 0,
+            lower: 0,
+        },
+        Elements::Packages => Form {
+            width: 6,
+            skipped: 0,
+            rest: 0,
+            lower: 0,
+        },
+        Elements::BarePackages => Form {
             width: 4,
             skipped: 16,
             rest: NO_VERSION,
             lower: 0,
-        };
-    }
-    Form {
-        width: 6,
-        skipped: 0,
-        rest: 0,
-        lower: 0,
-    }
-}
-
-// The form of entries in a file of a version: without their versions they pass every version.
-fn entries_form(version: usize) -> Form
-    ensures { λ r. ⌜ (r ≡ pick (leb 3 version) entries-form bare-entries-form) × FormFits r ⌝ }
-{
-    if version < VERSIONED {
-        return Form {
+        },
+        Elements::Entries => Form {
+            width: 8,
+            skipped: 0,
+            rest: 0,
+            lower: 32,
+        },
+        Elements::BareEntries => Form {
             width: 4,
             skipped: 32,
             rest: EVERY_VERSION,
             lower: 32,
-        };
-    }
-    Form {
-        width: 8,
-        skipped: 0,
-        rest: 0,
-        lower: 32,
+        },
     }
 }
 
-// The form of the list in a field of a record.
-pub fn form_of(section: Section, field: usize) -> Form
-    ensures { λ r. ⌜ (r ≡ form-of section field) × FormFits r ⌝ }
+// What the list in a field of a record has.
+pub fn elements_of(section: Section, field: usize) -> Elements
+    ensures { λ r. ⌜ element-form r ≡ form-of section field ⌝ }
 {
     match section {
         Section::Bundles(version) => {
-            if field == PACKAGES {
-                return packages_form(version);
+            if field != PACKAGES {
+                return Elements::Numbers;
             }
-            numbers_form()
+            if version < VERSIONED {
+                return Elements::BarePackages;
+            }
+            Elements::Packages
         }
         Section::Connections(version) => {
-            if field == PACKAGE_PART {
-                return entries_form(version);
+            if field != PACKAGE_PART {
+                return Elements::Numbers;
             }
-            numbers_form()
+            if version < VERSIONED {
+                return Elements::BareEntries;
+            }
+            Elements::Entries
         }
     }
+}
+
+// The form of that list.
+pub fn form_of(section: Section, field: usize) -> Form
+    ensures { λ r. ⌜ (r ≡ form-of section field) × FormFits r ⌝ }
+{
+    let elements = elements_of(section, field);
+    element_form(elements)
 }
 
 // The key of a code: what is left of it without the lower bits.

@@ -23,6 +23,19 @@ pub fn put_number(buffer: &mut [u8], at: usize, width: usize, number: usize) -> 
     at + width
 }
 
+// The same for an element of a list. A call with the width as a constant writes all its bytes at once.
+pub fn put_element(buffer: &mut [u8], at: usize, width: usize, number: usize) -> usize
+    requires { ⌜ at + width ≤ length (now buffer) ⌝ }
+    ensures { λ r. ⌜ WrittenAt (now (buffer .entry)) (now (buffer .exit)) at (big width number) r ⌝ }
+{
+    match width {
+        4 => put_number(buffer, at, 4, number),
+        6 => put_number(buffer, at, 6, number),
+        8 => put_number(buffer, at, 8, number),
+        _ => put_number(buffer, at, width, number),
+    }
+}
+
 // The byte at a place, where it counts at most so many.
 pub fn count_at(bytes: &[u8], at: usize, most: usize) -> NumberAt
     requires { ⌜ (at ≤ length (now bytes)) × (most < 256) ⌝ }

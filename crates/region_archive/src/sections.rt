@@ -5,13 +5,15 @@ ghost use Prim.Native.Nat.{_≤_, _<_, _+_, _*_};
 ghost use lib.ListN.{length};
 ghost use Rattle.region_graph.specs.Size.{regions, «most-listed»};
 ghost use Rattle.region_graph.specs.Sets.{members};
-ghost use Rattle.region_archive.specs.Forms.{FormFits};
-ghost use Rattle.region_archive.specs.RecordFields.{«field-count», «first-good», «second-good», «part-open», «most-records», «row-width»};
+ghost use Rattle.region_archive.specs.Forms.{FormFits, «element-form», «form-of»};
+ghost use Rattle.region_archive.specs.RecordFields.{«field-count», «first-good», «second-good», «part-open», «most-in», «most-records», «row-width»};
 ghost use Rattle.region_archive.specs.Sections.{ListRead, PartRead, FieldRead, LengthRead, RegionsRead, SectionRead};
+use crate::forms::Elements;
 use crate::forms::Form;
 use crate::forms::code_at;
 use crate::forms::code_key;
-use crate::forms::form_of;
+use crate::forms::element_form;
+use crate::forms::elements_of;
 use crate::numbers::count_at;
 use crate::numbers::low_word;
 use crate::record_fields::Section;
@@ -79,20 +81,52 @@ fn list_at(bytes: &[u8], at: usize, most: usize, form: Form, row: &mut [u64]) ->
     FieldAt { ok: true, next: to }
 }
 
-// The part at a place: a list, or the sign for everything where it may stand.
-fn part_at(bytes: &[u8], at: usize, most: usize, all: bool, form: Form, row: &mut [u64]) -> FieldAt
+// The list of such elements, at a place. Each sort has a call of its own, in which the numbers of its form are constants.
+fn elements_at(bytes: &[u8], at: usize, most: usize, elements: Elements, row: &mut [u64]) -> FieldAt
     requires { ⌜ (at ≤ length (now bytes)) × ((most ≤ most-listed) × (most + 1 ≤ length (now row))) ⌝ }
-    requires { ⌜ FormFits form ⌝ }
-    ensures { λ r. ⌜ PartRead form most all (now (bytes .entry)) at (now (row .entry)) (now (row .exit)) r ⌝ }
+    ensures { λ r. ⌜ ListRead (element-form elements) most (now (bytes .entry)) at (now (row .entry)) (now (row .exit)) r ⌝ }
+{
+    match elements {
+        Elements::Numbers => list_at(bytes, at, most, element_form(Elements::Numbers), row),
+        Elements::Packages => list_at(bytes, at, most, element_form(Elements::Packages), row),
+        Elements::BarePackages => list_at(
+            bytes,
+            at,
+            most,
+            element_form(Elements::BarePackages),
+            row,
+        ),
+        Elements::Entries => list_at(bytes, at, most, element_form(Elements::Entries), row),
+        Elements::BareEntries => list_at(bytes, at, most, element_form(Elements::BareEntries), row),
+    }
+}
+
+// Whether the sign for everything may stand in a field.
+fn part_open(section: Section, field: usize) -> bool
+    ensures { λ r. ⌜ r ≡ part-open section field ⌝ }
+{
+    match section {
+        Section::Bundles(_) => false,
+        Section::Connections(_) => 2 < field,
+    }
+}
+
+// The part in a field of a record, at a place: a list, or the sign for everything where it may stand.
+fn part_at(bytes: &[u8], at: usize, section: Section, field: usize, row: &mut [u64]) -> FieldAt
+    requires { ⌜ (at ≤ length (now bytes)) × (most-in section + 1 ≤ length (now row)) ⌝ }
+    ensures { λ r. ⌜ PartRead (form-of section field) (most-in section) (part-open section field) (now (bytes .entry)) at (now (row .entry)) (now (row .exit)) r ⌝ }
 {
     if at < bytes.len() {
         if bytes[at] == 255 {
             row[0] = 255;
+            let ok = part_open(section, field);
             let next = at + 1;
-            return FieldAt { ok: all, next };
+            return FieldAt { ok, next };
         }
     }
-    list_at(bytes, at, most, form, row)
+    let most = most_in(section);
+    let elements = elements_of(section, field);
+    elements_at(bytes, at, most, elements, row)
 }
 
 // Whether a record may start with a number, where orders are at least so high.
@@ -123,16 +157,6 @@ fn second_good(section: Section, first: u32, second: u32, regions: u64, least: u
             }
             has(regions, second)
         }
-    }
-}
-
-// Whether the sign for everything may stand in a field.
-fn part_open(section: Section, field: usize) -> bool
-    ensures { λ r. ⌜ r ≡ part-open section field ⌝ }
-{
-    match section {
-        Section::Bundles(_) => false,
-        Section::Connections(_) => 2 < field,
     }
 }
 
@@ -211,11 +235,8 @@ fn field_at(
         0 => first_at(bytes, at, section, regions, least, row),
         1 => second_at(bytes, at, section, regions, least, row),
         _ => {
-            let most = most_in(section);
-            let all = part_open(section, field);
-            let form = form_of(section, field);
-            let place = 2 + (field - 2) * (most + 1);
-            part_at(bytes, at, most, all, form, &mut row[place..])
+            let place = 2 + (field - 2) * (most_in(section) + 1);
+            part_at(bytes, at, section, field, &mut row[place..])
         }
     }
 }

@@ -16,6 +16,7 @@ use crate::FRONT;
 use crate::Written;
 use crate::forms::Form;
 use crate::forms::form_of;
+use crate::numbers::put_element;
 use crate::numbers::put_number;
 use crate::record_fields::Codes;
 use crate::record_fields::FieldValues;
@@ -131,7 +132,7 @@ fn put_list(buffer: &mut [u8], at: usize, form: Form, list: Codes) -> usize
     let mut i: usize = 0;
     while i < total {
         let written = (list.items[i] >> form.skipped) as usize;
-        to = put_number(buffer, to, form.width, written);
+        to = put_element(buffer, to, form.width, written);
         i += 1;
     }
     to

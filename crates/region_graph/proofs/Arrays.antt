@@ -10,7 +10,7 @@ use lib.ListN.{length, getD, take, drop, set, replicate, length-append, length-r
 use lib.Seq.{take-suc, drop-cons, set-at, append-snoc, take-length, length-take-le}
 use Rattle.region_graph.specs.Lists.{All, keep, exists, position}
 use Rattle.region_graph.specs.Record.{places}
-use Rattle.region_graph.proofs.Lists.{all-at, keep-took, keep-left, map-append, exists-found, exists-missed, exists-fewer, exists-as-many}
+use Rattle.region_graph.proofs.Lists.{all-at, map-append, exists-found, exists-missed, exists-fewer, exists-as-many}
 
 module _ {A B : Type 0} (f : A → B) where
   pub map-take : (n : ℕ) (xs : List A) → map f (take n xs) ≡ take n (map f xs)
@@ -23,9 +23,9 @@ module _ {A B : Type 0} (f : A → B) where
   getD-map-in (x ∷ xs) zero e d h = refl
   getD-map-in (x ∷ xs) (suc i) e d h = getD-map-in xs i e d (omega arith)
 
-pub drop-past : {A : Type 0} (ps : List A) (y : A) (ys : List A) → drop (suc (length ps)) (ps ++ (y ∷ ys)) ≡ ys
-drop-past [] y ys = refl
-drop-past (p ∷ ps) y ys = drop-past ps y ys
+pub replicate-cons : {A : Type 0} (n : ℕ) (x : A) (ys : List A) → replicate n x ++ (x ∷ ys) ≡ x ∷ (replicate n x ++ ys)
+replicate-cons zero x ys = refl
+replicate-cons {A} (suc n) x ys = ap (λ (l : List A). x ∷ l) (replicate-cons n x ys)
 
 -- the array's first `count` places hold xs, and each other place `none`
 pub record Filled {A B : Type 0} (store : A → B) (none : B) (size : ℕ) (items : List B) (count : ℕ) (xs : List A) : Type 0 where
@@ -87,16 +87,6 @@ module _ {A B : Type 0} {store : A → B} {none : B} {size : ℕ} where
       counted = rw length-append (ap (λ (n : ℕ). n + 1) (h .counted));
       room = rw length-append (omega (arith, h .counted));
     }
-
-  -- a turn of a loop over xs that takes the elements that pass p
-  module _ (p : A → Bool) {items : List B} {n : ℕ} (xs : List A) (i : ℕ) (d : A) (l : i < length xs)
-      (h : Filled store none size items n (keep p (take i xs))) where
-    pub filled-took : {b : B} → n < size → b ≡ store (getD xs i d) → p (getD xs i d) ≡ true
-        → Filled store none size (set items n b) (n + 1) (keep p (take (i + 1) xs))
-    filled-took r e t = rw (keep-took p xs i d l t, e) (filled-more h (getD xs i d) r)
-
-    pub filled-left : p (getD xs i d) ≡ false → Filled store none size items n (keep p (take (i + 1) xs))
-    filled-left t = rw (keep-left p xs i d l t) h
 
   -- a turn of a loop that takes every element
   pub filled-next : {items : List B} (xs : List A) (i : ℕ) (d : A) → i < length xs → Filled store none size items i (take i xs) → i < size

@@ -7,13 +7,14 @@ use native.Mathlib.Nat.{mul-le-mul-right}
 use native.Mathlib.Omega.{arith}
 use native.Mathlib.Decide.{decLt}
 use lib.Dec.{ltb, eqb}
-use lib.ListN.{length, getD, drop, length-drop}
+use lib.ListN.{length, getD, take, drop, length-drop}
 use lib.Seq.{drop-cons}
 use borrow.Author.Tests.{lt-ltb, le-ltb, ltb-true, ltb-false, eqb-true, eq-eqb, ne-eqb}
 use Rattle.region_graph.specs.Lists.{pick, exists, All, keep, insert-by, ascends, member, count-from}
 use Rattle.region_graph.specs.Model.{Connection, bundle-before, connection-before}
 use Rattle.region_graph.specs.Calls.{joins}
-use Rattle.region_graph.proofs.Lists.{and-yes, and-left, and-fst, and-snd, false-true, pick-yes, pick-no, all-map, all-both, all-kept, all-insert}
+use Rattle.region_graph.proofs.Lists.{and-yes, and-left, and-fst, and-snd, false-true, pick-yes, pick-no}
+use Rattle.region_graph.proofs.Lists.{all-map, all-both, all-at, all-kept, all-insert}
 
 -- further laws of tests and lists
 
@@ -64,6 +65,17 @@ module _ {A : Type 0} (before : A → A → Bool) where
         let h = and-fst (before x y) (ascends before (y ∷ ys)) e in
         let r = ascends-rising (y ∷ ys) (and-snd (before x y) (ascends before (y ∷ ys)) e) in
         ((h, all-onward x y ys h (r .0)), r)
+
+    -- where an element does not come before the one at a place, it comes before none up to there
+    pub none-after : (x : A) (xs : List A) (i : ℕ) (d : A) → i < length xs → Rising before xs → before x (getD xs i d) ≡ false
+        → All (λ y. before x y ≡ false) (take (suc i) xs)
+    none-after x [] i d h r e = tt
+    none-after x (y ∷ ys) zero d h r e = (e, tt)
+    none-after x (y ∷ ys) (suc i) d h r e = (go (before x y) refl, none-after x ys i d (omega arith) (r .1) e)
+      where
+        go : (b : Bool) → before x y ≡ b → b ≡ false
+        go true f = sym (strict .onward x y (getD ys i d) f (all-at (λ z. before y z ≡ true) ys i d (omega arith) (r .0))) ∙ e
+        go false f = refl
 
     rising-insert : (x : A) (xs : List A) → All (λ y. before x y ≡ false → before y x ≡ true) xs → Rising before xs
         → Rising before (insert-by before x xs)

@@ -2,12 +2,13 @@
 use mathlib.Core.Path.{_≡_, refl, sym, ap, ap₂, _∙_, subst}
 use mathlib.Core.Bool.{Bool, true, false, not, _&&_, and-true}
 use mathlib.Core.List.{List, [], _∷_, map}
-use Prim.Native.Nat.{ℕ, _+_, _-_, _*_, _^_, _≤_, _<_}
+use Prim.Native.Nat.{ℕ, _+_, _-_, _*_, _%_, _^_, _≤_, _<_}
+use native.Mathlib.Nat.{mod-eq-of-lt}
 use native.Mathlib.Omega.{arith}
-use lib.Dec.{eqb, ltb}
+use lib.Dec.{eqb, leb, ltb}
 use lib.ListN.{length, getD, take, drop, set, replicate, length-drop, length-map}
 use lib.Seq.{length-take-le, take-at}
-use borrow.Author.Tests.{eqb-true, eq-eqb, ltb-true, ltb-false, lt-ltb, le-ltb, not-true, not-false}
+use borrow.Author.Tests.{eqb-true, eq-eqb, ltb-true, ltb-false, lt-ltb, le-ltb}
 use Rattle.region_graph.specs.Size.{regions, most-provided, most-listed}
 use Rattle.region_graph.specs.Lists.{All, every, ascends, member, count-from}
 use Rattle.region_graph.specs.Sets.{has, members}
@@ -16,7 +17,7 @@ use Rattle.region_graph.specs.Model.{Word, LegalEntry, Sorted, Numbered,
 use Rattle.region_graph.specs.Record.{store-numbers, store-provided, store-part, store-bundle, store-connection}
 use Rattle.region_graph.specs.Record.{store-packages, store-entries}
 use Rattle.region_graph.specs.Flat.{entry-code, map-part, FlatPart}
-use Rattle.region_graph.specs.Decoded.{Decoded, is-word, WordRead, head-from, tail-from, HeadsPut, FlatList, FlatBundle, FlatConnection}
+use Rattle.region_graph.specs.Decoded.{Decoded, is-word, WordRead, head-from, tail-from, HeadsPut, RangesPut, FlatList, FlatBundle, FlatConnection}
 use Rattle.region_graph.specs.Decoded.{WithCount, with-count, put-list, put-part, ListDecoded}
 use Rattle.region_graph.specs.Decoded.{PackagesDecoded, EntriesDecoded, PackagePartDecoded}
 use Rattle.region_graph.specs.Places.{put-into}
@@ -24,7 +25,7 @@ use Rattle.region_graph.specs.declared.numbers.Numbers.{Numbers}
 use Rattle.region_graph.specs.declared.numbers.Provided.{Provided}
 use Rattle.region_graph.specs.declared.packages.Packages.{Packages}
 use Rattle.region_graph.specs.declared.packages.Entries.{Entries}
-use Rattle.region_graph.proofs.Lists.{false-true, and-yes, and-fst, and-snd, all-kept, every-stop, every-later, every-end, member-all}
+use Rattle.region_graph.proofs.Lists.{false-true, and-yes, and-fst, and-snd, all-kept, every-also, every-done, every-map, member-all}
 use Rattle.region_graph.proofs.Arrays.{Making, making-none, making-next, making-end}
 use Rattle.region_graph.proofs.Storing.{all-counted, has-member, map-id, filled-put, filled-numbers, filled-provided}
 use Rattle.region_graph.proofs.Codes.{Coding, words, codes-again, codes-back, codes-good, codes-words, codes-tested}
@@ -42,37 +43,71 @@ module _ (n : ℕ) where
 
 -- the heads of codes, put into places up to i
 
-pub record HeadsTo (unit : ℕ) (list old new : List ℕ) (i : ℕ) : Type 0 where
-  pub making : Making (head-from unit) list old new i
-  pub fit : every (λ c. is-word (head-from unit c)) list ≡ every (λ c. is-word (head-from unit c)) (drop i list)
+abbrev word-head : ℕ → ℕ → Bool
+word-head unit c = is-word (head-from unit c)
 
-module _ (unit : ℕ) (list : List ℕ) {old : List ℕ} where
-  pub heads-none : length list ≤ length old → HeadsTo unit list old old 0
-  heads-none l = record { making = making-none l; fit = refl }
+abbrev low-head : ℕ → ℕ → ℕ
+low-head unit c = head-from unit c % 2 ^ 32
 
-  module _ {new : List ℕ} {i : ℕ} (s : HeadsTo unit list old new i) where
-    module _ (l : i < length list) {ok : Bool} {w : ℕ} (r : WordRead (head-from unit (getD list i 0)) ok w) where
-      pub heads-next : not ok ≡ false → HeadsTo unit list old (set new i w) (i + 1)
-      heads-next t =
-          let e : ok ≡ true = not-false ok t in
+pub record HeadsTo (unit : ℕ) (list old new : List ℕ) (ok : Bool) (i : ℕ) : Type 0 where
+  pub making : Making (low-head unit) list old new i
+  pub fit : every (word-head unit) list ≡ (ok && every (word-head unit) (drop i list))
+
+module _ (unit : ℕ) where
+  -- heads of 32 bits are their low bits
+  low-heads : (list : List ℕ) → every (word-head unit) list ≡ true → map (low-head unit) list ≡ map (head-from unit) list
+  low-heads [] e = refl
+  low-heads (c ∷ cs) e =
+      let l = ltb-true (head-from unit c) (2 ^ 32) (and-fst (word-head unit c) (every (word-head unit) cs) e) in
+      λ i. mod-eq-of-lt l i ∷ low-heads cs (and-snd (word-head unit c) (every (word-head unit) cs) e) i
+
+  module _ (list : List ℕ) {old : List ℕ} where
+    pub heads-none : length list ≤ length old → HeadsTo unit list old old true 0
+    heads-none l = record { making = making-none l; fit = refl }
+
+    module _ {new : List ℕ} {ok : Bool} {i : ℕ} (s : HeadsTo unit list old new ok i) where
+      pub heads-next : i < length list
+          → HeadsTo unit list old (set new i (low-head unit (getD list i 0))) (ok && word-head unit (getD list i 0)) (i + 1)
+      heads-next l = record { making = making-next (s .making) 0 l refl; fit = every-also (word-head unit) list i 0 l ok (s .fit) }
+
+      pub heads-end : length list ≤ i → HeadsPut unit list old ok new
+      heads-end l =
+          let fit = every-done (word-head unit) list i (s .fit) l in
           record {
-            making = making-next (s .making) 0 l (r .same e);
-            fit = every-later (λ c. is-word (head-from unit c)) list i 0 l (s .fit) (sym (r .fits) ∙ e);
+            fit = fit;
+            long = s .making .putting .long;
+            those = λ e. making-end (s .making) l ∙ ap (put-into old) (low-heads list (sym fit ∙ e));
           }
 
-      pub heads-stop : not ok ≡ true → HeadsPut unit list old false new
-      heads-stop t = record {
-        fit = every-stop (λ c. is-word (head-from unit c)) list i 0 l (s .fit) (sym (r .fits) ∙ not-true ok t);
-        long = s .making .putting .long;
-        those = λ e. false-true e;
-      }
+-- the versions of entries, put into places up to i
 
-    pub heads-end : length list ≤ i → HeadsPut unit list old true new
-    heads-end l = record {
-      fit = every-end (λ c. is-word (head-from unit c)) list i (s .fit) l;
-      long = s .making .putting .long;
-      those = λ e. making-end (s .making) l;
-    }
+abbrev in-order : ℕ → Bool
+in-order c = leb (tail-from (2 ^ 16) c) (tail-from 1 c)
+
+pub record RangesTo (list low high : List ℕ) (ok : Bool) (lowest highest : List ℕ) (i : ℕ) : Type 0 where
+  pub lows : Making (tail-from (2 ^ 16)) list low lowest i
+  pub highs : Making (tail-from 1) list high highest i
+  pub order : every in-order list ≡ (ok && every in-order (drop i list))
+
+module _ (list : List ℕ) {low high : List ℕ} where
+  pub ranges-none : length list ≤ length low → length list ≤ length high → RangesTo list low high true low high 0
+  ranges-none l h = record { lows = making-none l; highs = making-none h; order = refl }
+
+  module _ {ok : Bool} {lowest highest : List ℕ} {i : ℕ} (s : RangesTo list low high ok lowest highest i) where
+    pub ranges-next : i < length list
+        → (let c = getD list i 0 in
+        RangesTo list low high (ok && leb (tail-from (2 ^ 16) c) (c % 65536)) (set lowest i (tail-from (2 ^ 16) c)) (set highest i (c % 65536)) (i + 1))
+    ranges-next l =
+        let c = getD list i 0 in
+        let e : c % 65536 ≡ tail-from 1 c = omega arith in
+        record {
+          lows = making-next (s .lows) 0 l refl;
+          highs = making-next (s .highs) 0 l e;
+          order = rw e (every-also in-order list i 0 l ok (s .order));
+        }
+
+    pub ranges-end : length list ≤ i → RangesPut list low high ok lowest highest
+    ranges-end l = record { lowest-are = making-end (s .lows) l; highest-are = making-end (s .highs) l; order = every-done in-order list i (s .order) l }
 
 -- a list at a place, and its numbers as a part of the row
 
@@ -224,24 +259,26 @@ module _ (row : List ℕ) (at count : ℕ) (e : count ≡ getD row at 0) where
 
   pub entries-found : {fit ascend order : Bool} {numbers lowest highest : List ℕ} → count ≤ most-listed → at + (most-listed + 1) ≤ length row
       → HeadsPut (2 ^ 32) (span row at count) (replicate most-listed 0) fit numbers
-      → lowest ≡ put-into (replicate most-listed 0) (map (tail-from (2 ^ 16)) (span row at count))
-      → highest ≡ put-into (replicate most-listed 0) (map (tail-from 1) (span row at count))
+      → RangesPut (span row at count) (replicate most-listed 0) (replicate most-listed 0) order lowest highest
       → ascend ≡ ascends entry-before (entries (take count numbers) (take count lowest) (take count highest))
-      → order ≡ every ordered (entries (take count numbers) (take count lowest) (take count highest))
       → EntriesDecoded row at (fit && (ascend && order)) (record { count = count; numbers = numbers; lowest = lowest; highest = highest })
-  entries-found {fit} {ascend} {order} {numbers} {lowest} {highest} l room f g h a o =
+  entries-found {fit} {ascend} {order} {numbers} {lowest} {highest} l room f g a =
       coded-found entry-coded row at store-entries most-listed count e l room (f .fit)
       (λ t. entries-columns (codes-at row at count) (codes-long row at count most-listed l room) l (n t) v w)
-      (λ t. ap₂ _&&_ (a ∙ ap (ascends entry-before) (there t)) (o ∙ ap (every ordered) (there t)))
+      (λ t. ap₂ _&&_ (a ∙ ap (ascends entry-before) (there t)) order-is)
     where
       n : fit ≡ true → numbers ≡ put-into (replicate most-listed 0) (map (head-from (2 ^ 32)) (codes-at row at count))
       n t = f .those t ∙ put-codes row at count (head-from (2 ^ 32)) _
 
       v : lowest ≡ put-into (replicate most-listed 0) (map (tail-from (2 ^ 16)) (codes-at row at count))
-      v = g ∙ put-codes row at count (tail-from (2 ^ 16)) _
+      v = g .lowest-are ∙ put-codes row at count (tail-from (2 ^ 16)) _
 
       w : highest ≡ put-into (replicate most-listed 0) (map (tail-from 1) (codes-at row at count))
-      w = h ∙ put-codes row at count (tail-from 1) _
+      w = g .highest-are ∙ put-codes row at count (tail-from 1) _
+
+      order-is : order ≡ every ordered (map entry-out (codes-at row at count))
+      order-is =
+          g .order ∙ ap (every (λ c. ordered (entry-out c))) (span-take row at count) ∙ sym (every-map entry-out ordered (codes-at row at count))
 
       there : fit ≡ true → entries (take count numbers) (take count lowest) (take count highest) ≡ map entry-out (codes-at row at count)
       there t = entries-there (codes-at row at count) (codes-long row at count most-listed l room) l (n t) v w

@@ -1,6 +1,6 @@
 -- Laws of tests, `keep`, `exists`, `every`, `position`, `insert-by`, `All`, `concat-map` and lists without repetitions, for any element and test.
 use mathlib.Core.Path.{_≡_, refl, sym, ap, _∙_, subst}
-use mathlib.Core.Bool.{Bool, true, false, not, _&&_, _||_, and-false}
+use mathlib.Core.Bool.{Bool, true, false, not, _&&_, _||_, and-true, and-false, and-assoc}
 use mathlib.Core.List.{List, [], _∷_, _++_, map, append-nil, append-assoc}
 use Prim.Native.Nat.{ℕ, zero, suc, _+_, _*_, _≤_, _<_}
 use native.Mathlib.Numerals.{add-one}
@@ -138,6 +138,10 @@ module _ {A : Type 0} (p : A → Bool) where
     pub every-later : every p xs ≡ every p (drop i xs) → p (getD xs i d) ≡ true → every p xs ≡ every p (drop (i + 1) xs)
     every-later e t = e ∙ every-next ∙ rw t
 
+    -- where no element ends the search
+    pub every-also : (b : Bool) → every p xs ≡ (b && every p (drop i xs)) → every p xs ≡ ((b && p (getD xs i d)) && every p (drop (i + 1) xs))
+    every-also b e = e ∙ ap (λ (t : Bool). b && t) every-next ∙ sym (and-assoc b (p (getD xs i d)) (every p (drop (i + 1) xs)))
+
     position-next : position p (drop i xs) ≡ pick (p (getD xs i d)) 0 (suc (position p (drop (i + 1) xs)))
     position-next = rw add-one (ap (position p) (drop-cons xs i d h))
 
@@ -156,6 +160,9 @@ module _ {A : Type 0} (p : A → Bool) where
 
   pub every-end : (xs : List A) (i : ℕ) → every p xs ≡ every p (drop i xs) → length xs ≤ i → true ≡ every p xs
   every-end xs i e h = sym (e ∙ rw (drop-of-length-le xs h))
+
+  pub every-done : (xs : List A) (i : ℕ) {b : Bool} → every p xs ≡ (b && every p (drop i xs)) → length xs ≤ i → b ≡ every p xs
+  every-done xs i {b} e h = sym (e ∙ rw (drop-of-length-le xs h) (and-true b))
 
   pub position-end : (xs : List A) (i : ℕ) → position p xs ≡ i + position p (drop i xs) → length xs ≤ i → i ≡ position p xs
   position-end xs i e h = sym (e ∙ rw (drop-of-length-le xs h) (add-zero i))
@@ -179,30 +186,13 @@ module _ {A : Type 0} (p : A → Bool) where
       go true r k = absurd (omega arith)
       go false r k = r (omega arith)
 
-  pub position-le : (xs : List A) → position p xs ≤ length xs
-  position-le [] = omega arith
-  position-le (x ∷ xs) = go (p x) (position-le xs)
-    where
-      go : (b : Bool) → position p xs ≤ length xs → pick b 0 (suc (position p xs)) ≤ suc (length xs)
-      go true h = omega arith
-      go false h = omega arith
-
--- an element is put at the place of the first that it comes before
-pub insert-at : {A : Type 0} (before : A → A → Bool) (x : A) (xs : List A)
-    → (let i = position (before x) xs in insert-by before x xs ≡ take i xs ++ (x ∷ drop i xs))
-insert-at before x [] = refl
-insert-at {A} before x (y ∷ ys) = go (before x y) (insert-at before x ys)
-  where
-    go : (b : Bool) → insert-by before x ys ≡ take (position (before x) ys) ys ++ (x ∷ drop (position (before x) ys) ys)
-        → (let i = pick b 0 (suc (position (before x) ys)) in
-        pick b (x ∷ y ∷ ys) (y ∷ insert-by before x ys) ≡ take i (y ∷ ys) ++ (x ∷ drop i (y ∷ ys)))
-    go true h = refl
-    go false h = ap (λ (l : List A). y ∷ l) h
-
--- as a store, or what it means, has it
-pub insert-stored : {A B : Type 0} (store : A → B) (means : B → A) (before : A → A → Bool) {b : B} {place : ℕ} (x : A) (xs : List A)
-    → b ≡ store x → means (store x) ≡ x → place ≡ position (before x) xs → take place xs ++ (means b ∷ drop place xs) ≡ insert-by before x xs
-insert-stored store means before x xs e f p = (λ i. take (p i) xs ++ ((ap means e ∙ f) i ∷ drop (p i) xs)) ∙ sym (insert-at before x xs)
+-- an element is put behind those that it does not come before, where it comes before all others
+pub insert-here : {A : Type 0} (before : A → A → Bool) (x : A) (xs : List A) (i : ℕ) → All (λ y. before x y ≡ false) (take i xs)
+    → All (λ y. before x y ≡ true) (drop i xs) → insert-by before x xs ≡ take i xs ++ (x ∷ drop i xs)
+insert-here before x [] zero h k = refl
+insert-here before x [] (suc i) h k = refl
+insert-here before x (y ∷ ys) zero h k = rw (k .0)
+insert-here {A} before x (y ∷ ys) (suc i) h k = rw (h .0) (ap (λ (l : List A). y ∷ l) (insert-here before x ys i (h .1) k))
 
 pub insert-length : {A : Type 0} (before : A → A → Bool) (x : A) (xs : List A) → length (insert-by before x xs) ≡ suc (length xs)
 insert-length before x [] = refl
@@ -213,6 +203,10 @@ insert-length before x (y ∷ ys) = go (before x y) (insert-length before x ys)
     go false h = ap suc h
 
 -- a property of each element
+
+pub every-map : {A B : Type 0} (f : A → B) (p : B → Bool) (xs : List A) → every p (map f xs) ≡ every (λ x. p (f x)) xs
+every-map f p [] = refl
+every-map f p (x ∷ xs) = ap (λ (t : Bool). p (f x) && t) (every-map f p xs)
 
 module _ {A : Type 0} where
   pub all-map : (P Q : A → Type 0) → ((x : A) → P x → Q x) → (xs : List A) → All P xs → All Q xs

@@ -1,14 +1,16 @@
--- Loops over the places of an array, for any element: a search, a copy that leaves elements out, a place made free, and what is gathered.
-use mathlib.Core.Path.{_≡_, sym, ap, _∙_}
+-- Loops over the places of an array, for any element: a search, elements that leave, one that is put in, and what is gathered.
+use mathlib.Core.Path.{_≡_, refl, sym, ap, _∙_}
 use mathlib.Core.Bool.{Bool, true, false, not}
 use mathlib.Core.List.{List, [], _∷_, _++_, map, append-assoc}
 use Prim.Native.Nat.{ℕ, suc, _+_, _-_, _≤_, _<_}
 use native.Mathlib.Numerals.{add-one}
 use native.Mathlib.Omega.{arith}
-use lib.ListN.{length, getD, take, drop, set, replicate, length-append, length-map, length-set, length-drop, List·getD-eq-default}
-use lib.Seq.{drop-cons, take-at, drop-at, take-all, take-length, drop-length, take-take, take-set-le, set-split, getD-take, length-take-le}
+use lib.ListN.{length, getD, take, drop, set, replicate, length-append, length-map, length-replicate, drop-of-length-le}
+use lib.ListN.{replicate-append-replicate, List·getD-append, List·getD-eq-default}
+use lib.Seq.{take-suc, drop-cons, take-all, getD-take, length-take-le, append-snoc, set-at, set-set, set-comm, set-getD, getD-at}
+use borrow.Author.Tests.{not-true, not-false}
 use Rattle.region_graph.specs.Size.{most-bundles, most-connections}
-use Rattle.region_graph.specs.Lists.{All, keep, position}
+use Rattle.region_graph.specs.Lists.{All, keep, position, insert-by, ascends}
 use Rattle.region_graph.specs.Model.{Bundle, Connection}
 use Rattle.region_graph.specs.Record.{Valid, meaning, bundles-of, connections-of, no-bundle, no-connection}
 use Rattle.region_graph.specs.Record.{store-bundle, bundle-in, store-connection, connection-in}
@@ -18,9 +20,9 @@ use Rattle.region_graph.specs.declared.bundles.StoredBundle.{StoredBundl
 use Rattle.region_graph.specs.declared.bundles.Bundles.{Bundles}
 use Rattle.region_graph.specs.declared.connections.StoredConnection.{StoredConnection}
 use Rattle.region_graph.specs.declared.connections.Connections.{Connections}
-use Rattle.region_graph.proofs.Lists.{map-append, position-here, position-later, position-end}
-use Rattle.region_graph.proofs.Arrays.{map-take, getD-map-in, drop-past}
-use Rattle.region_graph.proofs.Arrays.{Filled, filled-length, filled-at, filled-inside, filled-means, filled-took, filled-left}
+use Rattle.region_graph.proofs.Lists.{map-append, keep-took, keep-left, position-here, position-later, position-end, insert-length, insert-here}
+use Rattle.region_graph.proofs.Ascending.{Strict, Rising, ascends-rising, none-after}
+use Rattle.region_graph.proofs.Arrays.{getD-map-in, replicate-cons, Filled, filled-at, filled-inside, filled-means}
 use Rattle.region_graph.proofs.Storing.{bundles-filled, bundles-each, bundles-stored, connections-filled, connections-each, connections-stored}
 
 -- elements A, stored as B in so many places; a place that is not used stores `none`
@@ -69,12 +71,15 @@ module _ (g : Graph) (v : Valid g) where
   graph-connections = connections-reading (g .connections) (connections-stored g v)
 
 module _ {A B : Type 0} {r : Storage A B} {items : List B} {count : ℕ} {xs : List A} where
+  pub reading-to : {i j : ℕ} → Reading r items count xs i → j ≤ count → Reading r items count xs j
+  reading-to w l = record { filled = w .filled; back = w .back; inside = l; few = w .few }
+
   module _ {i : ℕ} (w : Reading r items count xs i) (l : i < count) where
     pub reading-inside : i < length xs
     reading-inside = filled-inside (w .filled) i l
 
     pub reading-next : Reading r items count xs (i + 1)
-    reading-next = record { filled = w .filled; back = w .back; inside = omega arith; few = w .few }
+    reading-next = reading-to w (omega arith)
 
     -- what stands at the place
     pub reading-at : (e : B) → getD items i e ≡ r .store (getD xs i (r .none))
@@ -120,117 +125,223 @@ module _ {A B : Type 0} {r : Storage A B} {p : A → Bool} {items : List B} {cou
     pub searching-end : count ≤ i → i ≡ position p xs
     searching-end l = position-end p xs i (s .rest) (omega (arith, s .reading .filled .counted))
 
--- the elements that do not pass are copied: the first n places hold those of the first i
+-- the elements that pass leave: of the first i, those that stay stand in the first n places, each place from n up to i is cleared, and the rest is as it was
 
-pub record Leaving {A B : Type 0} (r : Storage A B) (p : A → Bool) (items : List B) (count : ℕ) (xs : List A) (left : List B) (n i : ℕ) : Type 0 where
-  pub reading : Reading r items count xs i
+pub record Leaving {A B : Type 0} (r : Storage A B) (p : A → Bool) (none : B) (first : List B) (count : ℕ) (xs : List A) (items : List B) (n i : ℕ)
+    : Type 0 where
+  pub reading : Reading r first count xs i
+  pub clear : none ≡ r .store (r .none)
   pub fewer : n ≤ i
-  pub kept : FilledBy r left n (keep (λ x. not (p x)) (take i xs))
+  pub kept : n ≡ length (keep (λ x. not (p x)) (take i xs))
+  pub shape : items ≡ (map (r .store) (keep (λ x. not (p x)) (take i xs)) ++ replicate (i - n) none)
+      ++ (map (r .store) (drop i xs) ++ replicate (r .size - length xs) (r .store (r .none)))
 
-module _ {A B : Type 0} {r : Storage A B} {p : A → Bool} {items : List B} {count : ℕ} {xs : List A} {left : List B} where
-  pub leaving-start : Reading r items count xs 0 → FilledBy r left 0 [] → Leaving r p items count xs left 0 0
-  leaving-start w h = record { reading = w; fewer = omega arith; kept = h }
+module _ {A B : Type 0} {r : Storage A B} {p : A → Bool} {none : B} {first : List B} {count : ℕ} {xs : List A} where
+  pub leaving-start : Reading r first count xs 0 → none ≡ r .store (r .none) → Leaving r p none first count xs first 0 0
+  leaving-start w e = record { reading = w; clear = e; fewer = omega arith; kept = refl; shape = w .filled .shape }
 
-  module _ {n i : ℕ} (s : Leaving r p items count xs left n i) where
-    module _ (l : i < count) (e : B) {b : Bool} (f : b ≡ p (r .means (getD items i e))) where
-      pub leaving-took : not b ≡ true → Leaving r p items count xs (set left n (getD items i e)) (n + 1) (i + 1)
-      leaving-took t = record {
-        reading = reading-next (s .reading) l;
-        fewer = omega (arith, s .fewer);
-        kept =
-            filled-took (λ x. not (p x)) xs i (r .none) (reading-inside (s .reading) l) (s .kept) (omega (arith, s .fewer, s .reading .few))
-            (reading-at (s .reading) l e) (reading-test (s .reading) l (λ x. not (p x)) e (ap not f) t);
-      }
+  module _ {items : List B} {n i : ℕ} (s : Leaving r p none first count xs items n i) where
+    module _ (l : i < count) (e : B) where
+      -- those that stay, the cleared places, the element at i, and the rest
+      abbrev stay : List B
+      stay = map (r .store) (keep (λ x. not (p x)) (take i xs))
 
-      pub leaving-left : not b ≡ false → Leaving r p items count xs left n (i + 1)
-      leaving-left t = record {
-        reading = reading-next (s .reading) l;
-        fewer = omega (arith, s .fewer);
-        kept =
-            filled-left (λ x. not (p x)) xs i (r .none) (reading-inside (s .reading) l) (s .kept) (reading-test (s .reading) l (λ x. not (p x)) e (ap not f) t);
-      }
+      abbrev unused : List B
+      unused = replicate (i - n) none
 
-    pub leaving-end : count ≤ i → FilledBy r left n (keep (λ x. not (p x)) xs)
-    leaving-end l = rw (reading-end (s .reading) l) at (s .kept)
+      abbrev here : B
+      here = r .store (getD xs i (r .none))
 
--- a place is made free: the elements from i on have moved up by one, and what stands at i does not count
+      abbrev rest : List B
+      rest = map (r .store) (drop (suc i) xs) ++ replicate (r .size - length xs) (r .store (r .none))
 
-pub record Moving {A B : Type 0} (r : Storage A B) (place count : ℕ) (xs : List A) (items : List B) (i : ℕ) : Type 0 where
-  pub from : place ≤ i
-  pub to : i ≤ count
-  pub room : count < r .size
-  pub counted : count ≡ length xs
-  pub long : length items ≡ r .size
-  pub low : take i items ≡ map (r .store) (take i xs)
-  pub high : drop (suc i) items ≡ map (r .store) (drop i xs) ++ replicate (r .size - suc (length xs)) (r .store (r .none))
+      stay-length : length stay ≡ n
+      stay-length = length-map (keep (λ x. not (p x)) (take i xs)) (r .store) ∙ sym (s .kept)
 
-module _ {A B : Type 0} {r : Storage A B} {place count : ℕ} {xs : List A} {items : List B} where
-  -- nothing has moved yet
-  pub moving-start : FilledBy r items count xs → place ≤ length xs → length xs < r .size → Moving r place count xs items count
-  moving-start h l k =
-      let n = r .size - suc (length xs) in
-      let none = r .store (r .none) in
-      let e : r .size - length xs ≡ suc n = omega arith in
-      let s : items ≡ map (r .store) xs ++ (none ∷ replicate n none) = rw (h .shape, e) in
-      record {
-        from = omega (arith, h .counted);
-        to = omega arith;
-        room = omega (arith, h .counted);
-        counted = h .counted;
-        long = filled-length h;
-        low = rw (s, h .counted, take-length) (take-at (map (r .store) xs) (none ∷ replicate n none) (length xs) (length-map xs (r .store)));
-        high =
-            rw (s, h .counted, drop-length)
-            (ap (λ (j : ℕ). drop (suc j) (map (r .store) xs ++ (none ∷ replicate n none))) (sym (length-map xs (r .store)))
-            ∙ drop-past (map (r .store) xs) none (replicate n none));
-      }
+      unused-length : length (stay ++ unused) ≡ i
+      unused-length = rw (length-append stay unused, stay-length, length-replicate) (omega (arith, s .fewer))
 
-  module _ {i : ℕ} (m : Moving r place count xs items i) where
-    -- one element moves up
-    pub moving-next : place < i → (e : B) → Moving r place count xs (set items i (getD items (i - 1) e)) (i - 1)
-    moving-next l e =
-        let j = i - 1 in
-        let q : i ≡ suc j = omega arith in
-        let k : i ≤ length xs = omega (arith, m .counted, m .to) in
-        let v : getD items j e ≡ r .store (getD xs j (r .none))
-        = sym (getD-take i items j e (omega arith)) ∙ ap (λ (t : List B). getD t j e) (m .low)
-        ∙ getD-map-in (r .store) (take i xs) j e (r .none) (rw (length-take-le i xs k) (omega arith))
-        ∙ ap (r .store) (getD-take i xs j (r .none) (omega arith)) in
-        record {
-          from = omega arith;
-          to = omega (arith, m .to);
-          room = m .room;
-          counted = m .counted;
-          long = length-set items i (getD items j e) ∙ m .long;
-          low =
-              take-set-le j items i (getD items j e) (omega arith) ∙ sym (take-take j i items (omega arith)) ∙ ap (take j) (m .low)
-              ∙ sym (map-take (r .store) j (take i xs)) ∙ ap (map (r .store)) (take-take j i xs (omega arith));
-          high =
-              rw (set-split items i (getD items j e) (omega (arith, m .long, m .room, m .to)), drop-cons xs j (r .none) (omega arith), ← q)
-              (drop-at (take i items) (getD items j e ∷ drop (suc i) items) i (length-take-le i items (omega (arith, m .long, m .room, m .to)))
-              ∙ rw (v, m .high, q));
-        }
+      split : items ≡ (stay ++ unused) ++ (here ∷ rest)
+      split = rw (drop-cons xs i (r .none) (reading-inside (s .reading) l)) at (s .shape)
 
-    -- the free place takes the new element
-    pub moving-end : i ≤ place → {b : B} (x : A) → b ≡ r .store x → FilledBy r (set items place b) (count + 1) (take place xs ++ (x ∷ drop place xs))
-    moving-end l {b} x e =
-        let q : i ≡ place = omega (arith, m .from) in
-        let k : place ≤ length xs = omega (arith, m .counted, m .to) in
-        let n : length (take place xs ++ (x ∷ drop place xs)) ≡ suc (length xs)
-        = length-append (take place xs) (x ∷ drop place xs) ∙ rw (length-take-le place xs k, length-drop) (omega arith) in
+      leaving-at : getD items i e ≡ here
+      leaving-at = rw split (getD-at (stay ++ unused) here rest e i unused-length)
+
+      -- what stands at the place is what stood there at the start
+      pub leaving-same : getD items i e ≡ getD first i e
+      leaving-same = leaving-at ∙ sym (reading-at (s .reading) l e)
+
+      cleared : set items i none ≡ stay ++ (none ∷ (unused ++ rest))
+      cleared =
+          rw split (set-at (stay ++ unused) here rest none i unused-length ∙ append-assoc stay unused (none ∷ rest)
+          ∙ ap (λ (t : List B). stay ++ t) (replicate-cons (i - n) none rest))
+
+      module _ {b : Bool} (f : b ≡ p (r .means (getD items i e))) where
+        stays : {t : Bool} → b ≡ t → not (p (getD xs i (r .none))) ≡ not t
+        stays t = ap not (reading-test (s .reading) l p e (f ∙ ap (λ (y : B). p (r .means y)) leaving-same) t)
+
+        -- the element leaves
+        pub leaving-out : b ≡ true → Leaving r p none first count xs (set items i none) n (i + 1)
+        leaving-out t =
+            let k = keep-left (λ x. not (p x)) xs i (r .none) (reading-inside (s .reading) l) (stays t) in
+            let q : i + 1 - n ≡ suc (i - n) = omega (arith, s .fewer) in
+            record {
+              reading = reading-next (s .reading) l;
+              clear = s .clear;
+              fewer = omega (arith, s .fewer);
+              kept = rw k (s .kept);
+              shape = rw (cleared, k, q, add-one i) (sym (append-assoc stay (none ∷ unused) rest));
+            }
+
+        -- the element stays: its place is cleared, and place n takes it
+        leaving-took : {new : List B} → new ≡ set (set items i none) n (getD items i e) → b ≡ false → Leaving r p none first count xs new (n + 1) (i + 1)
+        leaving-took h t =
+            let k = keep-took (λ x. not (p x)) xs i (r .none) (reading-inside (s .reading) l) (stays t) in
+            let q : i + 1 - (n + 1) ≡ i - n = omega arith in
+            record {
+              reading = reading-next (s .reading) l;
+              clear = s .clear;
+              fewer = omega (arith, s .fewer);
+              kept = rw (k, length-append) (ap (λ (m : ℕ). m + 1) (s .kept));
+              shape =
+                  rw (k, q, add-one i, map-append (r .store) (keep (λ x. not (p x)) (take i xs)) (getD xs i (r .none) ∷ []))
+                  (h ∙ rw (leaving-at, cleared) (set-at stay none (unused ++ rest) here n stay-length)
+                  ∙ sym (ap (λ (t : List B). t ++ rest) (append-snoc stay here unused) ∙ append-assoc stay (here ∷ unused) rest));
+            }
+
+        -- where none has left, that changes nothing
+        pub leaving-stays : i ≤ n → b ≡ false → Leaving r p none first count xs items (n + 1) (i + 1)
+        leaving-stays h =
+            let q : n ≡ i = omega (arith, s .fewer) in
+            leaving-took (rw q (sym (set-set items i none (getD items i e) ∙ set-getD items i e)))
+
+        -- else it moves down
+        pub leaving-moves : n < i → b ≡ false → Leaving r p none first count xs (set (set items n (getD items i e)) i none) (n + 1) (i + 1)
+        leaving-moves h = leaving-took (set-comm items n i (getD items i e) none (λ q. omega arith))
+
+    pub leaving-end : count ≤ i → FilledBy r items n (keep (λ x. not (p x)) xs)
+    leaving-end l =
+        let a = reading-end (s .reading) l in
+        let d = drop-of-length-le xs {i = i} (omega (arith, s .reading .filled .counted)) in
+        let k : n ≡ length (keep (λ x. not (p x)) xs) = rw a at (s .kept) in
+        let q : i - n + (r .size - length xs) ≡ r .size - length (keep (λ x. not (p x)) xs)
+        = omega (arith, s .reading .filled .counted, s .reading .inside, s .reading .few, s .fewer) in
         record {
           shape =
-              rw (
-                set-split items place b (omega (arith, m .long, m .room, m .to)),
-                e,
-                rw q at (m .low),
-                rw q at (m .high),
-                n,
-                map-append (r .store) (take place xs) (x ∷ drop place xs),
-                append-assoc,
-              );
-          counted = rw (n, m .counted) (add-one (length xs));
-          room = rw n (omega (arith, m .counted, m .room));
+              s .shape ∙ rw (s .clear, a, d, append-assoc, replicate-append-replicate (i - n) (r .size - length xs) (r .store (r .none)), q);
+          counted = k;
+          room = omega (arith, k, s .fewer, s .reading .inside, s .reading .few);
+        }
+
+-- an element is put among ascending ones: those from i on come after it and have moved up by one, and what stands at i does not count
+
+pub record Moving {A B : Type 0} (r : Storage A B) (before : A → A → Bool) (new : B) (first : List B) (count : ℕ) (xs : List A) (items : List B) (i : ℕ)
+    : Type 0 where
+  pub reading : Reading r first count xs i
+  pub strict : Strict before
+  pub rising : Rising before xs
+  pub stored : new ≡ r .store (r .means new)
+  pub room : count < r .size
+  pub after : All (λ y. before (r .means new) y ≡ true) (drop i xs)
+  pub free : B
+  pub shape : items ≡ map (r .store) (take i xs)
+      ++ (free ∷ (map (r .store) (drop i xs) ++ replicate (r .size - suc (length xs)) (r .store (r .none))))
+
+module _ {A B : Type 0} {r : Storage A B} {before : A → A → Bool} {new : B} {first : List B} {count : ℕ} {xs : List A} where
+  -- nothing has moved yet
+  pub moving-start : Reading r first count xs 0 → Strict before → new ≡ r .store (r .means new) → (ascends before xs ≡ true) × (length xs < r .size)
+      → Moving r before new first count xs first count
+  moving-start w o s h =
+      let c = w .filled .counted in
+      let d = drop-of-length-le xs {i = count} (omega (arith, c)) in
+      let e : r .size - length xs ≡ suc (r .size - suc (length xs)) = omega arith in
+      record {
+        reading = reading-to w (omega arith);
+        strict = o;
+        rising = ascends-rising before o xs (h .0);
+        stored = s;
+        room = omega (arith, c);
+        after = rw d tt;
+        free = r .store (r .none);
+        shape = w .filled .shape ∙ rw (e, d, take-all count xs (omega (arith, c)));
+      }
+
+  module _ {items : List B} {i : ℕ} (m : Moving r before new first count xs items i) where
+    few : i ≤ length xs
+    few = omega (arith, m .reading .inside, m .reading .filled .counted)
+
+    moving-put : (b : B) → set items i b
+        ≡ map (r .store) (take i xs) ++ (b ∷ (map (r .store) (drop i xs) ++ replicate (r .size - suc (length xs)) (r .store (r .none))))
+    moving-put b = rw (m .shape) (set-at (map (r .store) (take i xs)) (m .free) _ b i (length-map (take i xs) (r .store) ∙ length-take-le i xs few))
+
+    module _ (l : 0 < i) (e : B) where
+      next : suc (i - 1) ≡ i
+      next = omega arith
+
+      within : i - 1 < count
+      within = omega (arith, m .reading .inside)
+
+      below : Reading r first count xs (i - 1)
+      below = reading-to (m .reading) (omega (arith, m .reading .inside))
+
+      moving-at : getD items (i - 1) e ≡ r .store (getD xs (i - 1) (r .none))
+      moving-at =
+          let t : i - 1 < length (take i xs) = rw (length-take-le i xs few) (omega arith) in
+          rw (m .shape)
+          (List·getD-append (map (r .store) (take i xs)) _ e (i - 1) (rw length-map t)
+          ∙ getD-map-in (r .store) (take i xs) (i - 1) e (r .none) t ∙ ap (r .store) (getD-take i xs (i - 1) (r .none) (omega arith)))
+
+      -- what stands below place i is what stood there at the start
+      pub moving-same : getD items (i - 1) e ≡ getD first (i - 1) e
+      moving-same = moving-at ∙ sym (reading-at below within e)
+
+      module _ {b : Bool} (f : b ≡ before (r .means new) (r .means (getD items (i - 1) e))) where
+        comes : {t : Bool} → b ≡ t → before (r .means new) (getD xs (i - 1) (r .none)) ≡ t
+        comes = reading-test below within (before (r .means new)) e (f ∙ ap (λ (y : B). before (r .means new) (r .means y)) moving-same)
+
+        -- the element there comes after the new one, and moves up
+        pub moving-next : not b ≡ false → Moving r before new first count xs (set items i (getD items (i - 1) e)) (i - 1)
+        moving-next t =
+            let y = getD xs (i - 1) (r .none) in
+            let a = rw next at (take-suc xs (i - 1) (r .none) (reading-inside below within)) in
+            let d = rw next at (drop-cons xs (i - 1) (r .none) (reading-inside below within)) in
+            record {
+              reading = below;
+              strict = m .strict;
+              rising = m .rising;
+              stored = m .stored;
+              room = m .room;
+              after = rw d (comes (not-false b t), m .after);
+              free = r .store y;
+              shape =
+                  rw (moving-at, d)
+                  (moving-put (r .store y)
+                  ∙ rw (a, map-append (r .store) (take (i - 1) xs) (y ∷ [])) (append-snoc (map (r .store) (take (i - 1) xs)) (r .store y) _));
+            }
+
+        -- it does not, and no element below it does
+        pub moving-stop : not b ≡ true → All (λ y. before (r .means new) y ≡ false) (take i xs)
+        moving-stop t =
+            rw next at
+            (none-after before (m .strict) (r .means new) xs (i - 1) (r .none) (reading-inside below within) (m .rising) (comes (not-true b t)))
+
+    -- nothing stands below place i
+    pub moving-none : i ≤ 0 → All (λ y. before (r .means new) y ≡ false) (take i xs)
+    moving-none l =
+        let q : i ≡ 0 = omega arith in
+        rw q tt
+
+    -- place i takes the new element
+    pub moving-end : All (λ y. before (r .means new) y ≡ false) (take i xs) → FilledBy r (set items i new) (count + 1) (insert-by before (r .means new) xs)
+    moving-end h =
+        let x = r .means new in
+        let n = insert-length before x xs in
+        record {
+          shape =
+              moving-put new
+              ∙ rw (n, insert-here before x xs i h (m .after), map-append (r .store) (take i xs) (x ∷ drop i xs), append-assoc, ← m .stored);
+          counted = rw (n, m .reading .filled .counted) (add-one (length xs));
+          room = rw n (omega (arith, m .reading .filled .counted, m .room));
         }
 
 -- what a function gives for the first i elements is gathered

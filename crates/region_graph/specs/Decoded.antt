@@ -3,7 +3,7 @@ use mathlib.Core.Path.{_≡_}
 use mathlib.Core.Bool.{Bool, true, false}
 use mathlib.Core.List.{List, map}
 use Prim.Native.Nat.{ℕ, _<_, _/_, _%_, _^_}
-use lib.Dec.{ltb}
+use lib.Dec.{leb, ltb}
 use lib.ListN.{length}
 use Rattle.region_graph.specs.Size.{regions, most-bundles, most-connections, most-listed, most-provided, everything-sign}
 use Rattle.region_graph.specs.Lists.{every}
@@ -42,6 +42,12 @@ pub record HeadsPut (unit : ℕ) (list old : List ℕ) (ok : Bool) (new : List �
   pub fit : ok ≡ every (λ c. is-word (head-from unit c)) list
   pub long : length new ≡ length old
   pub those : ok ≡ true → new ≡ put-into old (map (head-from unit) list)
+
+-- the versions of entries were put into the first places of two lists; not ok where a lowest one exceeds its highest
+pub record RangesPut (list low high : List ℕ) (ok : Bool) (lowest highest : List ℕ) : Type 0 where
+  pub lowest-are : lowest ≡ put-into low (map (tail-from (2 ^ 16)) list)
+  pub highest-are : highest ≡ put-into high (map (tail-from 1) list)
+  pub order : ok ≡ every (λ c. leb (tail-from (2 ^ 16) c) (tail-from 1 c)) list
 
 -- the numbers have a list at a place
 abbrev pub FlatList : List ℕ → ℕ → List ℕ → Type 0

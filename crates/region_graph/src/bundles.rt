@@ -1,13 +1,13 @@
 // The places of the bundles, in ascending order of location.
 ghost use mathlib.Core.Path.{_≡_};
-ghost use mathlib.Core.Bool.{not, _&&_};
-ghost use mathlib.Core.List.{[], _∷_, _++_};
-ghost use Prim.Native.Nat.{_<_, _≤_};
+ghost use mathlib.Core.Bool.{true, not, _&&_};
+ghost use mathlib.Core.List.{[]};
+ghost use Prim.Native.Nat.{_<_};
 ghost use lib.Dec.{ltb};
-ghost use lib.ListN.{length, take, drop};
+ghost use lib.ListN.{length};
 ghost use Rattle.region_graph.specs.Size.{«most-bundles», «most-provided»};
-ghost use Rattle.region_graph.specs.Lists.{ascends, keep, position};
-ghost use Rattle.region_graph.specs.Model.{packages, «package-before»};
+ghost use Rattle.region_graph.specs.Lists.{ascends, keep, position, «insert-by»};
+ghost use Rattle.region_graph.specs.Model.{packages, «package-before», «bundle-before»};
 ghost use Rattle.region_graph.specs.Calls.{within};
 ghost use Rattle.region_graph.specs.Record.{«store-bundle», «bundle-in», «no-bundle», «store-bundles», «bundles-of»};
 ghost use Rattle.region_graph.specs.Places.{BundleStored, BundlesStored, «bundle-meets»};
@@ -116,43 +116,56 @@ impl Bundles {
         i
     }
 
-    // The bundles that do not meet a test.
+    // The bundles that do not meet a test: each moves down by as many as met it before, and what it leaves is not used.
+    // It is read again to be moved, so that one that stays is not copied for the test.
     pub fn without(self, test: BundleTest) -> Bundles
         requires { ⌜ BundlesStored self ⌝ }
         ensures { λ r. ⌜ r ≡ store-bundles (keep (λ b. not (bundle-meets test b)) (bundles-of self)) ⌝ }
     {
-        let left = Bundles::none();
-        let mut items = left.items;
+        let none = no_bundle();
+        let mut items = self.items;
         let mut n: usize = 0;
         let count = self.count;
         let mut i: usize = 0;
         while i < count {
-            let b = self.items[i];
+            let from = i;
             i += 1;
-            if !bundle_meets(b, test) {
-                items[n] = b;
+            let b = items[from];
+            if bundle_meets(b, test) {
+                items[from] = none;
+            } else {
+                let to = n;
                 n += 1;
+                if to < from {
+                    let moved = items[from];
+                    items[to] = moved;
+                    items[from] = none;
+                }
             }
         }
         Bundles { count: n, items }
     }
 
-    // One bundle more, at a place; those from there on move up.
-    pub fn with(self, place: usize, b: StoredBundle) -> Bundles
+    // One bundle more; those after it move up, from the last on, each read again to be moved.
+    pub fn with(self, b: StoredBundle) -> Bundles
         requires { ⌜ BundlesStored self ⌝ }
         requires { ⌜ BundleStored b ⌝ }
-        requires { ⌜ (place ≤ length (bundles-of self)) × (length (bundles-of self) < most-bundles) ⌝ }
-        ensures { λ r. ⌜ r ≡ store-bundles (take place (bundles-of self) ++ bundle-in b ∷ drop place (bundles-of self)) ⌝ }
+        requires { ⌜ (ascends bundle-before (bundles-of self) ≡ true) × (length (bundles-of self) < most-bundles) ⌝ }
+        ensures { λ r. ⌜ r ≡ store-bundles (insert-by bundle-before (bundle-in b) (bundles-of self)) ⌝ }
     {
         let mut items = self.items;
         let count = self.count;
         let mut i = count;
-        while place < i {
+        while 0 < i {
+            let last = items[i - 1];
+            if !bundle_meets(last, BundleTest::After(b.location)) {
+                break;
+            }
             let moved = items[i - 1];
             items[i] = moved;
             i -= 1;
         }
-        items[place] = b;
+        items[i] = b;
         Bundles {
             count: count + 1,
             items,

@@ -251,8 +251,7 @@ impl Graph {
                 packages: exported,
                 services: published,
             };
-            let place = bundles.first(BundleTest::After(location));
-            let more = bundles.with(place, b);
+            let more = bundles.with(b);
             next.bundles = more;
         }
         Changed {
@@ -325,8 +324,7 @@ impl Graph {
                 packages: passed,
                 services: offered,
             };
-            let place = connections.first(ConnectionTest::After(source, target));
-            let more = connections.with(place, c);
+            let more = connections.with(c);
             next.connections = more;
         }
         Changed {

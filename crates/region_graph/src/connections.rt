@@ -1,13 +1,13 @@
 // The places of the connections, in ascending order of their two ends, and their filters.
 ghost use mathlib.Core.Path.{_≡_};
 ghost use mathlib.Core.Bool.{true, not};
-ghost use mathlib.Core.List.{[], _∷_, _++_};
-ghost use Prim.Native.Nat.{_<_, _≤_};
+ghost use mathlib.Core.List.{[]};
+ghost use Prim.Native.Nat.{_<_};
 ghost use lib.Dec.{ltb};
-ghost use lib.ListN.{length, take, drop};
+ghost use lib.ListN.{length};
 ghost use Rattle.region_graph.specs.Size.{«most-connections»};
-ghost use Rattle.region_graph.specs.Lists.{ascends, every, keep, position};
-ghost use Rattle.region_graph.specs.Model.{Part, entries, «entry-before», ordered};
+ghost use Rattle.region_graph.specs.Lists.{ascends, every, keep, position, «insert-by»};
+ghost use Rattle.region_graph.specs.Model.{Part, entries, «entry-before», ordered, «connection-before»};
 ghost use Rattle.region_graph.specs.Calls.{«part-within», «of-listed», «filter-within», «filter-ascends»};
 ghost use Rattle.region_graph.specs.Record.{«store-part», «store-package-part», «store-connection», «store-connections»};
 ghost use Rattle.region_graph.specs.Record.{«connection-in», «no-connection», «connections-of»};
@@ -253,43 +253,56 @@ impl Connections {
         i
     }
 
-    // The connections that do not meet a test.
+    // The connections that do not meet a test: each moves down by as many as met it before, and what it leaves is not used.
+    // It is read again to be moved, so that one that stays is not copied for the test.
     pub fn without(self, test: ConnectionTest) -> Connections
         requires { ⌜ ConnectionsStored self ⌝ }
         ensures { λ r. ⌜ r ≡ store-connections (keep (λ c. not (connection-meets test c)) (connections-of self)) ⌝ }
     {
-        let left = Connections::none();
-        let mut items = left.items;
+        let none = no_connection();
+        let mut items = self.items;
         let mut n: usize = 0;
         let count = self.count;
         let mut i: usize = 0;
         while i < count {
-            let c = self.items[i];
+            let from = i;
             i += 1;
-            if !connection_meets(c, test) {
-                items[n] = c;
+            let c = items[from];
+            if connection_meets(c, test) {
+                items[from] = none;
+            } else {
+                let to = n;
                 n += 1;
+                if to < from {
+                    let moved = items[from];
+                    items[to] = moved;
+                    items[from] = none;
+                }
             }
         }
         Connections { count: n, items }
     }
 
-    // One connection more, at a place; those from there on move up.
-    pub fn with(self, place: usize, c: StoredConnection) -> Connections
+    // One connection more; those after it move up, from the last on, each read again to be moved.
+    pub fn with(self, c: StoredConnection) -> Connections
         requires { ⌜ ConnectionsStored self ⌝ }
         requires { ⌜ ConnectionStored c ⌝ }
-        requires { ⌜ (place ≤ length (connections-of self)) × (length (connections-of self) < most-connections) ⌝ }
-        ensures { λ r. ⌜ r ≡ store-connections (take place (connections-of self) ++ connection-in c ∷ drop place (connections-of self)) ⌝ }
+        requires { ⌜ (ascends connection-before (connections-of self) ≡ true) × (length (connections-of self) < most-connections) ⌝ }
+        ensures { λ r. ⌜ r ≡ store-connections (insert-by connection-before (connection-in c) (connections-of self)) ⌝ }
     {
         let mut items = self.items;
         let count = self.count;
         let mut i = count;
-        while place < i {
+        while 0 < i {
+            let last = items[i - 1];
+            if !connection_meets(last, ConnectionTest::After(c.source, c.target)) {
+                break;
+            }
             let moved = items[i - 1];
             items[i] = moved;
             i -= 1;
         }
-        items[place] = c;
+        items[i] = c;
         Connections {
             count: count + 1,
             items,

@@ -12,7 +12,7 @@ ghost use Rattle.region_graph.specs.Model.{LegalBundle, LegalConnection}
 ghost use Rattle.region_graph.specs.Record.{«store-bundle», «store-bundles», «store-connection», «store-connections»};
 ghost use Rattle.region_graph.specs.Flat.{Made, «bundle-width», «connection-width»};
 ghost use Rattle.region_graph.specs.Places.{«put-into»};
-ghost use Rattle.region_graph.specs.Decoded.{Decoded, WordRead, HeadsPut, «tail-from», «with-count», ListDecoded, PartDecoded};
+ghost use Rattle.region_graph.specs.Decoded.{Decoded, WordRead, HeadsPut, RangesPut, «tail-from», «with-count», ListDecoded, PartDecoded};
 ghost use Rattle.region_graph.specs.Decoded.{PackagesDecoded, EntriesDecoded, PackagePartDecoded};
 ghost use Rattle.region_graph.specs.Decoded.{GoodRegions, GoodBundles, GoodConnections, FlatBundle, FlatConnection, FlatBundles, FlatConnections};
 use crate::Changed;
@@ -27,7 +27,6 @@ use crate::numbers::ascending;
 use crate::packages::Entries;
 use crate::packages::Packages;
 use crate::packages::entries_ascending;
-use crate::packages::entries_ordered;
 use crate::packages::every_package;
 use crate::packages::packages_ascending;
 use crate::refusals::BROKEN_LAYOUT;
@@ -134,29 +133,46 @@ fn put_heads(places: &mut [u32], list: &[u64], bits: u32) -> bool
     requires { ⌜ bits < 64 ⌝ }
     ensures { λ r. ⌜ HeadsPut (2 ^ bits) (now (list .entry)) (now (places .entry)) r (now (places .exit)) ⌝ }
 {
+    let mut words = true;
     let mut i: usize = 0;
     while i < list.len() {
-        let head = word_of(list[i] >> bits);
-        if !head.ok {
-            return false;
-        }
-        places[i] = head.word;
+        let head = list[i] >> bits;
+        places[i] = (head % PAST_WORDS) as u32;
+        words = words & (head < PAST_WORDS);
         i += 1;
     }
-    true
+    words
 }
 
-// Puts the lowest 16 bits of what is left of each code without its lower bits into the first places.
-fn put_tails(places: &mut [u16], list: &[u64], bits: u32)
+// Puts the lowest 16 bits of each code into the first places.
+fn put_tails(places: &mut [u16], list: &[u64])
     requires { ⌜ length (now list) ≤ length (now places) ⌝ }
-    requires { ⌜ bits < 64 ⌝ }
-    ensures { λ r. ⌜ now (places .exit) ≡ put-into (now (places .entry)) (map (tail-from (2 ^ bits)) (now (list .entry))) ⌝ }
+    ensures { λ r. ⌜ now (places .exit) ≡ put-into (now (places .entry)) (map (tail-from 1) (now (list .entry))) ⌝ }
 {
     let mut i: usize = 0;
     while i < list.len() {
-        places[i] = ((list[i] >> bits) % TAILS) as u16;
+        places[i] = (list[i] % TAILS) as u16;
         i += 1;
     }
+}
+
+// Puts the two versions of each code of an entry into the first places of two lists; says whether no lowest one exceeds its highest.
+fn put_ranges(lowest: &mut [u16], highest: &mut [u16], list: &[u64]) -> bool
+    requires { ⌜ (length (now list) ≤ length (now lowest)) × (length (now list) ≤ length (now highest)) ⌝ }
+    ensures { λ r. ⌜ RangesPut (now (list .entry)) (now (lowest .entry)) (now (highest .entry)) r (now (lowest .exit)) (now (highest .exit)) ⌝ }
+{
+    let mut ordered = true;
+    let mut i: usize = 0;
+    while i < list.len() {
+        let code = list[i];
+        let low = ((code >> VERSION_BITS) % TAILS) as u16;
+        let high = (code % TAILS) as u16;
+        lowest[i] = low;
+        highest[i] = high;
+        ordered = ordered & (low <= high);
+        i += 1;
+    }
+    ordered
 }
 
 // Puts the list at a place of the row into lent places, as many as it may have numbers.
@@ -217,7 +233,7 @@ fn packages_at(row: &[u64], at: usize) -> PackagesAt
     let from = at + 1;
     let to = from + count;
     let words = put_heads(&mut numbers, &row[from..to], VERSION_BITS);
-    put_tails(&mut versions, &row[from..to], 0);
+    put_tails(&mut versions, &row[from..to]);
     let ascend = packages_ascending(&numbers[..count], &versions[..count]);
     PackagesAt {
         ok: words & ascend,
@@ -252,10 +268,8 @@ fn entries_at(row: &[u64], at: usize) -> EntriesAt
     let from = at + 1;
     let to = from + count;
     let words = put_heads(&mut numbers, &row[from..to], RANGE_BITS);
-    put_tails(&mut lowest, &row[from..to], VERSION_BITS);
-    put_tails(&mut highest, &row[from..to], 0);
+    let ordered = put_ranges(&mut lowest, &mut highest, &row[from..to]);
     let ascend = entries_ascending(&numbers[..count], &lowest[..count], &highest[..count]);
-    let ordered = entries_ordered(&numbers[..count], &lowest[..count], &highest[..count]);
     EntriesAt {
         ok: words & (ascend & ordered),
         entries: Entries {
@@ -430,22 +444,22 @@ impl Graph {
         let set = listed.set;
         let installed = bundle_list(bundles, set);
         let connected = connection_list(connections, set);
-        if listed.ok & installed.ok & connected.ok {
-            let places = installed.bundles;
-            let joins = connected.connections;
-            return Changed {
-                graph: Graph {
-                    regions: set,
-                    bundles: places,
-                    connections: joins,
-                },
-                number: NOT_REFUSED,
-            };
+        let places = installed.bundles;
+        let joins = connected.connections;
+        let mut next = Graph {
+            regions: set,
+            bundles: places,
+            connections: joins,
+        };
+        let mut number = NOT_REFUSED;
+        if !(listed.ok & installed.ok & connected.ok) {
+            let empty = Graph::empty();
+            next = empty;
+            number = BROKEN_LAYOUT;
         }
-        let empty = Graph::empty();
         Changed {
-            graph: empty,
-            number: BROKEN_LAYOUT,
+            graph: next,
+            number,
         }
     }
 }

@@ -14,6 +14,7 @@ use crate::Item;
 use crate::Place;
 use crate::bundles::BundleTest;
 use crate::bundles::StoredBundle;
+use crate::bundles::bundle_meets;
 use crate::bundles::no_bundle;
 use crate::connections::StoredConnection;
 use crate::connections::no_connection;
@@ -127,12 +128,16 @@ impl Graph {
         ensures { λ r. ⌜ r ≡ place-of (meaning self .bundles) location ⌝ }
     {
         let bundles = self.bundles;
-        let place = bundles.first(BundleTest::At(location));
-        if bundles.count <= place {
-            return Place::Nowhere;
+        let count = bundles.count;
+        let mut i: usize = 0;
+        while i < count {
+            let b = bundles.items[i];
+            if bundle_meets(b, BundleTest::At(location)) {
+                return Place::Within(b.region);
+            }
+            i += 1;
         }
-        let b = bundles.items[place];
-        Place::Within(b.region)
+        Place::Nowhere
     }
 
     // The region in which a location is installed, if the bundle there provides an item.
@@ -141,13 +146,17 @@ impl Graph {
         ensures { λ r. ⌜ r ≡ provider-place (meaning self .bundles) location item ⌝ }
     {
         let bundles = self.bundles;
-        let place = bundles.first(BundleTest::At(location));
-        if bundles.count <= place {
-            return Place::Nowhere;
-        }
-        let b = bundles.items[place];
-        if bundle_provides(b, item) {
-            return Place::Within(b.region);
+        let count = bundles.count;
+        let mut i: usize = 0;
+        while i < count {
+            let b = bundles.items[i];
+            if bundle_meets(b, BundleTest::At(location)) {
+                if bundle_provides(b, item) {
+                    return Place::Within(b.region);
+                }
+                return Place::Nowhere;
+            }
+            i += 1;
         }
         Place::Nowhere
     }

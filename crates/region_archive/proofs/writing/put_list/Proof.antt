@@ -30,8 +30,8 @@ put-count c = c .before .before .before
 abbrev start : tie.At-loop Inv-loop μ-loop → tie.Start Inv-loop μ-loop
 start c = put-count c .before .before .before
 
-put-number-requires-2 : tie.Need-put-number-requires-2 Inv-loop μ-loop
-put-number-requires-2 c κs =
+put-element-requires : tie.Need-put-element-requires Inv-loop μ-loop
+put-element-requires c κs =
     let a = c .before .before .before .before in
     let s = start a in
     let f = s .args .form in
@@ -49,7 +49,7 @@ loop-again c =
     let a = c .before .before .before .before .before .before .before in
     let s = start a in
     let e = concat-next (element-bytes (s .args .form)) (s .args .t4 .items) (a .loop .i) 0 (omega (arith, s .pre .0 .1 .count, s .pre .0 .1 .size)) in
-    (omega arith, rw e (wrote-then (a .loop .inv .1) (c .before .before .put-number2 .ensures)))
+    (omega arith, rw e (wrote-then (a .loop .inv .1) (c .before .before .put-element .ensures)))
 
 returns : tie.Need-returns Inv-loop μ-loop
 returns c =
@@ -71,6 +71,6 @@ put-list-spec =
     (λ c. omega (arith, start (c .before) .pre .0 .1 .count))
     (λ c. omega (arith, start (c .before .before .before) .pre .0 .0 .skips))
     (λ c. start (c .before .before .before) .pre .0 .0 .skips)
-    put-number-requires-2 (λ c. search needs) (λ c. search needs) loop-again
+    put-element-requires (λ c. search needs) (λ c. search needs) loop-again
     (λ c. wrote-length (c .before .loop .inv .1) ∙ wrote-length (put-count (c .before) .put-number .ensures))
     returns)

@@ -1,13 +1,13 @@
 use mathlib.Core.Path.{_≡_, refl, sym, ap, _∙_}
 use mathlib.Core.Logic.{⊎-elim}
 use borrow.Author.Needs.{needs}
+use Rattle.region_graph.specs.Lists.{insert-by}
 use Rattle.region_graph.specs.Model.{Connection, entries, Word, EntryFits, connection-before}
 use Rattle.region_graph.specs.Calls.{Call, number, accepted, end-questions, connection-questions}
 use Rattle.region_graph.specs.Record.{meaning, store-connection, store-connections, connection-in}
-use Rattle.region_graph.specs.Places.{ShortConnection, connection-meets}
+use Rattle.region_graph.specs.Places.{ShortConnection}
 use Rattle.region_graph.specs.Promise.{new-connection}
-use Rattle.region_graph.specs.declared.connections.ConnectionTest.the-variants.{After}
-use Rattle.region_graph.proofs.Lists.{all-of, position-le, insert-stored}
+use Rattle.region_graph.proofs.Lists.{all-of}
 use Rattle.region_graph.proofs.Columns.{entries-fit}
 use Rattle.region_graph.proofs.Legal.{first-step, second-step, Connectable, connectable, part-each, part-short}
 use Rattle.region_graph.proofs.Storing.{stored-as, connection-back, regions-stored, bundles-stored, connections-stored, stored-graph, refused, accepts}
@@ -77,38 +77,35 @@ stores c =
 with-requires : tie.Need-with-requires
 unfolding meaning
 with-requires c κs =
-    let s = start (c .before .before .before .before .before) in
+    let s = start (c .before .before .before .before) in
     let a = s .args in (
       connections-stored (a .self) (s .pre),
       (
-        stored-as store-connection connection-in ShortConnection connection-back (given s) (stores (c .before)) (short (c .before .before .before .before)),
-        (
-          rw (c .first .ensures) (position-le (connection-meets (After (a .source) (a .target))) (meaning (a .self) .connections)),
-          passed (c .before .before .before .before) .room,
-        ),
+        stored-as store-connection connection-in ShortConnection connection-back (given s) (stores c) (short (c .before .before .before)),
+        (s .pre .good .connections-legal .ascend, passed (c .before .before .before) .room),
       ),
     )
 
 returns : tie.Need-returns
 unfolding meaning
 returns c =
-    let s = start (c .before .before .before .before .before .before) in
+    let s = start (c .before .before .before .before .before) in
     let a = s .args in
-    let known = c .before .before .before .before .before .before .before .before .before in
+    let known = c .before .before .before .before .before .before .before .before in
     let g = a .self in
     let x = given s in
-    accepts g (Call.connect x) (s .pre) (asked (c .before .before .before .before .before .before)) (
+    accepts g (Call.connect x) (s .pre) (asked (c .before .before .before .before .before)) (
       all-of Word 0 (a .bundles .now) (λ i h. known .before .before .before .before .shared-slice-known .given i .fits),
       part-each EntryFits (a .all-packages) (entries (a .packages .now) (a .lowest .now) (a .highest .now))
           (entries-fit (a .packages .now) (a .lowest .now) (a .highest .now) (λ i. known .before .before .before .shared-slice-known2 .given i .fits)
           (λ i. known .before .before .shared-slice-known3 .given i .fits) (λ i. known .before .shared-slice-known4 .given i .fits)),
       part-each Word (a .all-services) (a .services .now) (all-of Word 0 (a .services .now) (λ i h. known .shared-slice-known5 .given i .fits)),
     )
-    (c .before .before .before .before .before .if2 .taken)
+    (c .before .before .before .before .if2 .taken)
     (stored-graph (accepted (meaning g) (Call.connect x)) (regions-stored g (s .pre)) (bundles-stored g (s .pre) .stored)
     (c .with .ensures
-    ∙ ap store-connections (insert-stored store-connection connection-in connection-before x (meaning g .connections) (stores (c .before .before))
-    (connection-back x (short (c .before .before .before .before .before))) (c .before .first .ensures))))
+    ∙ ap (λ (y : Connection). store-connections (insert-by connection-before y (meaning g .connections)))
+    (ap connection-in (stores (c .before)) ∙ connection-back x (short (c .before .before .before .before)))))
 
 returns-2 : tie.Need-returns-2
 returns-2 c = let s = start (c .before) in refused (s .args .self) (Call.connect (given s)) (s .pre) (asked (c .before)) (c .if2 .left) refl
@@ -120,4 +117,4 @@ connect-spec =
     (λ c κs. let s = c .before .before .before .before .before .before .before .before in connections-stored (s .args .self) (s .pre))
     (λ c κs. passed c .bundles-few)
     (λ c κs. passed (c .before) .packages-within) (λ c κs. passed (c .before .before) .services-within)
-    (λ c κs. let s = start (c .before .before .before .before) in connections-stored (s .args .self) (s .pre)) with-requires returns returns-2)
+    with-requires returns returns-2)

@@ -1,13 +1,13 @@
 use mathlib.Core.Path.{_≡_, refl, sym, ap, _∙_}
 use mathlib.Core.Logic.{⊎-elim}
 use borrow.Author.Needs.{needs}
+use Rattle.region_graph.specs.Lists.{insert-by}
 use Rattle.region_graph.specs.Model.{Bundle, packages, Word, bundle-before}
 use Rattle.region_graph.specs.Calls.{Call, number, accepted, provided-questions, bundle-questions}
 use Rattle.region_graph.specs.Record.{meaning, store-bundle, store-bundles, bundle-in}
-use Rattle.region_graph.specs.Places.{ShortBundle, bundle-meets}
+use Rattle.region_graph.specs.Places.{ShortBundle}
 use Rattle.region_graph.specs.Promise.{new-bundle}
-use Rattle.region_graph.specs.declared.bundles.BundleTest.the-variants.{After}
-use Rattle.region_graph.proofs.Lists.{all-of, position-le, insert-stored}
+use Rattle.region_graph.proofs.Lists.{all-of}
 use Rattle.region_graph.proofs.Columns.{packages-fit}
 use Rattle.region_graph.proofs.Legal.{first-step, second-step, Installable, installable}
 use Rattle.region_graph.proofs.Storing.{stored-as, bundle-back, regions-stored, bundles-stored, connections-stored, stored-graph, refused, accepts}
@@ -55,34 +55,33 @@ install-number-requires c κs =
 with-requires : tie.Need-with-requires
 unfolding meaning
 with-requires c κs =
-    let s = start (c .before .before .before .before) in
-    let o = passed (c .before .before .before) in (
+    let s = start (c .before .before .before) in
+    let o = passed (c .before .before) in (
       bundles-stored (s .args .self) (s .pre),
       (
-        stored-as store-bundle bundle-in ShortBundle (λ b h. bundle-back b) (given s) (stores (c .before))
+        stored-as store-bundle bundle-in ShortBundle (λ b h. bundle-back b) (given s) (stores c)
             (record { packages = o .few-packages; services = o .few-services }),
-        (rw (c .first .ensures) (position-le (bundle-meets (After (s .args .location))) (meaning (s .args .self) .bundles)), o .room),
+        (s .pre .good .bundles-legal .ascend, o .room),
       ),
     )
 
 returns : tie.Need-returns
 unfolding meaning
 returns c =
-    let s = start (c .before .before .before .before .before) in
-    let known = c .before .before .before .before .before .before .before .before .before in
+    let s = start (c .before .before .before .before) in
+    let known = c .before .before .before .before .before .before .before .before in
     let g = s .args .self in
     let b = given s in
-    accepts g (Call.install b) (s .pre) (asked (c .before .before .before .before .before)) (
+    accepts g (Call.install b) (s .pre) (asked (c .before .before .before .before)) (
       s .fits .location .fits,
       packages-fit (s .args .numbers .now) (s .args .versions .now) (λ i. known .before .before .shared-slice-known .given i .fits)
           (λ i. known .before .shared-slice-known2 .given i .fits),
       all-of Word 0 (b .services) (λ i h. known .shared-slice-known3 .given i .fits),
     )
-    (c .before .before .before .before .if2 .taken)
+    (c .before .before .before .if2 .taken)
     (stored-graph (accepted (meaning g) (Call.install b)) (regions-stored g (s .pre))
     (c .with .ensures
-    ∙ ap store-bundles (insert-stored store-bundle bundle-in bundle-before b (meaning g .bundles)
-    (stores (c .before .before)) (bundle-back b) (c .before .first .ensures)))
+    ∙ ap (λ (x : Bundle). store-bundles (insert-by bundle-before x (meaning g .bundles))) (ap bundle-in (stores (c .before)) ∙ bundle-back b))
     (connections-stored g (s .pre) .stored))
 
 returns-2 : tie.Need-returns-2
@@ -92,4 +91,4 @@ pub install-spec : {M : Type 1} → statement M
 install-spec =
     tie.close
     (tie.spec (λ c κs. search needs) install-number-requires (λ c κs. passed c .few-packages) (λ c κs. passed (c .before) .few-services)
-    (λ c κs. let s = start (c .before .before .before) in bundles-stored (s .args .self) (s .pre)) with-requires returns returns-2)
+    with-requires returns returns-2)

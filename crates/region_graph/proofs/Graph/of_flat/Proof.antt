@@ -1,5 +1,6 @@
 use mathlib.Core.Bool.{_&&_}
 use borrow.Author.Needs.{needs}
+use borrow.Author.Tests.{not-true, not-false}
 use Rattle.region_graph.specs.Model.{Legal}
 use Rattle.region_graph.specs.Record.{store}
 use Rattle.region_graph.specs.Flat.{FlatModel}
@@ -23,19 +24,18 @@ found c =
 
 returns : tie.Need-returns
 returns c =
-    let t = c .before .before in
-    let f = t .before .before .before .before in
+    let t = c .before in
+    let f = t .before .before .before .before .before .before in
     let a = f .before .before .before .before .before .before .args in
-    made-found (a .regions .now) (a .bundles .now) (a .connections .now) (found f) (t .if1 .taken)
+    made-none (a .regions .now) (a .bundles .now) (a .connections .now) (found f) (not-true _ (t .if1 .taken)) (c .empty .ensures)
 
 returns-2 : tie.Need-returns-2
 returns-2 c =
-    let t = c .before in
-    let f = t .before .before .before .before in
+    let f = c .before .before .before .before .before .before in
     let a = f .before .before .before .before .before .before .args in
-    made-none (a .regions .now) (a .bundles .now) (a .connections .now) (found f) (t .if1 .left) (c .empty .ensures)
+    made-found (a .regions .now) (a .bundles .now) (a .connections .now) (found f) (not-false _ (c .if1 .left))
 
 pub of-flat-spec : {M : Type 1} → statement M
 of-flat-spec =
     tie.close
-    (tie.spec (λ c κs. search needs) (λ c κs. search needs) (λ c κs. search needs) returns (λ c κs. search needs) returns-2)
+    (tie.spec (λ c κs. search needs) (λ c κs. search needs) (λ c κs. search needs) (λ c κs. search needs) returns returns-2)

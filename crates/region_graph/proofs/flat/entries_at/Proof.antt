@@ -10,52 +10,31 @@ returns c = let a = c .before .before .before .args in entries-long (a .row .now
 
 slice-aggregate-entries-ascending : tie.Need-slice-aggregate-entries-ascending
 slice-aggregate-entries-ascending c =
-    let n = c .before .before .before .before .before .before .before .before .before in
+    let n = c .before .before .before .before .before .before .before in
     prefix-counted _ _ (n .numbers2 .given) (n .before .before .before .before .if1 .left)
 
 slice-aggregate-entries-ascending-2 : tie.Need-slice-aggregate-entries-ascending-2
 slice-aggregate-entries-ascending-2 c =
-    let n = c .before .before .before .before .before .before in
-    prefix-counted _ _ (n .lowest2 .given) (n .before .before .before .before .before .before .before .before .if1 .left)
+    let n = c .before .before .before in
+    prefix-counted _ _ (n .lowest2 .given) (n .before .before .before .before .before .before .before .before .before .if1 .left)
 
 slice-aggregate-entries-ascending-3 : tie.Need-slice-aggregate-entries-ascending-3
 slice-aggregate-entries-ascending-3 c =
     let n = c .before .before .before in
-    prefix-counted _ _ (n .highest2 .given) (n .before .before .before .before .before .before .before .before .before .before .before .before .if1 .left)
-
-slice-aggregate-entries-ordered : tie.Need-slice-aggregate-entries-ordered
-slice-aggregate-entries-ordered c =
-    let n = c .before .before .before .before .before .before .before .before .before .before .before .before .before in
-    prefix-counted _ _ (n .numbers2 .given) (n .before .before .before .before .if1 .left)
-
-slice-aggregate-entries-ordered-2 : tie.Need-slice-aggregate-entries-ordered-2
-slice-aggregate-entries-ordered-2 c =
-    let n = c .before .before .before .before .before .before .before .before .before .before in
-    prefix-counted _ _ (n .lowest2 .given) (n .before .before .before .before .before .before .before .before .if1 .left)
-
-slice-aggregate-entries-ordered-3 : tie.Need-slice-aggregate-entries-ordered-3
-slice-aggregate-entries-ordered-3 c =
-    let n = c .before .before .before .before .before .before .before in
-    prefix-counted _ _ (n .highest2 .given) (n .before .before .before .before .before .before .before .before .before .before .before .before .if1 .left)
+    prefix-counted _ _ (n .highest2 .given) (n .before .before .before .before .before .before .before .before .before .before .if1 .left)
 
 returns-2 : tie.Need-returns-2
 returns-2 c =
-    let o = c .before .before .before .before in
-    let u = o .before .before .before .before .before in
-    let t = u .before .before .before .before in
-    let h = t .before .before .before .before in
-    let f = h .before .before .before in
-    let s = f .before .before .before in
-    entries-found (s .args .row .now) (s .args .at) _ refl (f .if1 .left) (s .pre) (h .put-heads .ensures) (t .put-tails .ensures)
-    (u .put-tails2 .ensures) (o .entries-ascending .ensures) (c .entries-ordered .ensures)
+    let t = c .before .before .before .before .before .before in
+    let h = t .before .before .before .before .before in
+    let s = h .before .before .before .before .before .before in
+    entries-found (s .args .row .now) (s .args .at) _ refl (h .before .before .before .if1 .left) (s .pre) (h .put-heads .ensures) (t .put-ranges .ensures)
+    (c .entries-ascending .ensures)
 
 pub entries-at-spec : {M : Type 1} → statement M
 entries-at-spec =
     tie.close
     (tie.spec (λ c. search needs) (λ c. search needs) returns (λ c. search needs) (λ c. search needs) (λ c. search needs) (λ c. search needs)
     (λ c. search needs) (λ c. search needs) (λ c. search needs) (λ c κs. search needs) (λ c. search needs) (λ c. search needs) (λ c. search needs)
-    (λ c. search needs) (λ c. search needs) (λ c κs. search needs) (λ c. search needs) (λ c. search needs) (λ c. search needs) (λ c. search needs)
-    (λ c. search needs) (λ c κs. search needs) (λ c. search needs) slice-aggregate-entries-ascending (λ c. search needs)
-    slice-aggregate-entries-ascending-2 (λ c. search needs) slice-aggregate-entries-ascending-3 (λ c κs. search needs) (λ c. search needs)
-    slice-aggregate-entries-ordered (λ c. search needs) slice-aggregate-entries-ordered-2 (λ c. search needs) slice-aggregate-entries-ordered-3
-    (λ c κs. search needs) returns-2)
+    (λ c. search needs) (λ c. search needs) (λ c. search needs) (λ c κs. search needs) (λ c. search needs) slice-aggregate-entries-ascending
+    (λ c. search needs) slice-aggregate-entries-ascending-2 (λ c. search needs) slice-aggregate-entries-ascending-3 (λ c κs. search needs) returns-2)

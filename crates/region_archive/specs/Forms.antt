@@ -10,8 +10,8 @@ use Rattle.region_graph.specs.Model.{Sorted}
 use Rattle.big_endian.specs.Bytes.{big}
 use Rattle.big_endian.specs.Numbers.{longest}
 use Rattle.region_archive.specs.declared.forms.Form.{Form}
-use Rattle.region_archive.specs.declared.forms.Elements.{Elements}
-use Rattle.region_archive.specs.declared.forms.Elements.the-variants as Elements
+use Rattle.region_archive.specs.declared.forms.ListOf.{ListOf}
+use Rattle.region_archive.specs.declared.forms.ListOf.the-variants as ListOf
 use Rattle.region_archive.specs.declared.record_fields.Section.{Section}
 use Rattle.region_archive.specs.declared.record_fields.Section.the-variants as Section
 
@@ -83,13 +83,13 @@ entries-form = record { width = 8; skipped = 0; rest = 0; lower = 32 }
 abbrev pub bare-entries-form : Form
 bare-entries-form = record { width = 4; skipped = 32; rest = 65535; lower = 32 }
 
--- the form of elements of each sort
-abbrev pub element-form : Elements → Form
-element-form Elements.Numbers = numbers-form
-element-form Elements.Packages = packages-form
-element-form Elements.BarePackages = bare-packages-form
-element-form Elements.Entries = entries-form
-element-form Elements.BareEntries = bare-entries-form
+-- the form of a list by what it has
+abbrev pub list-form : ListOf → Form
+list-form ListOf.Numbers = numbers-form
+list-form ListOf.Packages = packages-form
+list-form ListOf.BarePackages = bare-packages-form
+list-form ListOf.Entries = entries-form
+list-form ListOf.BareEntries = bare-entries-form
 
 -- the form of the list in a field of a record: packages are field 2 of a bundle, and entries field 3 of a connection; from version 3 on they
 -- have their versions

@@ -3,7 +3,7 @@ ghost use mathlib.Core.Path.{_≡_};
 ghost use Prim.Native.Nat.{_≤_};
 ghost use lib.ListN.{length};
 ghost use Rattle.big_endian.specs.Parsing.{Answer};
-ghost use Rattle.region_archive.specs.Forms.{«element-bytes», «code-key», «code-next», NextCode, FormFits, «element-form», «form-of»};
+ghost use Rattle.region_archive.specs.Forms.{«element-bytes», «code-key», «code-next», NextCode, FormFits, «list-form», «form-of»};
 use crate::record_fields::Section;
 use big_endian::LongAt;
 use big_endian::long_at;
@@ -34,7 +34,7 @@ const PACKAGES: usize = 2;
 const PACKAGE_PART: usize = 3;
 
 // What a list has: numbers, packages or entries; packages and entries without their versions in files before version 3.
-pub enum Elements {
+pub enum ListOf {
     Numbers,
     Packages,
     BarePackages,
@@ -42,36 +42,36 @@ pub enum Elements {
     BareEntries,
 }
 
-// The form of elements. Where they are a constant, so is the form.
-pub fn element_form(elements: Elements) -> Form
-    ensures { λ r. ⌜ (r ≡ element-form elements) × FormFits r ⌝ }
+// The form of a list. Where what it has is a constant, so is the form.
+pub fn list_form(list: ListOf) -> Form
+    ensures { λ r. ⌜ (r ≡ list-form list) × FormFits r ⌝ }
 {
-    match elements {
-        Elements::Numbers => Form {
+    match list {
+        ListOf::Numbers => Form {
             width: 4,
             skipped: 0,
             rest: 0,
             lower: 0,
         },
-        Elements::Packages => Form {
+        ListOf::Packages => Form {
             width: 6,
             skipped: 0,
             rest: 0,
             lower: 0,
         },
-        Elements::BarePackages => Form {
+        ListOf::BarePackages => Form {
             width: 4,
             skipped: 16,
             rest: NO_VERSION,
             lower: 0,
         },
-        Elements::Entries => Form {
+        ListOf::Entries => Form {
             width: 8,
             skipped: 0,
             rest: 0,
             lower: 32,
         },
-        Elements::BareEntries => Form {
+        ListOf::BareEntries => Form {
             width: 4,
             skipped: 32,
             rest: EVERY_VERSION,
@@ -81,27 +81,27 @@ pub fn element_form(elements: Elements) -> Form
 }
 
 // What the list in a field of a record has.
-pub fn elements_of(section: Section, field: usize) -> Elements
-    ensures { λ r. ⌜ element-form r ≡ form-of section field ⌝ }
+pub fn field_list(section: Section, field: usize) -> ListOf
+    ensures { λ r. ⌜ list-form r ≡ form-of section field ⌝ }
 {
     match section {
         Section::Bundles(version) => {
             if field != PACKAGES {
-                return Elements::Numbers;
+                return ListOf::Numbers;
             }
             if version < VERSIONED {
-                return Elements::BarePackages;
+                return ListOf::BarePackages;
             }
-            Elements::Packages
+            ListOf::Packages
         }
         Section::Connections(version) => {
             if field != PACKAGE_PART {
-                return Elements::Numbers;
+                return ListOf::Numbers;
             }
             if version < VERSIONED {
-                return Elements::BareEntries;
+                return ListOf::BareEntries;
             }
-            Elements::Entries
+            ListOf::Entries
         }
     }
 }
@@ -110,8 +110,8 @@ pub fn elements_of(section: Section, field: usize) -> Elements
 pub fn form_of(section: Section, field: usize) -> Form
     ensures { λ r. ⌜ (r ≡ form-of section field) × FormFits r ⌝ }
 {
-    let elements = elements_of(section, field);
-    element_form(elements)
+    let list = field_list(section, field);
+    list_form(list)
 }
 
 // The key of a code: what is left of it without the lower bits.

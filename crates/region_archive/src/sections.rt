@@ -5,15 +5,15 @@ ghost use Prim.Native.Nat.{_≤_, _<_, _+_, _*_};
 ghost use lib.ListN.{length};
 ghost use Rattle.region_graph.specs.Size.{regions, «most-listed»};
 ghost use Rattle.region_graph.specs.Sets.{members};
-ghost use Rattle.region_archive.specs.Forms.{FormFits, «element-form», «form-of»};
+ghost use Rattle.region_archive.specs.Forms.{FormFits, «list-form», «form-of»};
 ghost use Rattle.region_archive.specs.RecordFields.{«field-count», «first-good», «second-good», «part-open», «most-in», «most-records», «row-width»};
 ghost use Rattle.region_archive.specs.Sections.{ListRead, PartRead, FieldRead, LengthRead, RegionsRead, SectionRead};
-use crate::forms::Elements;
 use crate::forms::Form;
+use crate::forms::ListOf;
 use crate::forms::code_at;
 use crate::forms::code_key;
-use crate::forms::element_form;
-use crate::forms::elements_of;
+use crate::forms::field_list;
+use crate::forms::list_form;
 use crate::numbers::count_at;
 use crate::numbers::low_word;
 use crate::record_fields::Section;
@@ -81,23 +81,17 @@ fn list_at(bytes: &[u8], at: usize, most: usize, form: Form, row: &mut [u64]) ->
     FieldAt { ok: true, next: to }
 }
 
-// The list of such elements, at a place. Each sort has a call of its own, in which the numbers of its form are constants.
-fn elements_at(bytes: &[u8], at: usize, most: usize, elements: Elements, row: &mut [u64]) -> FieldAt
+// The list at a place, by what it has. Each sort of list has a call of its own, in which the numbers of its form are constants.
+fn listed_at(bytes: &[u8], at: usize, most: usize, list: ListOf, row: &mut [u64]) -> FieldAt
     requires { ⌜ (at ≤ length (now bytes)) × ((most ≤ most-listed) × (most + 1 ≤ length (now row))) ⌝ }
-    ensures { λ r. ⌜ ListRead (element-form elements) most (now (bytes .entry)) at (now (row .entry)) (now (row .exit)) r ⌝ }
+    ensures { λ r. ⌜ ListRead (list-form list) most (now (bytes .entry)) at (now (row .entry)) (now (row .exit)) r ⌝ }
 {
-    match elements {
-        Elements::Numbers => list_at(bytes, at, most, element_form(Elements::Numbers), row),
-        Elements::Packages => list_at(bytes, at, most, element_form(Elements::Packages), row),
-        Elements::BarePackages => list_at(
-            bytes,
-            at,
-            most,
-            element_form(Elements::BarePackages),
-            row,
-        ),
-        Elements::Entries => list_at(bytes, at, most, element_form(Elements::Entries), row),
-        Elements::BareEntries => list_at(bytes, at, most, element_form(Elements::BareEntries), row),
+    match list {
+        ListOf::Numbers => list_at(bytes, at, most, list_form(ListOf::Numbers), row),
+        ListOf::Packages => list_at(bytes, at, most, list_form(ListOf::Packages), row),
+        ListOf::BarePackages => list_at(bytes, at, most, list_form(ListOf::BarePackages), row),
+        ListOf::Entries => list_at(bytes, at, most, list_form(ListOf::Entries), row),
+        ListOf::BareEntries => list_at(bytes, at, most, list_form(ListOf::BareEntries), row),
     }
 }
 
@@ -125,8 +119,8 @@ fn part_at(bytes: &[u8], at: usize, section: Section, field: usize, row: &mut [u
         }
     }
     let most = most_in(section);
-    let elements = elements_of(section, field);
-    elements_at(bytes, at, most, elements, row)
+    let list = field_list(section, field);
+    listed_at(bytes, at, most, list, row)
 }
 
 // Whether a record may start with a number, where orders are at least so high.

@@ -7,4 +7,4 @@ pub form-of-spec : {M : Type 1} → statement M
 form-of-spec =
     tie.close
     (tie.spec (λ c κs. search needs) (λ c κs. search needs)
-    (λ c. (c .element-form .ensures .0 ∙ c .before .elements-of .ensures, c .element-form .ensures .1)))
+    (λ c. (c .list-form .ensures .0 ∙ c .before .field-list .ensures, c .list-form .ensures .1)))

@@ -28,8 +28,8 @@ returns c =
           (getD-set-same (a .row .now) 0 255 0 (omega (arith, s .pre .1))));
     }
 
-elements-at-requires : tie.Need-elements-at-requires
-elements-at-requires c κs =
+listed-at-requires : tie.Need-listed-at-requires
+listed-at-requires c κs =
     let m = c .before .before .most-in .ensures in
     let s = c .before .before .before .before .before .before in
     (s .pre .0, (omega (arith, m, most-in-few (s .args .section)), omega (arith, m, s .pre .1)))
@@ -38,7 +38,7 @@ returns-2 : tie.Need-returns-2
 returns-2 c =
     let f = c .before .before .before .before in
     let a = f .before .before .before .before .before .args in
-    let r = rw (f .elements-of .ensures, f .before .most-in .ensures) at (c .before .before .elements-at .ensures) in
+    let r = rw (f .field-list .ensures, f .before .most-in .ensures) at (c .before .before .listed-at .ensures) in
     record {
       size = r .size;
       answer =
@@ -53,4 +53,4 @@ part-at-spec =
     tie.close
     (tie.spec
     (λ c. search needs) (λ c. search needs) (λ c κs. search needs) (λ c. search needs) (λ c. search needs) returns (λ c κs. search needs)
-    (λ c κs. search needs) elements-at-requires (λ c. search needs) returns-2)
+    (λ c κs. search needs) listed-at-requires (λ c. search needs) returns-2)

@@ -1,8 +1,8 @@
 use borrow.Author.Needs.{needs}
 use borrow.Author.Tests.{le-leb, lt-leb}
 use Rattle.region_archive.proofs.FormLaws.{packages-here, no-packages-here, entries-here, no-entries-here}
-use Rattle.region_archive.proofs.forms.elements_of.Statement.{statement}
-use Rattle.region_archive.proofs.forms.elements_of.Tie as tie
+use Rattle.region_archive.proofs.forms.field_list.Statement.{statement}
+use Rattle.region_archive.proofs.forms.field_list.Tie as tie
 
 returns-2 : tie.Need-returns-2
 returns-2 c =
@@ -24,8 +24,8 @@ returns-6 c =
     let p = entries-here (c .before .before .before .section2 .given .1) (c .before .if3 .left) in
     rw (le-leb 3 _ (c .if4 .left)) at p
 
-pub elements-of-spec : {M : Type 1} → statement M
-elements-of-spec =
+pub field-list-spec : {M : Type 1} → statement M
+field-list-spec =
     tie.close
     (tie.spec (λ c. search needs) (λ c. no-packages-here (c .before .before .section .given .1) (c .if1 .taken)) returns-2 (λ c. search needs)
     (λ c. no-entries-here (c .before .before .section2 .given .1) (c .if3 .taken)) returns-4 returns-5 returns-6)

@@ -2,11 +2,11 @@ use mathlib.Core.Path.{refl}
 use borrow.Author.Needs.{needs}
 use Rattle.region_archive.proofs.FormLaws.{numbers-form-fits, packages-form-fits, bare-packages-form-fits}
 use Rattle.region_archive.proofs.FormLaws.{entries-form-fits, bare-entries-form-fits}
-use Rattle.region_archive.proofs.forms.element_form.Statement.{statement}
-use Rattle.region_archive.proofs.forms.element_form.Tie as tie
+use Rattle.region_archive.proofs.forms.list_form.Statement.{statement}
+use Rattle.region_archive.proofs.forms.list_form.Tie as tie
 
-pub element-form-spec : {M : Type 1} → statement M
-element-form-spec =
+pub list-form-spec : {M : Type 1} → statement M
+list-form-spec =
     tie.close
     (tie.spec (λ c. search needs) (λ c. search needs) (λ c. search needs) (λ c. search needs) (λ c. search needs)
     (λ c. rw (c .enum-told .given .1) (refl, numbers-form-fits)) (λ c. rw (c .enum-told2 .given .1) (refl, packages-form-fits))

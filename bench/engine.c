@@ -65,6 +65,7 @@ static uint8_t bytes[REGION_LONGEST_IMAGE];
 static file g;
 static file longest;
 static file longest_3;
+static uint8_t new_image[REGION_LONGEST_IMAGE];
 static file g_names;
 static uint8_t sheet[SHEET];
 
@@ -227,6 +228,8 @@ static int64_t read_longest_3(void) { return region_read(&graph, longest_3.bytes
 static int64_t query_g(void) { return query(&g, 10, 1); }
 static int64_t query_longest(void) { return query(&longest, 1000, 600); }
 static int64_t query_longest_3(void) { return query(&longest_3, 1000, 600); }
+static int64_t forward_longest(void) { return archive_forward(longest.bytes, longest.length, new_image, sizeof new_image); }
+static int64_t back_longest(void) { return archive_back(longest_3.bytes, longest_3.length, new_image, sizeof new_image); }
 static int64_t name_g(void) { return name_in(g_names.bytes, g_names.length, REGION_KIND_REGION, 1); }
 static int64_t name_first(void) { return name_in(sheet, SHEET, REGION_KIND_BUNDLE, 0); }
 static int64_t name_last(void) { return name_in(sheet, SHEET, REGION_KIND_BUNDLE, ENTRIES - 1); }
@@ -355,6 +358,8 @@ static void archives(void)
     best("query_g", "", query_g);
     best("query_longest", "", query_longest);
     best("query_longest_3", "", query_longest_3);
+    best("forward_longest", "", forward_longest);
+    best("back_longest", "", back_longest);
 }
 
 static void take(file *f, const char *folder, const char *name)

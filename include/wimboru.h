@@ -26,7 +26,7 @@
  *
  * Stack
  *   No call allocates memory. A thread that makes calls needs REGION_STACK_BYTES of stack for them; region_read and
- *   archive_query_v4 take the most.
+ *   archive_back take the most.
  *
  * Answers
  *   Questions are put in the order in which a call's comment lists their numbers. The first that is answered no refuses the call.
@@ -70,12 +70,13 @@ enum {
     REGION_NOT_INSTALLED = 12,    /* the bundle, or a listener, is not installed */
     REGION_NOT_A_KIND = 13,       /* the kind is above 2 */
     REGION_NO_PLACE = 14,         /* an output buffer is too short */
-    REGION_NOT_AN_ARCHIVE = 15,   /* there are fewer than 5 bytes, or the first is none of 1, 2, 3 */
+    REGION_NOT_AN_ARCHIVE = 15,   /* there are fewer than 5 bytes, or the first is no version that the call admits */
     REGION_WRONG_LENGTH = 16,     /* the length field is not the count of bytes after it */
     REGION_BROKEN_LAYOUT = 17,    /* the bytes after the length are not the layout of an archive of its version, to the end */
     REGION_BROKEN_SHEET = 18,     /* the bytes are not a name sheet's layout, from the first to the last */
     REGION_NO_ENTRY = 19,         /* the sheet has no entry of the kind and number */
     REGION_RANGE_REVERSED = 20,   /* the lowest version of a package entry is above its highest */
+    REGION_HAS_VERSIONS = 21,     /* a package has a version other than 0, or a package entry does not run from 0 to 65535 */
 };
 
 /* What an item may be: archive_query_v4 gives these as they are, region_route_v4 gives -REGION_HIDDEN. */
@@ -272,6 +273,17 @@ int64_t region_service_event(const region_graph *graph, uint32_t *out, size_t ou
    and is not looked at for the other kinds. Returns 100 (REGION_SEEN), 101 (REGION_HIDDEN), or the number of the question that was
    answered no: 15, 16, 17, 12, 13, in this order. */
 uint32_t archive_query_v4(const uint8_t *bytes, size_t length, uint32_t location, uint32_t kind, uint32_t item, uint16_t version);
+
+/* Conversions of an archive; no record is needed. Each writes an archive that means the same graph at the start of the buffer out,
+   and returns its length, or minus the number of the question that was answered no; later bytes, and where it is refused all, keep
+   their values. A buffer of REGION_LONGEST_IMAGE bytes takes any archive. Each gives back the bytes that the other one was given.
+   archive_forward admits versions 1 and 2, and makes version 3: packages get version 0, package entries run from 0 to 65535. Refused
+   with 15, 16, 17, 14.
+   archive_back admits version 3, and makes version 1 where all regions are at most 15, else version 2. It is refused with 21 where a
+   package has a version other than 0, or a package entry does not run from 0 to 65535; a package part that is everything has no
+   entries. Refused with 15, 16, 17, 21, 14. */
+int64_t archive_forward(const uint8_t *bytes, size_t length, uint8_t *out, size_t out_length);
+int64_t archive_back(const uint8_t *bytes, size_t length, uint8_t *out, size_t out_length);
 
 /* Finds the name of a kind and number in a name sheet; no record is needed. Returns the name's length, 1 to 40, and writes to start
    the place of its first byte: the name is the bytes from sheet + *start on, in the host's own memory. They are hex 20 to 7E. They

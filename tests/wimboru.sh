@@ -68,6 +68,27 @@ calls() {
     : > "$work/calls"
 }
 
+# COMMAND: wrong usage of a conversion, which makes no file: no name for the new archive, one that has something other than a plain
+# file, or one in a folder that is not there
+wrong_conversions() {
+    clear_place
+    ln -s "$g" "$place/link"
+    ln -s none "$place/leads nowhere"
+    mkfifo "$place/pipe"
+    before=$(ls -Al "$place")
+    expect 2 '' "$1"
+    expect 2 '' "$1" "$g"
+    expect 2 '' "$1" "$g" "$place/out" "$place/out"
+    expect 2 '' "$1" "$g" ''
+    expect 2 '' "$1" '' "$place/out"
+    expect 2 '' "$1" "$work/none" "$place/out"
+    expect 2 '' "$1" "$work" "$place/out"
+    for wrong in "$place" "$place/" "$place/link" "$place/leads nowhere" "$place/pipe" "$place/none/out" "$place/out/" "$g/out"; do
+        expect 2 '' "$1" "$g" "$wrong"
+    done
+    same "files after wrong usage of $1" "$(ls -Al "$place")" "$before"
+}
+
 # Wrong usage, which is told before anything is built.
 usage() {
     expect 2 ''
@@ -116,6 +137,8 @@ usage() {
     expect 2 '' draw --png "$g" "$sheet"
     expect 2 '' draw "$work/none"
     expect 2 '' draw "$g" "$work/none"
+    wrong_conversions forward
+    wrong_conversions back
     same 'builds by wrong usage' "$(calls)" ''
     "$work/tree/wimboru" --help > "$work/out" 2> "$work/err"
     same 'first line of the help' "$(head -n 1 "$work/out")" 'usage: wimboru list FILE [SHEET]'
@@ -128,6 +151,7 @@ use_all() {
         "$work/tree/wimboru" list "$g" "$sheet"
         "$work/tree/wimboru" query "$g" 10 package 1
         "$work/tree/wimboru" draw "$g"
+        "$work/tree/wimboru" forward "$g" "$work/forward"
     } > "$work/out" 2> "$work/err"
 }
 
@@ -144,14 +168,18 @@ what rt says'
     same 'builds of the first name' "$(calls)" 'staticlib region_host'
     same 'output of the first picture' "$("$work/tree/wimboru" draw "$g" 2> "$work/err")" "$picture"
     same 'builds of the first picture' "$(calls)" 'check drawing'
+    same 'output of the first conversion' "$("$work/tree/wimboru" forward "$g" "$work/forward" 2> "$work/err")" ''
+    same 'builds of the first conversion' "$(calls)" 'staticlib region_host'
     expect 0 "$listing_g" list "$g"
     expect 0 seen query "$g" 10 package 1
     expect 0 deck name "$sheet" region 0
     expect 0 "$picture" draw "$g"
+    expect 0 '' forward "$g" "$work/forward"
+    expect 0 '' back "$work/forward" "$work/forward"
     same 'builds of later uses' "$(calls)" ''
     touch "$work/tree/crates/source"
     use_all
-    same 'builds after a change' "$(calls)" 'check listing,staticlib region_host,staticlib region_host,check drawing'
+    same 'builds after a change' "$(calls)" "$builds_of_all"
 }
 
 # A build that fails is told, and tried again at the next use.
@@ -169,7 +197,7 @@ failed_builds() {
     done
     mv "$work/bin/kept" "$work/bin/rt"
     use_all
-    same 'builds after a failed build' "$(calls)" 'check listing,staticlib region_host,staticlib region_host,check drawing'
+    same 'builds after a failed build' "$(calls)" "$builds_of_all"
 }
 
 lists() {
@@ -244,6 +272,139 @@ versions() {
     expect 0 seen query "$versions" 20 package 2 3
     expect 0 hidden query "$versions" 20 package 2 65535
     expect 1 "refused 12: is the bundle installed?" query "$versions" 11 package 1 7
+}
+
+# Makes the folder for what conversions write an empty one.
+clear_place() {
+    rm -rf "$place"
+    mkdir "$place"
+}
+
+# FILE OTHER: says `same` where two files have the same bytes, else where they differ
+compared() {
+    if cmp "$1" "$2" 2>&1; then echo same; fi
+}
+
+# COMMAND FILE OTHER: a conversion gives the bytes of another file, where nothing was and over a longer file, and leaves no others
+converts() {
+    clear_place
+    for _ in 1 2; do
+        expect 0 '' "$1" "$2" "$place/out"
+        same "bytes by $1 of $2" "$(compared "$place/out" "$3")" same
+        same "files after $1 of $2" "$(ls -A "$place")" out
+        head -c 20000 /dev/zero > "$place/out"
+    done
+}
+
+# COMMAND FILE NUMBER QUESTION: a conversion that is refused makes no file, and leaves one that is there
+refuses() {
+    clear_place
+    expect 1 "refused $3: $4" "$1" "$2" "$place/out"
+    same "files after a refused $1 of $2" "$(ls -A "$place")" ''
+    cp "$sheet" "$place/out"
+    before=$(ls -Ali "$place")
+    expect 1 "refused $3: $4" "$1" "$2" "$place/out"
+    same "files after a refused $1 of $2 to a file" "$(ls -Ali "$place")" "$before"
+    same "bytes after a refused $1 of $2 to a file" "$(compared "$place/out" "$sheet")" same
+}
+
+# Each way, on the two files of a graph. Those of version 3 that are no examples are made here.
+conversions() {
+    printf '\003\000\000\000\003\000\000\000' > "$work/empty"
+    { printf '\003'; tail -c +2 "$examples/cyclic.archive"; } > "$work/cyclic"
+    cp "$examples/g-version-3.archive" "$work/g"
+    for file in plates longest; do
+        "$work/tree/wimboru" forward "$examples/$file.archive" "$work/$file"
+    done
+    same 'front of plates, forward' "$(od -An -v -tx1 -N 9 "$work/plates" | tr -d ' \n')" 03000000690300103f
+    same 'front of longest, forward' "$(od -An -v -tx1 -N 6 "$work/longest" | tr -d ' \n')" 03000047a310
+    for file in empty cyclic g plates longest; do
+        converts forward "$examples/$file.archive" "$work/$file"
+        converts back "$work/$file" "$examples/$file.archive"
+    done
+    expect 0 "$listing_plates" list "$work/plates"
+}
+
+refused_conversions() {
+    head -c 107 "$examples/g-version-3.archive" > "$work/short"
+    for file in "$examples/g-version-3.archive" "$versions" "$examples/refused-15.archive" "$examples/refused-17-range.archive" \
+        "$work/fourth" /dev/null; do
+        refuses forward "$file" 15 "$question_15_forward"
+    done
+    refuses forward "$examples/refused-16.archive" 16 "$question_16"
+    refuses forward "$examples/refused-17.archive" 17 "$question_17"
+    refuses forward "$examples/refused-17-version.archive" 17 "$question_17"
+    refuses forward "$work/early" 17 "$question_17"
+    for file in "$g" "$plates" "$examples/refused-15.archive" "$examples/refused-16.archive" "$examples/refused-17.archive" \
+        "$work/fourth" /dev/null; do
+        refuses back "$file" 15 "$question_15_back"
+    done
+    refuses back "$work/short" 16 "$question_16"
+    refuses back "$examples/refused-17-range.archive" 17 "$question_17"
+    refuses back "$work/third" 17 "$question_17"
+    refuses back "$versions" 21 "$question_21"
+}
+
+# OUT is FILE: it becomes what it is converted to, or stays.
+conversions_in_place() {
+    clear_place
+    cp "$g" "$place/same"
+    expect 1 "refused 15: $question_15_back" back "$place/same" "$place/same"
+    same 'bytes after a refused back in place' "$(compared "$place/same" "$g")" same
+    expect 0 '' forward "$place/same" "$place/same"
+    same 'bytes by forward in place' "$(compared "$place/same" "$examples/g-version-3.archive")" same
+    expect 1 "refused 15: $question_15_forward" forward "$place/same" "$place/same"
+    same 'bytes after a refused forward in place' "$(compared "$place/same" "$examples/g-version-3.archive")" same
+    expect 0 '' back "$place/same" "$place/same"
+    same 'bytes by back in place' "$(compared "$place/same" "$g")" same
+    same 'files after conversions in place' "$(ls -A "$place")" same
+}
+
+# WORDS BLOCKS FILE OUT: a conversion that fails, where a file may have so many blocks, is told, makes no file, and leaves those
+# that are there
+fails() {
+    before=$(ls -Ali "$place")
+    got=0
+    (ulimit -f "$2" && "$work/tree/wimboru" forward "$3" "$4") > "$work/out" 2> "$work/err" || got=$?
+    same "status of a conversion $1" "$got" 3
+    same "output of a conversion $1" "$(cat "$work/out")" ''
+    same "messages of a conversion $1" "$(cut -d ' ' -f 1 "$work/err" | paste -s -d ' ' -)" 'convert: wimboru:'
+    same "files after a conversion $1" "$(ls -Ali "$place")" "$before"
+}
+
+# Root may write to every folder but those of /proc, where no file can be made, and may open what cannot be read.
+failed_conversions() {
+    clear_place
+    cp "$sheet" "$place/out"
+    fails 'that is longer than a file may be' 8 "$examples/longest.archive" "$place/out"
+    fails 'that is longer than a new file may be' 8 "$examples/longest.archive" "$place/new"
+    fails 'to a name that is too long' 64 "$g" "$place/$(printf '%300s' '' | tr ' ' x)"
+    [ ! -d /proc/self ] || fails 'to a folder where no file can be made' 64 "$g" /proc/out
+    [ ! -r /proc/self/clear_refs ] || fails 'of what cannot be read' 64 /proc/self/clear_refs "$place/out"
+    chmod a-w "$place"
+    [ -w "$place" ] || fails 'to a folder that cannot be written' 64 "$g" "$place/out"
+    chmod u+w "$place"
+    same 'bytes after conversions that failed' "$(compared "$place/out" "$sheet")" same
+}
+
+# The program puts a new file in the place of OUT, which has the permissions that the umask leaves. It is made in the folder of OUT,
+# under a name that no file there has. The program prints nothing.
+new_files() {
+    clear_place
+    mask=$(umask)
+    umask 027
+    expect 0 '' forward "$g" "$place/out"
+    umask "$mask"
+    same 'permissions by the umask' "$(find "$place/out" -perm 640)" "$place/out"
+    [ ! -d /proc/self ] || cd /proc
+    expect 0 '' back "$place/out" "$place/out"
+    cd "$root"
+    # shellcheck disable=SC2016
+    sh -c 'echo kept > "$1/.wimboru-$$-0"; exec "$2" forward "$1/out"' sh "$place" "$work/tree/target/wimboru/convert" \
+        < "$g" > "$work/out"
+    same 'output of the program for conversions' "$(cat "$work/out")" ''
+    same 'bytes by the program for conversions' "$(compared "$place/out" "$examples/g-version-3.archive")" same
+    same 'a file with the name of a new file' "$(cat "$place"/.wimboru-*)" kept
 }
 
 # Sheets: names that look like a refusal, need quotes in a picture, or have spaces at their ends; no entries; a byte too many; and
@@ -411,6 +572,25 @@ files() {
     cat over over over > longer
     expect 1 "refused 17: $question_17" list longer
     expect 1 "refused 16: $question_16" query longer 10 1 1
+    expect 1 "refused 16: $question_16" forward over new
+    expect 1 "refused 16: $question_16" forward longer new
+    same 'file of refused conversions' "$([ ! -e new ] || echo there)" ''
+}
+
+# Conversions of and to files of any name, in this folder and in another.
+names_of_files() {
+    clear_place
+    cd "$place"
+    mkdir 'a folder' ./-folder
+    for name in 'a name' ' ' -name -n -- - ! = '(' '*' 'a\name' 'a folder/a name' '-folder/-name' "$place/a name"; do
+        case $name in /*) path=$name ;; *) path=./$name ;; esac
+        expect 0 '' forward "$g" "$name"
+        same "bytes by forward to $name" "$(compared "$path" "$examples/g-version-3.archive")" same
+        expect 0 '' back "$name" "$name"
+        same "bytes by back in place of $name" "$(compared "$path" "$g")" same
+        rm -f "$path"
+    done
+    same 'files after conversions to names' "$(find . -type f)" ''
 }
 
 examples=$root/examples
@@ -426,17 +606,22 @@ listing_plates="$header
 10 0 1 2 0
 20 16 2 3 1
 30 63 1 2 1"
+place=$work/place
 sheet=$work/sheet
 no_entries="$work/no entries"
 broken="$work/broken sheet"
 picture='digraph {
 "sheet: none"
 }'
+builds_of_all='check listing,staticlib region_host,staticlib region_host,check drawing,staticlib region_host'
 question_15='are there at least 5 bytes, the first being 1, 2 or 3?'
+question_15_forward='are there at least 5 bytes, the first being 1 or 2?'
+question_15_back='are there at least 5 bytes, the first being 3?'
 question_16='does the length field equal the count of bytes after it?'
 question_17='are those bytes the layout of an archive, to the end?'
 question_18='does the sheet keep its layout?'
 question_19='does an entry have the kind and number?'
+question_21='has every package version 0, and does every package entry run from 0 to 65535?'
 need "${CC:-cc}" 'Debian: gcc'
 make_sheets
 make_archives
@@ -446,6 +631,8 @@ if [ -z "$WIMBORU_LISTING" ] || [ -z "$WIMBORU_DRAWING" ] || [ -z "$WIMBORU_LIB"
     same 'query, built here' "$("$root/wimboru" query "$g" 10 package 1)" seen
     same 'name, built here' "$("$root/wimboru" name "$sheet" region 0)" deck
     same 'picture, built here' "$("$root/wimboru" draw "$g" | head -n 1)" 'digraph regions {'
+    same 'conversion, built here' "$("$root/wimboru" forward "$g" "$work/forward")" ''
+    same 'bytes of a conversion, built here' "$(compared "$work/forward" "$examples/g-version-3.archive")" same
 fi
 copy
 usage
@@ -458,5 +645,11 @@ names
 named_lists
 draws
 drawn
+conversions
+refused_conversions
+conversions_in_place
+failed_conversions
+new_files
 files
+names_of_files
 end_checks

@@ -2,6 +2,7 @@
 #include "graphs.h"
 #include "host.h"
 #include "images.h"
+#include "made.h"
 
 #include <string.h>
 
@@ -118,15 +119,6 @@ static void refused_ends(void)
         memcpy(file.bytes + 71, ends[i] + 2, 2);
         refused(REGION_BROKEN_LAYOUT, file.bytes, file.length);
     }
-}
-
-/* Regions and nothing else, as a file of a version. */
-static struct image regions_alone(uint8_t version, const uint8_t *numbers, size_t count)
-{
-    const size_t rest = count + 3;
-    struct image file = {5 + rest, {version, 0, 0, (uint8_t)(rest / 256), (uint8_t)(rest % 256), (uint8_t)count}};
-    memcpy(file.bytes + 6, numbers, count);
-    return file;
 }
 
 /* The numbers decide on an older version, and not how many they are. Version 3 is for all. */

@@ -4,9 +4,10 @@
 
 #include "wimboru.h"
 
-/* The calls that share their arguments: the two finds, the two events. */
+/* The calls that share their arguments: the two finds, the two events, the two conversions. */
 typedef int64_t find_call(const region_graph *, uint32_t *, size_t, uint32_t, const uint32_t *, size_t);
 typedef int64_t event_call(const region_graph *, uint32_t *, size_t, const uint32_t *, size_t, uint32_t);
+typedef int64_t conversion_call(const uint8_t *, size_t, uint8_t *, size_t);
 
 enum {
     GUARD = 64,

@@ -18,6 +18,7 @@ static void test_all(void)
     test_versions();
     test_isolation();
     test_archives();
+    test_conversions();
     test_names();
     test_edges();
     test_threads();

@@ -13,6 +13,7 @@ void test_offers(void);
 void test_versions(void);
 void test_isolation(void);
 void test_archives(void);
+void test_conversions(void);
 void test_names(void);
 void test_edges(void);
 void test_threads(void);

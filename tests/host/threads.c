@@ -4,6 +4,7 @@
 #include "images.h"
 
 #include <pthread.h>
+#include <string.h>
 
 enum {
     THREADS = 4,
@@ -11,7 +12,9 @@ enum {
     GUARD_BYTES = 1 << 20 /* memory past the stack's end that faults, more than any frame has */
 };
 
+/* The longest image, and the older archive of its graph. */
 static struct image longest;
+static struct image older;
 
 /* What a thread writes. */
 static struct job {
@@ -59,12 +62,21 @@ static bool queries(uint8_t *written)
         && region_write(graph, written, REGION_LONGEST_IMAGE) == REGION_LONGEST_IMAGE;
 }
 
+/* The longest image made an older archive, and the other way. */
+static bool conversions(uint8_t *written)
+{
+    return archive_back(longest.bytes, longest.length, written, REGION_LONGEST_IMAGE) == (int64_t)older.length
+        && memcmp(written, older.bytes, older.length) == 0
+        && archive_forward(older.bytes, older.length, written, REGION_LONGEST_IMAGE) == REGION_LONGEST_IMAGE
+        && memcmp(written, longest.bytes, longest.length) == 0;
+}
+
 static void *work(void *argument)
 {
     struct job *job = argument;
     job->right = true;
     for (int round = 0; round < ROUNDS; round++) {
-        job->right = job->right && changes(&job->own) && resolves() && queries(job->written);
+        job->right = job->right && changes(&job->own) && resolves() && queries(job->written) && conversions(job->written);
     }
     return NULL;
 }
@@ -74,6 +86,7 @@ void test_threads(void)
     pthread_t threads[THREADS];
     pthread_attr_t attributes;
     longest = longest_image();
+    older = longest_of_version_2();
     lend();
     ACCEPTED(region_read(graph, longest.bytes, longest.length));
     CHECK(pthread_attr_init(&attributes) == 0);

@@ -1,6 +1,6 @@
 """What is compared: the level, and the second program's cases with more of what the interface for C can be handed, with more queries
 of two graphs that agree on a set of regions, with more of the region numbers and of the versions of an archive, with more candidates
-of a resolve (candidates.py), and with more packages by version (packages.py)."""
+of a resolve (candidates.py), more packages by version (packages.py) and more conversions of archives (conversions.py)."""
 
 import os
 import random
@@ -9,13 +9,14 @@ import sys
 sys.path.insert(0, os.path.join(os.path.dirname(os.path.abspath(__file__)), "oracle"))
 
 import candidates  # noqa: E402
+import conversions  # noqa: E402
 import gen2  # noqa: E402
 import oracle2  # noqa: E402
 import packages  # noqa: E402
 from candidates import closure  # noqa: E402
 
 # The level of the product: 10 is document 01 alone, a higher one the number of the last request of document 02 that it has.
-LEVEL = 15
+LEVEL = 16
 
 # gen2 has region numbers and kinds of one byte. The interface takes 32 bits.
 LARGE = (256, 65536, 2**31, 2**32 - 16, 2**32 - 1)
@@ -62,6 +63,8 @@ class Script(gen2.Script):
         """What a line and its answer show besides the call and the number, those of BESIDES among it."""
         if words[0] == "resolve":
             return self.notes.of(self.g, words, answer)
+        if words[0] in conversions.OTHER:
+            return conversions.shown(self.state.archive, words, answer)
         return [*besides(words, answer), *packages.shown(self.before, words, answer)]
 
     def change(self, *weights):
@@ -89,7 +92,8 @@ AT_LIMITS = ([(ROUTE_IN % 63, 14), (ROUTE_IN % 64, 0), (ADDED % 64, 1), (MISLABE
 BESIDES = (AT_LIMITS + [(HIDDEN_ROUTE, 0), (ABOVE_INSIDE, 0), (ABOVE_OUTSIDE, 0)]
            + [(ROUTE_OF % count, 0) for count in (15, 16, 32, 47, 48)]
            + [(REGIONS_IN % pair, 0) for pair in ((3, 0), (3, 1), (3, 16), (3, 17), (3, 63), (3, 64))]
-           + [(name, 0) for name in LED_OUT.values()] + candidates.SHOWN + packages.SHOWN)
+           + [(name, 0) for name in LED_OUT.values()] + candidates.SHOWN + packages.SHOWN
+           + conversions.SHOWN + conversions.SHOWN_LONG)
 
 
 def of_route(room, number, count):
@@ -116,7 +120,8 @@ def of_read(data, number):
 
 
 def besides(words, answer):
-    """What a line that is no resolve, and its answer, show besides the call and the number. It takes no graph to tell."""
+    """What a line that is no resolve and no conversion, and its answer, show besides the call and the number. It takes no graph to
+    tell."""
     if words[0] == "add":
         return [(ADDED % int(words[1]), int(answer[0]))]
     if words[0] == "route":
@@ -148,9 +153,11 @@ def case_wide(s, rnd, i):
 
 
 def put_archive(s, rnd, data):
-    """Queries an archive, lists it, reads it over the record that stands, and writes the record."""
+    """Queries an archive, converts it, lists it, reads it over the record that stands, and writes the record."""
     s.put("archive " + oracle2.hexs(data))
     gen2.archive_queries(s, rnd, data, rnd.choice([1, 3, 5]))
+    for line in conversions.lines_of(rnd, data):
+        s.put(line)
     s.put("list")
     s.put("lent " + oracle2.hexs(data))
     length = len(oracle2.image(s.level, s.g))
@@ -476,4 +483,4 @@ gen2.Script = Script
 gen2.CAPABILITIES.update({"wide": (10, case_wide, 1), "over": (10, case_over, 1), "names": (11, case_names, 3),
                           ISOLATION: (12, case_isolation, 3), "numbers": (13, case_numbers, 1), "chains": (13, case_chains, 1),
                           "versions": (13, case_versions, 1), "candidates": (14, candidates.case_candidates, 2),
-                          "packages": (15, packages.case_packages, 2)})
+                          "packages": (15, packages.case_packages, 2), "conversions": (16, conversions.case_conversions, 3)})

@@ -420,6 +420,28 @@ static void query(char **a)
                                   version(whole_number(a[3]))));
 }
 
+typedef int64_t convert_call(const uint8_t *, size_t, uint8_t *, size_t);
+
+static void convert(convert_call *call, char **a)
+{
+    struct file f = copy(archive);
+    uint32_t length = whole_number(a[0]);
+    uint8_t *out = byte_buffer(length);
+
+    print_result(call(f.bytes, f.length, out, length));
+    print_bytes(out, length);
+}
+
+static void forward(char **a)
+{
+    convert(archive_forward, a);
+}
+
+static void back(char **a)
+{
+    convert(archive_back, a);
+}
+
 static void keep_sheet(char **a)
 {
     sheet = file(a[0], SHEET);
@@ -511,6 +533,7 @@ static const struct command {
 } commands[] = {
     {"start", 1, start},          {"lent", 1, lent},            {"write", 1, write_image},   {"image", 0, image},
     {"archive", 1, keep_archive}, {"query", 4, query},          {"list", 0, list_archive},
+    {"forward", 1, forward},      {"back", 1, back},
     {"add", 1, add},              {"remove", 1, remove_region}, {"install", 5, install},     {"uninstall", 1, uninstall},
     {"connect", 7, connect},      {"disconnect", 2, disconnect},
     {"bfind", 3, bundle_find},    {"resolve", 5, resolve},      {"sfind", 3, service_find},

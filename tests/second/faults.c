@@ -1,7 +1,7 @@
 /* Wrong engines, to see that the comparison finds them: the driver's calls go through here (the linker's --wrap), and the fault that
    the variable FAULT of the environment names is put in front of the engine or behind it. In a resolve another resolver stands in the
-   engine's place, and in a lookup of a name another reader of sheets; both answer right where there is no fault. `selfcheck` runs
-   them all. */
+   engine's place, and in a lookup of a name another reader of sheets; both answer right where there is no fault. A back is put to the
+   file that the engine writes after reading the one that is given. `selfcheck` runs them all. */
 #define _POSIX_C_SOURCE 200809L
 #include <stdlib.h>
 #include <string.h>
@@ -10,11 +10,13 @@
 #include "wimboru.h"
 
 /* The faults have the numbers from 1 up to this one; 0 is none. */
-enum { FAULTS = 134 };
+enum { FAULTS = 154 };
+/* From this one on, up to OLDER, they convert a file so that the other conversion does not give it again. */
+enum { ONE_WAY = 143 };
 /* From this one on, up to OUTSIDE, they take a file of version 1 or 2 otherwise than a reader must that knows no other version. */
-enum { OLDER = 127 };
+enum { OLDER = 147 };
 /* From this one on they let a bundle learn what stands in regions that no connection leads to. */
-enum { OUTSIDE = 131 };
+enum { OUTSIDE = 151 };
 /* The longest list that a fault of a changing call takes. */
 enum { LONGEST = 4096 };
 
@@ -384,7 +386,7 @@ CALL(int64_t, region_bundle_find, const region_graph *g, uint32_t *out, size_t o
     uint8_t route[REGION_ROUTE_BYTES];
     int64_t count = __real_region_bundle_find(g, out, out_count, location, candidates, candidate_count);
 
-    if (fault(131) && count >= 0) {
+    if (fault(151) && count >= 0) {
         count = 0;
         for (size_t i = 0; i < candidate_count; i++) {
             if (__real_region_route_v4(g, route, sizeof route, location, REGION_KIND_BUNDLE, candidates[i], 0) >= 0
@@ -405,7 +407,7 @@ CALL(int64_t, region_service_event, const region_graph *g, uint32_t *out, size_t
     if (fault(24) && listener_count > 1 && not_installed(g, listeners[listener_count - 1])) {
         listener_count--;
     }
-    if (fault(132) && listener_count <= out_count
+    if (fault(152) && listener_count <= out_count
         && __real_region_service_event(g, own, REGION_LONGEST_IMAGE, listeners, listener_count, service) >= 0) {
         for (size_t i = 0; i < listener_count; i++) {
             if (one_before_sees(g, listeners[i], REGION_KIND_SERVICE, service)) {
@@ -542,7 +544,7 @@ static bool is_offered(const region_graph *g, const struct region_bundle *asker,
     if (!exports(g, exporter, package)) {
         return false;
     }
-    if (fault(134)) {
+    if (fault(154)) {
         return true;
     }
     if (fault(79)) {
@@ -767,7 +769,7 @@ CALL(int64_t, region_route_v4, const region_graph *g, uint8_t *out, size_t out_l
     if (fault(28) && count == -REGION_HIDDEN) {
         out[0] = 0;
     }
-    if (fault(133) && count == -REGION_HIDDEN) {
+    if (fault(153) && count == -REGION_HIDDEN) {
         return route_against(g, out, location, kind, item, version);
     }
     if (count == -REGION_NO_PLACE && is_room(out_length)) {
@@ -838,7 +840,7 @@ static uint8_t front_of(const uint8_t *bytes, size_t length)
     if (fault(74) && front == 4) {
         return 3;
     }
-    if (fault(129) && known) {
+    if (fault(149) && known) {
         return 4;
     }
     if (!known) {
@@ -954,12 +956,12 @@ static const uint8_t *taken(const uint8_t *bytes, size_t length)
 /* What a fault of the reader makes of the graph of a file of version 1 or 2. */
 static void change_older(region_graph *g)
 {
-    for (size_t i = 0; (fault(127) || fault(130)) && i < g->bundle_count; i++) {
+    for (size_t i = 0; (fault(147) || fault(150)) && i < g->bundle_count; i++) {
         for (size_t k = 0; k < g->bundles[i].packages.count; k++) {
-            g->bundles[i].packages.versions[k] = fault(127) ? REGION_HIGHEST_VERSION : 1;
+            g->bundles[i].packages.versions[k] = fault(147) ? REGION_HIGHEST_VERSION : 1;
         }
     }
-    for (size_t i = 0; fault(128) && i < g->connection_count; i++) {
+    for (size_t i = 0; fault(148) && i < g->connection_count; i++) {
         for (size_t k = 0; k < REGION_MOST_LISTED; k++) {
             g->connections[i].packages.highest[k] = 0;
         }
@@ -968,7 +970,7 @@ static void change_older(region_graph *g)
 
 static bool changes_older(const uint8_t *bytes, size_t length)
 {
-    return length > FRONT && bytes[0] < 3 && (fault(127) || fault(128) || fault(130));
+    return length > FRONT && bytes[0] < 3 && (fault(147) || fault(148) || fault(150));
 }
 
 /* The version that a fault of the writer puts in front. */
@@ -1059,6 +1061,172 @@ CALL(int64_t, region_write, const region_graph *g, uint8_t *out, size_t out_leng
         out[length - 1] ^= 1;
     }
     return length;
+}
+
+/* ---- conversions ---- */
+
+/* The graph of the file that is converted, where it is one of version 3 that is read. */
+static region_graph current;
+
+static bool is_current(const uint8_t *bytes, size_t length)
+{
+    return length > 0 && bytes[0] == 3 && __real_region_read(&current, bytes, length) == 0;
+}
+
+/* How many entries a package part has. */
+static size_t entry_count(const struct region_package_entries *part)
+{
+    return part->count == REGION_EVERYTHING ? 0 : part->count;
+}
+
+/* The length of the older file of the graph, with its versions left out, where that of version 3 has so many bytes. */
+static size_t older_length(size_t length)
+{
+    for (size_t i = 0; i < current.bundle_count; i++) {
+        length -= 2 * current.bundles[i].packages.count;
+    }
+    for (size_t i = 0; i < current.connection_count; i++) {
+        length -= 4 * entry_count(&current.connections[i].packages);
+    }
+    return length;
+}
+
+/* Gives the graph the versions and ranges of an older file where a fault of back does not look at them. */
+static void leave_out(void)
+{
+    for (size_t i = 0; i < current.bundle_count; i++) {
+        for (size_t k = 0; k < current.bundles[i].packages.count; k++) {
+            uint16_t *version = &current.bundles[i].packages.versions[k];
+
+            *version = (uint16_t)(fault(146) ? 0 : *version % (fault(137) ? 256 : 65536));
+        }
+    }
+    for (size_t i = 0; i < current.connection_count; i++) {
+        struct region_package_entries *part = &current.connections[i].packages;
+
+        for (size_t k = 0; k < entry_count(part); k++) {
+            const bool both = fault(146) || (fault(140) && k + 1 == entry_count(part));
+
+            part->lowest[k] = both || fault(138) ? 0 : part->lowest[k];
+            part->highest[k] = both || fault(139) ? REGION_HIGHEST_VERSION : part->highest[k];
+        }
+    }
+}
+
+/* Whether a fault of back finds versions in the graph: in a part that is everything, or in a bundle that exports nothing. */
+static bool has_none(void)
+{
+    for (size_t i = 0; fault(141) && i < current.connection_count; i++) {
+        if (current.connections[i].packages.count == REGION_EVERYTHING) {
+            return true;
+        }
+    }
+    for (size_t i = 0; fault(142) && i < current.bundle_count; i++) {
+        if (current.bundles[i].packages.count == 0) {
+            return true;
+        }
+    }
+    return false;
+}
+
+/* Whether a file has versions where its last byte is taken away. */
+static bool has_versions_before_end(const uint8_t *bytes, size_t length)
+{
+    static uint8_t copy[GUARDED_ROOM];
+
+    if (length <= FRONT) {
+        return false;
+    }
+    memcpy(copy, bytes, length - 1);
+    for (size_t i = 1; i < FRONT; i++) {
+        copy[i] = (uint8_t)((length - 1 - FRONT) >> (8 * (FRONT - 1 - i)));
+    }
+    return is_current(copy, length - 1) && !is_unversioned(&current);
+}
+
+/* The answer of a conversion that makes a file of a version which it must not admit the same file. */
+static int64_t copied(const uint8_t *bytes, size_t length, uint8_t *out, size_t out_length)
+{
+    const uint32_t number = __real_region_read(&current, bytes, length);
+
+    if (number != 0 || out_length < length) {
+        return number != 0 ? -(int64_t)number : -REGION_NO_PLACE;
+    }
+    return memcpy(out, bytes, length), (int64_t)length;
+}
+
+/* Lets every entry of an image end before the highest version. */
+static void narrow(uint8_t *image, size_t length)
+{
+    if (!is_current(image, length)) {
+        return;
+    }
+    for (size_t i = 0; i < current.connection_count; i++) {
+        for (size_t k = 0; k < entry_count(&current.connections[i].packages); k++) {
+            current.connections[i].packages.highest[k]--;
+        }
+    }
+    __real_region_write(&current, image, length);
+}
+
+CALL(int64_t, archive_forward, const uint8_t *bytes, size_t length, uint8_t *out, size_t out_length)
+{
+    const bool admitted = fault(127) && length > 0 && bytes[0] == 3;
+    const size_t room = fault(136) && out_length > 0 ? out_length - 1 : out_length;
+    const int64_t answer = admitted ? copied(bytes, length, out, room) : __real_archive_forward(bytes, length, out, room);
+
+    if (fault(129) && answer == -REGION_WRONG_LENGTH) {
+        return -REGION_BROKEN_LAYOUT;
+    }
+    if (fault(132) && answer == -REGION_NO_PLACE && out_length > 0) {
+        out[0] = 3;
+    }
+    if (fault(134) && answer >= 0 && (size_t)answer < out_length) {
+        out[answer] = 0;
+    }
+    if (fault(145) && answer >= 0) {
+        narrow(out, (size_t)answer);
+    }
+    return answer;
+}
+
+int64_t __real_archive_back(const uint8_t *bytes, size_t length, uint8_t *out, size_t out_length);
+
+/* The answer of back to a file of version 3 that is read. */
+static int64_t back_current(size_t length, uint8_t *out, size_t out_length)
+{
+    static uint8_t image[REGION_LONGEST_IMAGE];
+
+    if (has_none()) {
+        return -REGION_HAS_VERSIONS;
+    }
+    leave_out();
+    if (fault(130) && !is_unversioned(&current) && out_length < older_length(length)) {
+        return -REGION_NO_PLACE;
+    }
+    return __real_archive_back(image, (size_t)__real_region_write(&current, image, sizeof image), out, out_length);
+}
+
+CALL(int64_t, archive_back, const uint8_t *bytes, size_t length, uint8_t *out, size_t out_length)
+{
+    const bool admitted = fault(128) && length > 0 && bytes[0] < 3;
+    int64_t answer;
+
+    if (is_current(bytes, length)) {
+        answer = back_current(length, out, out_length);
+    } else {
+        answer = admitted ? copied(bytes, length, out, out_length) : __real_archive_back(bytes, length, out, out_length);
+    }
+    if (fault(131) && answer == -REGION_BROKEN_LAYOUT && has_versions_before_end(bytes, length)) {
+        return -REGION_HAS_VERSIONS;
+    }
+    if (fault(133) && answer == -REGION_HAS_VERSIONS && out_length > 0) {
+        out[0] = 1;
+    }
+    if ((fault(143) || fault(144)) && answer >= 0) {
+        out[0] = fault(143) || out[FRONT] > 16 ? 2 : 1;
+    }
+    return fault(135) && answer >= 0 ? answer + 1 : answer;
 }
 
 /* ---- names ---- */

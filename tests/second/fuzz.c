@@ -1,10 +1,13 @@
-/* Fuzzes the archive reader, the archive query and the lookup of names (libFuzzer). Each input is a file, which is read as an
-   archive and as a name sheet. It ends the program where
+/* Fuzzes the archive reader, the archive query, the conversions and the lookup of names (libFuzzer). Each input is a file, which is
+   read as an archive and as a name sheet. It ends the program where
 
    - a refused read changes a byte of the record; an accepted one of version 3 does not write back the very bytes of the file; or
      one of an older version does not write them with the versions that it gives packages and entries, or this is not read as the
      same record;
    - the query's number is not the one that the read and the route call give together;
+   - a conversion answers otherwise than the file's version, the read and the versions of the record say together; a refused one, or
+     one with a byte too little room, changes the buffer; or an accepted one changes a byte behind the new file, writes a file that
+     is not read as the same record, or one of which the other conversion does not make the first file;
    - a refused lookup changes the start, or a found name is not one of the sheet's, or two lookups judge one sheet otherwise;
    - anything outside a lent block is touched, or a sanitizer finds a fault on this side.
 
@@ -26,12 +29,12 @@
 #include "guarded.h"
 #include "wimboru.h"
 
-enum { PLACES = 4096, SIZES = 8 };
+enum { PLACES = 4096, SIZES = 8, FILLED_BYTE = 0xA5 };
 
 /* What libFuzzer takes as new, by the number of the read, or of a lookup that finds nothing. */
 __attribute__((section("__libfuzzer_extra_counters"))) static uint8_t counters[REGION_NO_ENTRY + 1][PLACES][SIZES];
 
-static struct guarded archive, written, record_room, again_room, start_room;
+static struct guarded archive, written, converted, returned, record_room, again_room, start_room;
 static region_graph *record;
 static region_graph before;
 
@@ -78,6 +81,8 @@ static void make_all(void)
 
     archive = guarded_make();
     written = guarded_make();
+    converted = guarded_make();
+    returned = guarded_make();
     record_room = guarded_make();
     again_room = guarded_make();
     start_room = guarded_make();
@@ -162,30 +167,57 @@ static void count(reader *read, const uint8_t *data, size_t size, uint32_t numbe
     }
 }
 
-/* The bytes that the image of the record has more than an older file: versions, each of them the one that the file must give. */
-static size_t versions_added(void)
+/* Whether the record has a package of another version than 0, or an entry that does not run from 0 to 65535. */
+static bool has_versions(void)
 {
-    size_t bytes = 0;
-
     for (size_t i = 0; i < record->bundle_count; i++) {
-        for (size_t k = 0; k < record->bundles[i].packages.count; k++, bytes += 2) {
-            require(record->bundles[i].packages.versions[k] == 0, "a version in an older file");
+        for (size_t k = 0; k < record->bundles[i].packages.count; k++) {
+            if (record->bundles[i].packages.versions[k] != 0) {
+                return true;
+            }
         }
     }
     for (size_t i = 0; i < record->connection_count; i++) {
         const struct region_package_entries *part = &record->connections[i].packages;
 
-        for (size_t k = 0; part->count != REGION_EVERYTHING && k < part->count; k++, bytes += 4) {
-            require(part->lowest[k] == 0 && part->highest[k] == REGION_HIGHEST_VERSION, "a range in an older file");
+        for (size_t k = 0; part->count != REGION_EVERYTHING && k < part->count; k++) {
+            if (part->lowest[k] != 0 || part->highest[k] != REGION_HIGHEST_VERSION) {
+                return true;
+            }
         }
     }
+    return false;
+}
+
+/* The bytes of versions in the image of the record, which an older file has not. */
+static size_t version_bytes(void)
+{
+    size_t bytes = 0;
+
+    for (size_t i = 0; i < record->bundle_count; i++) {
+        bytes += 2 * record->bundles[i].packages.count;
+    }
+    for (size_t i = 0; i < record->connection_count; i++) {
+        const size_t count = record->connections[i].packages.count;
+
+        bytes += count == REGION_EVERYTHING ? 0 : 4 * count;
+    }
     return bytes;
+}
+
+/* Whether an image is read as the record. */
+static void check_same(const uint8_t *image, size_t length)
+{
+    region_graph *again = guarded_high(again_room, sizeof *again);
+
+    memcpy(again, &before, sizeof before);
+    require(region_read(again, image, length) == 0, "the image is not read");
+    require(memcmp(again, record, sizeof *again) == 0, "the image is read as another record");
 }
 
 static void check_read(const uint8_t *file, size_t size, uint32_t number)
 {
     uint8_t *image = guarded_high(written, REGION_LONGEST_IMAGE);
-    region_graph *again = guarded_high(again_room, sizeof *again);
     size_t length;
 
     require(number <= REGION_BROKEN_LAYOUT, "a number of no question");
@@ -193,13 +225,82 @@ static void check_read(const uint8_t *file, size_t size, uint32_t number)
         require(memcmp(record, &before, sizeof before) == 0, "a refused read changed the record");
         return;
     }
-    length = size + (file[0] < 3 ? versions_added() : 0);
+    require(file[0] == 3 || !has_versions(), "a version in an older file");
+    length = size + (file[0] == 3 ? 0 : version_bytes());
     require(region_write(record, image, REGION_LONGEST_IMAGE) == (int64_t)length, "the length of the image");
     require(image[0] == 3, "the version of the image");
     require(file[0] < 3 || memcmp(image, file, size) == 0, "the image is not the file");
-    memcpy(again, &before, sizeof before);
-    require(region_read(again, image, length) == 0, "the image is not read");
-    require(memcmp(again, record, sizeof *again) == 0, "the image is read as another record");
+    check_same(image, length);
+}
+
+typedef int64_t convert_call(const uint8_t *, size_t, uint8_t *, size_t);
+
+/* A conversion, the other one, and the versions that it admits. */
+struct conversion {
+    convert_call *call;
+    convert_call *other;
+    uint8_t oldest;
+    uint8_t latest;
+};
+
+static const struct conversion conversions[] = {{archive_forward, archive_back, 1, 2}, {archive_back, archive_forward, 3, 3}};
+
+/* The number with which a conversion must be refused where there is room, by that of the read. */
+static uint32_t refusal_of(const struct conversion *c, const uint8_t *file, size_t size, uint32_t number)
+{
+    if (size == 0 || file[0] < c->oldest || file[0] > c->latest) {
+        return REGION_NOT_AN_ARCHIVE;
+    }
+    if (number == 0 && c->latest == 3 && has_versions()) {
+        return REGION_HAS_VERSIONS;
+    }
+    return number;
+}
+
+/* A buffer of so many bytes for a conversion. */
+static uint8_t *filled(struct guarded room, size_t count)
+{
+    return memset(guarded_high(room, count), FILLED_BYTE, count);
+}
+
+/* Whether bytes have the value of a buffer before a conversion: the first has it, and each later one that of the one before it. */
+static bool is_filled(const uint8_t *bytes, size_t count)
+{
+    return count == 0 || (bytes[0] == FILLED_BYTE && memcmp(bytes, bytes + 1, count - 1) == 0);
+}
+
+/* What a conversion has written: the same in a buffer of its length and not in a shorter one, and the other conversion's file. */
+static void check_converted(const struct conversion *c, const uint8_t *file, size_t size, const uint8_t *image, size_t length)
+{
+    uint8_t *exact = filled(converted, length), *shorter = filled(returned, length - 1), *first;
+
+    require(c->call(file, size, shorter, length - 1) == -REGION_NO_PLACE, "a conversion with a byte too little room");
+    require(is_filled(shorter, length - 1), "a conversion with a byte too little room changed the buffer");
+    require(c->call(file, size, exact, length) == (int64_t)length, "a conversion with just enough room");
+    require(memcmp(exact, image, length) == 0, "a conversion writes otherwise where there is more room");
+    check_same(exact, length);
+    first = filled(returned, size);
+    require(c->other(exact, length, first, size) == (int64_t)size, "the other conversion of a new file");
+    require(memcmp(first, file, size) == 0, "the other conversion does not give the first file");
+}
+
+static void check_conversion(const struct conversion *c, const uint8_t *file, size_t size, uint32_t number)
+{
+    const uint32_t refusal = refusal_of(c, file, size, number);
+    uint8_t *image = filled(written, REGION_LONGEST_IMAGE);
+    const int64_t answer = c->call(file, size, image, REGION_LONGEST_IMAGE);
+    size_t length;
+
+    if (refusal != 0) {
+        require(answer == -(int64_t)refusal, "a conversion is not refused as it must be");
+        require(is_filled(image, REGION_LONGEST_IMAGE), "a refused conversion changed the buffer");
+        require(c->call(file, size, image, 0) == answer, "a conversion is refused otherwise where there is no room");
+        return;
+    }
+    length = c->latest == 3 ? size - version_bytes() : size + version_bytes();
+    require(answer == (int64_t)length, "the length of a new file");
+    require(is_filled(image + length, REGION_LONGEST_IMAGE - length), "a conversion changed a byte behind the new file");
+    check_converted(c, file, size, image, length);
 }
 
 static uint32_t word(const uint8_t *file, size_t size, size_t at)
@@ -322,6 +423,9 @@ int LLVMFuzzerTestOneInput(const uint8_t *data, size_t size)
     check_read(file, size, number);
     for (size_t at = size % 7; at < size; at += size / 12 + 1) {
         check_query(file, size, number, at);
+    }
+    for (size_t i = 0; i < sizeof conversions / sizeof conversions[0]; i++) {
+        check_conversion(&conversions[i], file, size, number);
     }
     judged = check_sheet(file, size);
     count(read_archive, data, size, number, number == 0);

@@ -1,4 +1,4 @@
-//! The archive: reading, writing and the archive query.
+//! The archive: reading, writing, the archive query and the conversions.
 
 use std::ops::RangeInclusive;
 
@@ -10,6 +10,7 @@ use crate::graph::{
 /// Version 1 has the regions below this number alone, version 2 has one that is not below it.
 const EARLY_REGIONS: u8 = 16;
 const VERSIONS: RangeInclusive<u8> = 1..=3;
+const OLDER_VERSIONS: RangeInclusive<u8> = 1..=2;
 /// The version that has versions of packages, and is written.
 const VERSIONED: u8 = 3;
 const HEAD: usize = 5;
@@ -19,7 +20,12 @@ const HIDDEN: u32 = 101;
 
 impl Graph {
     pub fn read(bytes: &[u8]) -> Result<Graph, Refusal> {
-        if bytes.len() < HEAD || !VERSIONS.contains(&bytes[0]) {
+        Graph::read_of(VERSIONS, bytes)
+    }
+
+    /// The graph of an archive, where some versions are admitted.
+    fn read_of(versions: RangeInclusive<u8>, bytes: &[u8]) -> Result<Graph, Refusal> {
+        if bytes.len() < HEAD || !versions.contains(&bytes[0]) {
             return Err(Refusal::NotAnArchive);
         }
         let (head, body) = bytes.split_at(HEAD);
@@ -31,27 +37,59 @@ impl Graph {
 
     /// Writes the image and gives its length.
     pub fn write(&self, out: &mut [u8]) -> Result<usize, Refusal> {
-        let image = self.image();
-        out.get_mut(..image.len()).ok_or(Refusal::NoPlace)?.copy_from_slice(&image);
-        Ok(image.len())
+        put(&self.image(), out)
     }
 
     pub fn image(&self) -> Vec<u8> {
-        let mut image = vec![VERSIONED, 0, 0, 0, 0];
+        self.image_in(VERSIONED)
+    }
+
+    fn image_in(&self, version: u8) -> Vec<u8> {
+        let mut image = vec![version, 0, 0, 0, 0];
         image.push(self.regions.len() as u8);
         image.extend(self.regions.iter());
         image.push(self.bundles.len() as u8);
         for bundle in &self.bundles {
-            put_record(&mut image, |record| put_bundle(record, bundle));
+            put_record(&mut image, |record| put_bundle(record, version, bundle));
         }
         image.push(self.connections.len() as u8);
         for connection in &self.connections {
-            put_record(&mut image, |record| put_connection(record, connection));
+            put_record(&mut image, |record| put_connection(record, version, connection));
         }
         let length = (image.len() - HEAD) as u32;
         image[1..HEAD].copy_from_slice(&length.to_be_bytes());
         image
     }
+
+    /// Whether all packages have version 0, and all entries pass every version.
+    fn is_unversioned(&self) -> bool {
+        let whole = |entry: &Entry| (entry.lowest, entry.highest) == (0, HIGHEST_VERSION);
+        self.bundles.iter().all(|bundle| bundle.packages.iter().all(|&(_, version)| version == 0))
+            && self.connections.iter().all(|connection| match &connection.filter.packages {
+                Part::All => true,
+                Part::Listed(entries) => entries.iter().all(whole),
+            })
+    }
+}
+
+/// An archive of version 1 or 2 as one of version 3; gives its length.
+pub fn forward(bytes: &[u8], out: &mut [u8]) -> Result<usize, Refusal> {
+    Graph::read_of(OLDER_VERSIONS, bytes)?.write(out)
+}
+
+/// An archive of version 3 as one of version 1 or 2; gives its length.
+pub fn back(bytes: &[u8], out: &mut [u8]) -> Result<usize, Refusal> {
+    let graph = Graph::read_of(VERSIONED..=VERSIONED, bytes)?;
+    if !graph.is_unversioned() {
+        return Err(Refusal::HasVersions);
+    }
+    put(&graph.image_in(if graph.regions.reaches(EARLY_REGIONS) { 2 } else { 1 }), out)
+}
+
+/// Puts an image at the start of a buffer and gives its length.
+fn put(image: &[u8], out: &mut [u8]) -> Result<usize, Refusal> {
+    out.get_mut(..image.len()).ok_or(Refusal::NoPlace)?.copy_from_slice(image);
+    Ok(image.len())
 }
 
 /// 100 where the bundle sees the item in the graph of an archive, 101 where it does not, or a refusal's number.
@@ -81,17 +119,17 @@ fn put_record(image: &mut Vec<u8>, put: impl FnOnce(&mut Vec<u8>)) {
     image[start..start + 2].copy_from_slice(&length.to_be_bytes());
 }
 
-fn put_bundle(image: &mut Vec<u8>, bundle: &Bundle) {
+fn put_bundle(image: &mut Vec<u8>, version: u8, bundle: &Bundle) {
     image.extend(bundle.location.to_be_bytes());
     image.push(bundle.region);
-    put_list(image, &bundle.packages, put_package);
+    put_list(image, &bundle.packages, |image, package| put_package(image, version, package));
     put_list(image, &bundle.services, put_number);
 }
 
-fn put_connection(image: &mut Vec<u8>, connection: &Connection) {
+fn put_connection(image: &mut Vec<u8>, version: u8, connection: &Connection) {
     image.extend([connection.source, connection.target]);
     put_list(image, &connection.filter.bundles, put_number);
-    put_part(image, &connection.filter.packages, put_entry);
+    put_part(image, &connection.filter.packages, |image, entry| put_entry(image, version, entry));
     put_part(image, &connection.filter.services, put_number);
 }
 
@@ -99,15 +137,19 @@ fn put_number(image: &mut Vec<u8>, number: &u32) {
     image.extend(number.to_be_bytes());
 }
 
-fn put_package(image: &mut Vec<u8>, &(number, version): &Package) {
-    put_number(image, &number);
-    image.extend(version.to_be_bytes());
+fn put_package(image: &mut Vec<u8>, version: u8, package: &Package) {
+    put_number(image, &package.0);
+    if version == VERSIONED {
+        image.extend(package.1.to_be_bytes());
+    }
 }
 
-fn put_entry(image: &mut Vec<u8>, entry: &Entry) {
+fn put_entry(image: &mut Vec<u8>, version: u8, entry: &Entry) {
     put_number(image, &entry.number);
-    image.extend(entry.lowest.to_be_bytes());
-    image.extend(entry.highest.to_be_bytes());
+    if version == VERSIONED {
+        image.extend(entry.lowest.to_be_bytes());
+        image.extend(entry.highest.to_be_bytes());
+    }
 }
 
 fn put_list<T>(image: &mut Vec<u8>, elements: &[T], put: impl Fn(&mut Vec<u8>, &T)) {

@@ -30,6 +30,7 @@ pub enum Refusal {
     BrokenSheet,
     NoEntry,
     RangeReversed,
+    HasVersions,
 }
 
 #[derive(Clone, Copy, Debug, PartialEq, Eq)]

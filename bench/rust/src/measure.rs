@@ -6,7 +6,7 @@ use std::io;
 use std::path::Path;
 use std::time::{Duration, Instant};
 
-use crate::archive::archive_query;
+use crate::archive::{archive_query, back, forward};
 use crate::graph::{Entry, Filter, Graph, Package, Part, Refusal, HIGHEST_VERSION};
 use crate::names;
 use crate::routes::{Candidates, Offers, ROUTE_BYTES};
@@ -195,6 +195,9 @@ fn archives(g: &[u8], longest: &[u8]) {
     best("query_g", || archive_query(black_box(g), 10, 1, 1, 0).into());
     best("query_longest", || archive_query(black_box(longest), 1000, 1, 600, 0).into());
     best("query_longest_3", || archive_query(black_box(&versioned), 1000, 1, 600, 0).into());
+    let mut out = graph.image();
+    best("forward_longest", || answer(forward(black_box(longest), &mut out).map(|length| length as i64)));
+    best("back_longest", || answer(back(black_box(&versioned), &mut out).map(|length| length as i64)));
 }
 
 /// Bundles 0 to 999, each with a name of 20 bytes.

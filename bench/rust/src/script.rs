@@ -2,7 +2,7 @@
 
 use std::fmt::Write;
 
-use crate::archive::archive_query;
+use crate::archive::{archive_query, back, forward};
 use crate::graph::{entries, packages, Filter, Graph, Part, Refusal};
 use crate::names;
 use crate::routes::{Candidates, Offers};
@@ -49,6 +49,8 @@ fn judge(state: &State, words: &[&str]) -> Option<String> {
     let n = |i: usize| number(words[i]);
     match words[0] {
         "query" => Some(archive_query(&state.archive, n(1), n(2), n(3), version(words[4])).to_string()),
+        "forward" => Some(written(n(1), |out| forward(&state.archive, out))),
+        "back" => Some(written(n(1), |out| back(&state.archive, out))),
         "lookup" => Some(match names::look_up(&state.sheet, n(1), n(2)) {
             Ok(name) => format!("0 {} {}", names::start(&state.sheet, name), name.len()),
             Err(refusal) => format!("{} 0 0", refusal as u32),
@@ -94,11 +96,7 @@ fn query(graph: &Graph, words: &[&str]) -> String {
             let answer = graph.route(n(1), n(2), n(3), version(words[4]), &mut out);
             shown(answer.map(|count| count.map_or("hidden".into(), |c| c.to_string())), hex(&out))
         }
-        "write" => {
-            let mut out = vec![BYTE_FILL; n(1) as usize];
-            let answer = graph.write(&mut out);
-            shown(answer.map(|length| length.to_string()), hex(&out))
-        }
+        "write" => written(n(1), |out| graph.write(out)),
         "image" => hex(&graph.image()),
         other => panic!("unknown call: {other}"),
     }
@@ -111,6 +109,13 @@ fn start(graph: &mut Graph, image: &str) -> Result<(), Refusal> {
         *graph = Graph::read(&bytes(image))?;
     }
     Ok(())
+}
+
+/// A call that writes an archive to a buffer of so many bytes.
+fn written(room: u32, call: impl FnOnce(&mut [u8]) -> Result<usize, Refusal>) -> String {
+    let mut out = vec![BYTE_FILL; room as usize];
+    let answer = call(&mut out);
+    shown(answer.map(|length| length.to_string()), hex(&out))
 }
 
 fn hook(places: u32, call: impl FnOnce(&mut [u32]) -> Result<usize, Refusal>) -> String {

@@ -1,27 +1,27 @@
 -- What the promises of the writer and of the reader say of each other.
 use mathlib.Core.Path.{_≡_, refl, sym, ap, _∙_, subst}
 use mathlib.Core.Bool.{Bool, true, false}
-use mathlib.Core.List.{List, [], _∷_}
+use mathlib.Core.List.{List}
 use Prim.Native.Nat.{ℕ, _≤_}
-use borrow.Author.Tests.{le-leb, eq-eqb, eqb-false}
-use lib.Dec.{eqb, leb}
+use borrow.Author.Tests.{le-leb, eq-eqb, eqb-true, eqb-false}
+use lib.Dec.{eqb}
 use lib.ListN.{length, take, drop, getD}
 use lib.Seq.{take-at}
-use Rattle.region_graph.specs.Refusals.{not-refused, no-place}
+use Rattle.region_graph.specs.Refusals.{not-refused}
 use Rattle.region_graph.specs.Lists.{pick}
 use Rattle.region_graph.specs.Model.{Model, Legal}
 use Rattle.region_graph.specs.Record.{Valid, meaning}
 use Rattle.region_graph.specs.Promise.{Empty}
 use Rattle.region_graph.specs.declared.Graph.{Graph}
 use Rattle.region_graph.specs.declared.Changed.{Changed}
-use Rattle.region_graph.specs.Calls.{ask, first-no}
+use Rattle.region_graph.specs.Calls.{Question, first-no}
 use Rattle.region_graph.proofs.Lists.{false-true}
 use Rattle.region_graph.proofs.Legal.{all-yes}
 use Rattle.region_graph.proofs.Storing.{meaning-injective}
-use Rattle.region_routes.specs.Hooks.{Outcome, written, judged}
+use Rattle.region_routes.specs.Hooks.{Outcome, written}
 use Rattle.region_archive.specs.Image.{image, image-in, in-version}
 use Rattle.region_archive.specs.File.{FileMeaning, means, means-none, read-questions, read-number, read-model}
-use Rattle.region_archive.specs.Promise.{archived, write-outcome, Reads, ReadsOver}
+use Rattle.region_archive.specs.Promise.{archived, image-outcome, write-questions, write-outcome, Reads, ReadsOver}
 use Rattle.region_archive.specs.declared.Written.{Written}
 use Rattle.region_archive.specs.declared.Written.the-variants as Written
 use Rattle.region_archive.proofs.FileReads.{accepted, refused-model}
@@ -89,7 +89,7 @@ read-settled {g} {s} {x} {y} a b =
       number = (a .says f .number ∙ sym (b .says f .number)) i;
     }
 
--- the bytes that a write reports are the image
+-- the bytes that are reported are the image, and all questions were answered yes
 abbrev byte-count : Written → ℕ
 byte-count (Written.Bytes n) = n
 byte-count (Written.Refused n) = 0
@@ -98,17 +98,25 @@ abbrev is-bytes : Written → Bool
 is-bytes (Written.Bytes n) = true
 is-bytes (Written.Refused n) = false
 
+pub image-put : (qs : List Question) (s entry exit : List ℕ) (n : ℕ)
+    → _≡_ {A = Outcome Written (List ℕ)} (archived (Written.Bytes n) exit) (image-outcome qs s entry)
+    → (first-no qs ≡ not-refused) × (s ≡ take n exit) × (exit ≡ written s entry)
+image-put qs s entry exit n w = by (eqb (first-no qs) not-refused) refl w
+  where
+    by : (b : Bool) → eqb (first-no qs) not-refused ≡ b
+        → _≡_ {A = Outcome Written (List ℕ)} (archived (Written.Bytes n) exit)
+        (pick b (archived (Written.Bytes (length s)) (written s entry)) (archived (Written.Refused (first-no qs)) entry))
+        → (first-no qs ≡ not-refused) × (s ≡ take n exit) × (exit ≡ written s entry)
+    by true e w = (
+      eqb-true (first-no qs) not-refused e,
+      sym ((λ i. take (byte-count (w i .answer)) (w i .exit)) ∙ take-at s (drop (length s) entry) (length s) refl),
+      ap (λ (o : Outcome Written (List ℕ)). o .exit) w,
+    )
+    by false e w = false-true (sym (ap (λ (o : Outcome Written (List ℕ)). is-bytes (o .answer)) w))
+
 pub written-image : (m : Model) (entry exit : List ℕ) (n : ℕ)
     → _≡_ {A = Outcome Written (List ℕ)} (archived (Written.Bytes n) exit) (write-outcome m entry) → image m ≡ take n exit
-written-image m entry exit n w = by (leb (length (image m)) (length entry)) w
-  where
-    by : (b : Bool)
-        → _≡_ {A = Outcome Written (List ℕ)} (archived (Written.Bytes n) exit)
-        (judged Written.Refused (first-no (ask no-place b ∷ [])) (archived (Written.Bytes (length (image m))) (written (image m) entry)) entry)
-        → image m ≡ take n exit
-    by true w =
-        sym ((λ i. take (byte-count (w i .answer)) (w i .exit)) ∙ take-at (image m) (drop (length (image m)) entry) (length (image m)) refl)
-    by false w = false-true (sym (ap (λ (o : Outcome Written (List ℕ)). is-bytes (o .answer)) w))
+written-image m entry exit n w = image-put (write-questions m entry) (image m) entry exit n w .1
 
 -- where there is room for the image it is written
 pub image-written : (m : Model) (s entry : List ℕ) → image m ≡ s → length s ≤ length entry

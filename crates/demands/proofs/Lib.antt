@@ -6,6 +6,7 @@ pub mod Inverse
 pub mod Meets
 pub mod Theorems
 pub mod NamesFound
+pub mod Converted
 pub mod Restricted
 pub mod Isolation
 pub mod Rows

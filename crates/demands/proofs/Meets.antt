@@ -11,10 +11,11 @@ use Rattle.region_routes.specs.Resolve.{Candidate, resolve-outcome}
 use Rattle.region_routes.specs.declared.Kind.{Kind}
 use Rattle.region_routes.specs.declared.Routed.{Routed}
 use Rattle.region_routes.specs.declared.Kept.{Kept}
-use Rattle.region_archive.specs.Promise.{ReadsOver, archived, written-as, write-outcome, Queried}
+use Rattle.region_archive.specs.Image.{image}
+use Rattle.region_archive.specs.Promise.{ReadsOver, archived, written-as, write-questions, write-outcome, Queried}
 use Rattle.region_archive.specs.declared.Written.{Written}
 use Rattle.region_host.specs.CNumbers.{CAnswer, answered, for-c, routed-value, routed-of, kept-value, kept-of, written-value, written-of}
-use Rattle.region_host.proofs.Outcomes.{read-off, route-whole, find-whole, event-whole, resolve-whole, write-whole}
+use Rattle.region_host.proofs.Outcomes.{read-off, route-whole, find-whole, event-whole, resolve-whole, image-whole}
 use Rattle.region_host.proofs.ReadBack.{routed-back, kept-back, written-back}
 use Rattle.region_host.proofs.Given.{route-given, find-given, event-given, resolve-given, write-given}
 use Rattle.demands.specs.Interface.{Interface}
@@ -109,7 +110,8 @@ lent-writes : {g : Graph} {entry exit : List ℕ} {a : Written} → Valid g → 
     → _≡_ {A = Outcome Written (List ℕ)} (archived a exit) (write-outcome (meaning g) entry)
 lent-writes v (lent.by-write κs g was out n e) =
     let m = meaning (g .now) in
-    read-off written-as written-value written-of (write-whole m (was .now)) (written-back _ (write-given m (v .good) (was .now))) e
+    read-off written-as written-value written-of (image-whole (write-questions m (was .now)) (image m) (was .now))
+    (written-back _ (write-given m (v .good) (was .now))) e
 
 -- the number that C gets, and what was lent, are those of the outcome
 pub c-routes : {g : Graph} {l kind number version v : ℕ} {entry exit : List ℕ} → lent.CRoute g l kind number version entry v exit

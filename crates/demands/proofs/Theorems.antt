@@ -38,7 +38,7 @@ use Rattle.region_archive.specs.declared.Written.{Written}
 use Rattle.region_archive.specs.declared.Written.the-variants as Written
 use Rattle.region_archive.proofs.OneImage as images
 use Rattle.region_archive.proofs.Versions.{in-cases, older-in}
-use Rattle.region_listing.proofs.ListingLaws.{model-legal}
+use Rattle.region_archive.proofs.Meaning.{model-legal}
 use Rattle.region_host.proofs.Given.{first-no-of, first-no-within}
 use Rattle.demands.specs.Claim.{Seen, Offered, InstalledWhere, QuerySays, says-seen, says-unseen, written-parts}
 use Rattle.demands.specs.Interface.{Interface, Started, from-empty, from-archive}

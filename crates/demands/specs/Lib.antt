@@ -10,5 +10,7 @@ pub mod Lent
 pub mod Names
 -- request C-12: two graphs that agree on a set of regions
 pub mod Isolation
+-- request C-16: conversions of archives
+pub mod RoundTrips
 -- document 01's worked cases, and those of C-13 and C-14
 pub mod JointTable

@@ -1,6 +1,6 @@
 -- The front of a file, the whole of it, and what the reader and the query answer.
 use mathlib.Core.Path.{_≡_, refl, sym, ap, _∙_, subst}
-use mathlib.Core.Bool.{Bool, true, _&&_}
+use mathlib.Core.Bool.{Bool, true, false, _&&_}
 use mathlib.Core.List.{List, [], _∷_, _++_, append-nil}
 use Prim.Native.Nat.{ℕ, _+_, _-_, _*_, _^_, _≤_, _<_}
 use native.Mathlib.Omega.{arith}
@@ -37,32 +37,33 @@ field-tail : (s : List ℕ) → length-field s ≡ four (drop 1 s)
 field-tail [] = refl
 field-tail (b ∷ s) = refl
 
--- the questions about the front, where versions from `low` to `high` are read
+-- whether a file opens as an archive of a version from `low` to `high`
 module _ (low high : ℕ) (s : List ℕ) where
-  pub front-short : length s < 5 → not-an-archive ≡ first-no (front-questions low high s)
-  front-short h = rw (lt-leb 5 (length s) h) refl
+  pub opens-short : length s < 5 → false ≡ opens low high s
+  opens-short h = rw (lt-leb 5 (length s) h) refl
 
-  module _ (h : 5 ≤ length s) where
-    pub front-before : getD s 0 0 < low → not-an-archive ≡ first-no (front-questions low high s)
-    front-before u = rw (le-leb 5 (length s) h, lt-leb low (getD s 0 0) u) refl
+  pub opens-before : 5 ≤ length s → getD s 0 0 < low → false ≡ opens low high s
+  opens-before h u = rw (le-leb 5 (length s) h, lt-leb low (getD s 0 0) u) refl
 
-    module _ (from : low ≤ getD s 0 0) where
-      pub front-after : high < getD s 0 0 → not-an-archive ≡ first-no (front-questions low high s)
-      front-after u = rw (le-leb 5 (length s) h, le-leb low (getD s 0 0) from, lt-leb (getD s 0 0) high u) refl
+  pub opens-told : 5 ≤ length s → low ≤ getD s 0 0 → leb (getD s 0 0) high ≡ opens low high s
+  opens-told h u = rw (le-leb 5 (length s) h, le-leb low (getD s 0 0) u) refl
 
-      module _ (to : getD s 0 0 ≤ high) {k end : ℕ} (q : Parsed (λ m. m < 256 ^ 4) (big 4) s 1 k end) where
-        length-is : length-field s ≡ k
-        length-is = field-tail s ∙ ap four (q .shape) ∙ word-bytes k (q .is-good)
+  pub opens-long : opens low high s ≡ true → 5 ≤ length s
+  opens-long e = leb-true 5 (length s) (and-fst (leb 5 (length s)) (leb low (getD s 0 0) && leb (getD s 0 0) high) e)
 
-        pub front-misfit : (k ≡ length s - 5 → ⊥) → wrong-length ≡ first-no (front-questions low high s)
-        front-misfit u =
-            let other = ne-eqb (length-field s) (length s - 5) (λ e. u (sym length-is ∙ e)) in
-            rw (le-leb 5 (length s) h, le-leb low (getD s 0 0) from, le-leb (getD s 0 0) high to, other) refl
+  -- the questions about its front
+  pub front-closed : opens low high s ≡ false → not-an-archive ≡ first-no (front-questions low high s)
+  front-closed e = rw e refl
 
-        pub front-fine : k ≡ length s - 5 → not-refused ≡ first-no (front-questions low high s)
-        front-fine e =
-            let same = eq-eqb (length-field s) (length s - 5) (length-is ∙ e) in
-            rw (le-leb 5 (length s) h, le-leb low (getD s 0 0) from, le-leb (getD s 0 0) high to, same) refl
+  module _ (e : opens low high s ≡ true) {k end : ℕ} (q : Parsed (λ m. m < 256 ^ 4) (big 4) s 1 k end) where
+    length-is : length-field s ≡ k
+    length-is = field-tail s ∙ ap four (q .shape) ∙ word-bytes k (q .is-good)
+
+    pub front-misfit : (k ≡ length s - 5 → ⊥) → wrong-length ≡ first-no (front-questions low high s)
+    front-misfit u = rw (e, ne-eqb (length-field s) (length s - 5) (λ z. u (sym length-is ∙ z))) refl
+
+    pub front-fine : k ≡ length s - 5 → not-refused ≡ first-no (front-questions low high s)
+    front-fine z = rw (e, eq-eqb (length-field s) (length s - 5) (length-is ∙ z)) refl
 
 -- what a read asks about the front, and the version of the file
 abbrev asked : List ℕ → List Question
@@ -80,8 +81,7 @@ module _ (s : List ℕ) where
         (a .0, a .1 .0)
 
     pub long-enough : 5 ≤ length s
-    long-enough =
-        leb-true 5 (length s) (and-fst (leb 5 (length s)) (leb oldest (first-byte s) && leb (first-byte s) latest) (passed .0))
+    long-enough = opens-long oldest latest s (passed .0)
 
     field-stands : Parsed (λ m. m < 256 ^ 4) (big 4) s 1 (length-field s) 5
     field-stands =

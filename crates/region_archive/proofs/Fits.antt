@@ -55,6 +55,14 @@ pub provided-fit : (xs : List ℕ) → Short most-provided xs → ProvidedFits (
 unfolding store-provided
 provided-fit xs h = places-fit most-provided xs h
 
+-- a list that fits is not longer than its places, and its count is the length of its part of them
+module _ {most n : ℕ} {items : List ℕ} (h : ListFits most n items) where
+  pub list-within : n ≤ length items
+  list-within = omega (arith, h .count, h .size)
+
+  pub list-counted : n ≡ length (take n items)
+  list-counted = sym (length-take-le n items list-within)
+
 -- a list is a part, and a part without the sign is a list
 module _ {n : ℕ} {items : List ℕ} where
   pub list-part : ListFits most-listed n items → PartFits n items
@@ -249,15 +257,11 @@ connection-short g v i =
     let none : ShortConnection no-connection = record { bundles = omega arith; packages = omega arith; services = omega arith } in
     all-or ShortConnection (meaning g .connections) i no-connection none (connections-stored g v .good .each)
 
--- the count of a list that fits is its length
-pub codes-length : (n : Codes) → CodesFit n → n .count ≡ length (codes-of n)
-codes-length n h = sym (length-take-le (n .count) (n .items) (omega (arith, h .count, h .size)))
-
 -- a list takes one byte, and as many as the form says for each element
 pub list-size : (f : Form) (n : Codes) → CodesFit n → length (counted (element-bytes f) (codes-of n)) ≡ 1 + n .count * f .width
 list-size f n h =
     let each = concat-length (element-bytes f) (f .width) (λ c. big-length (f .width) (c / scale f)) (codes-of n) in
-    omega (arith, each, ap (λ (m : ℕ). m * f .width) (codes-length n h))
+    omega (arith, each, ap (λ (m : ℕ). m * f .width) (list-counted h))
 
 -- a section's records have few fields, and a narrow first one
 pub few-fields : (s : Section) → field-count s ≤ 5

@@ -5,6 +5,7 @@ pub mod FormLaws
 pub mod Versioned
 pub mod Fits
 pub mod Placed
+pub mod PlainLaws
 pub mod CountedReads
 pub mod CountedLists
 pub mod FieldLaws

@@ -6,9 +6,10 @@ use mathlib.Core.Logic.{⊎-elim}
 use Prim.Native.Nat.{ℕ}
 use lib.ListN.{drop, getD}
 use Rattle.region_graph.specs.Model.{Model, Legal}
+use Rattle.region_graph.proofs.Legal.{legal-nothing}
 use Rattle.big_endian.proofs.SomeOrNone.{some-or-none}
 use Rattle.region_archive.specs.Image.{image-in, in-version}
-use Rattle.region_archive.specs.File.{FileMeaning, means, means-none}
+use Rattle.region_archive.specs.File.{FileMeaning, means, means-none, read-model}
 use Rattle.region_archive.specs.Sections.{LegalIn}
 use Rattle.region_archive.proofs.ModelReaders.{read-body}
 use Rattle.region_archive.proofs.OneImage.{image-body, first-version}
@@ -36,3 +37,8 @@ file-meaning bytes =
     other n v m l h e =
         let d = first-version v m e in
         n m (l, subst (λ (w : ℕ). in-version w m ≡ true) d h) (ap (λ (w : ℕ). image-in w m) (sym d) ∙ e)
+
+-- what a file means is legal
+pub model-legal : {s : List ℕ} (f : FileMeaning s) → Legal (read-model f)
+model-legal (means v m l h e) = l
+model-legal (means-none n) = legal-nothing

@@ -165,11 +165,13 @@ older-bound m h = omega (arith, older-within m h, h .regions-legal .few)
 pub early-bound : (m : Model) → Legal m → older-version (m .regions) ≡ 1 → length (older-image m) ≤ 14248
 early-bound m h e = omega (arith, older-within m h, early-few (m .regions) (h .regions-legal .ascend) e)
 
--- an image passes the questions about its front
-pub image-front : (v : ℕ) (m : Model) → LegalIn v m → first-no (front-questions oldest latest (image-in v m)) ≡ not-refused
+-- an image passes the questions about its front that admit its version, and those of a read
+pub front-passed : (low high v : ℕ) (m : Model) → Legal m → low ≤ v → v ≤ high → first-no (front-questions low high (image-in v m)) ≡ not-refused
 unfolding image-in
-image-front v m (l, h) =
+front-passed low high v m l since until =
     let s = image-in v m in
     let size : length-field s ≡ length s - 5 = word-bytes (length (body-in v m)) (omega (arith, any-bound v m l)) ∙ omega arith in
-    let r = version-read v m h in
-    rw (le-leb 5 (length s) (omega arith), le-leb oldest v (r .0), le-leb v latest (r .1), eq-eqb (length-field s) (length s - 5) size)
+    rw (le-leb 5 (length s) (omega arith), le-leb low v since, le-leb v high until, eq-eqb (length-field s) (length s - 5) size)
+
+pub image-front : (v : ℕ) (m : Model) → LegalIn v m → first-no (front-questions oldest latest (image-in v m)) ≡ not-refused
+image-front v m (l, h) = let r = version-read v m h in front-passed oldest latest v m l (r .0) (r .1)

@@ -57,10 +57,10 @@ pub record Place (g : Graph) (s : Section) (bs : List StoredBundle) (cs : List S
   pub below : i < n
 
 module _ {g : Graph} {bs : List StoredBundle} {cs : List StoredConnection} {n : ℕ} where
-  bundles-placed : {v : ℕ} → Placed g (Section.Bundles v) bs cs n → Filled store-bundle (store-bundle no-bundle) most-bundles bs n (meaning g .bundles)
+  pub bundles-placed : {v : ℕ} → Placed g (Section.Bundles v) bs cs n → Filled store-bundle (store-bundle no-bundle) most-bundles bs n (meaning g .bundles)
   bundles-placed p = record { shape = p .bundles; counted = p .counted; room = p .valid .good .bundles-legal .few }
 
-  connections-placed : {v : ℕ} → Placed g (Section.Connections v) bs cs n
+  pub connections-placed : {v : ℕ} → Placed g (Section.Connections v) bs cs n
       → Filled store-connection (store-connection no-connection) most-connections cs n (meaning g .connections)
   connections-placed p = record { shape = p .connections; counted = p .counted; room = p .valid .good .connections-legal .few }
 

@@ -4,7 +4,7 @@ use mathlib.Core.List.{List, [], _∷_, _++_}
 use Prim.Native.Nat.{ℕ}
 use lib.Dec.{eqb, leb}
 use lib.ListN.{length}
-use Rattle.region_graph.specs.Refusals.{not-refused, not-installed, not-a-kind, no-place}
+use Rattle.region_graph.specs.Refusals.{not-refused, not-installed, not-a-kind, no-place, has-versions}
 use Rattle.region_graph.specs.Lists.{pick}
 use Rattle.region_graph.specs.Model.{Model}
 use Rattle.region_graph.specs.Calls.{Question, ask, first-no}
@@ -13,7 +13,7 @@ use Rattle.region_graph.specs.Promise.{place-of}
 use Rattle.region_graph.specs.declared.Graph.{Graph}
 use Rattle.region_graph.specs.declared.Changed.{Changed}
 use Rattle.region_routes.specs.Hooks.{Returned, Outcome, written, is-installed, judged, item, sees-from}
-use Rattle.region_archive.specs.Image.{image}
+use Rattle.region_archive.specs.Image.{image, unversioned, older-image}
 use Rattle.region_archive.specs.File.{FileMeaning, read-model, read-questions, read-number}
 use Rattle.region_archive.specs.declared.Written.{Written}
 use Rattle.region_archive.specs.declared.Written.the-variants as Written
@@ -26,13 +26,30 @@ written-as (Written.Refused n) = record { number = n; values = [] }
 abbrev pub archived : Written → List ℕ → Outcome Written (List ℕ)
 archived answer exit = record { answer = answer; returned = written-as answer; exit = exit }
 
-abbrev pub write-questions : Model → List ℕ → List Question
-write-questions m entry = ask no-place (leb (length (image m)) (length entry)) ∷ []
+-- whether an image has a place in the buffer
+abbrev pub place-questions : List ℕ → List ℕ → List Question
+place-questions s entry = ask no-place (leb (length s) (length entry)) ∷ []
 
--- the image at the buffer's start and its length, or refusal 14 and the buffer as it was
+-- an image at the buffer's start and its length, or the number of the first question answered no and the buffer as it was
+abbrev pub image-outcome : List Question → List ℕ → List ℕ → Outcome Written (List ℕ)
+image-outcome qs s entry = judged Written.Refused (first-no qs) (archived (Written.Bytes (length s)) (written s entry)) entry
+
+-- the same where its place alone is asked for
+abbrev pub placed-outcome : List ℕ → List ℕ → Outcome Written (List ℕ)
+placed-outcome s entry = image-outcome (place-questions s entry) s entry
+
+abbrev pub write-questions : Model → List ℕ → List Question
+write-questions m entry = place-questions (image m) entry
+
 abbrev pub write-outcome : Model → List ℕ → Outcome Written (List ℕ)
-write-outcome m entry =
-    judged Written.Refused (first-no (write-questions m entry)) (archived (Written.Bytes (length (image m))) (written (image m) entry)) entry
+write-outcome m entry = placed-outcome (image m) entry
+
+-- C-16: an older image is written of a model without versions alone
+abbrev pub older-questions : Model → List ℕ → List Question
+older-questions m entry = ask has-versions (unversioned m) ∷ place-questions (older-image m) entry
+
+abbrev pub older-outcome : Model → List ℕ → Outcome Written (List ℕ)
+older-outcome m entry = image-outcome (older-questions m entry) (older-image m) entry
 
 -- a read of the file s gave r: an accepted one the sets that the file means, a refused one the empty sets
 pub record ReadAs {s : List ℕ} (f : FileMeaning s) (r : Changed) : Type 0 where

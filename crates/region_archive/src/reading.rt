@@ -5,7 +5,8 @@ ghost use lib.ListN.{length};
 ghost use Rattle.region_graph.specs.Record.{Valid};
 ghost use Rattle.region_graph.specs.Calls.{«first-no»};
 ghost use Rattle.region_graph.specs.Promise.{Empty};
-ghost use Rattle.region_archive.specs.File.{«front-questions»};
+ghost use Rattle.region_archive.specs.File.{oldest, opens, «front-questions»};
+ghost use Rattle.region_archive.specs.Image.{latest};
 ghost use Rattle.region_archive.specs.Promise.{Reads, ReadsOver};
 ghost use Rattle.region_archive.specs.Sections.{BodyRead};
 use crate::FRONT;
@@ -28,18 +29,25 @@ use region_graph::size::MOST_BUNDLES;
 use region_graph::size::MOST_CONNECTIONS;
 use region_graph::size::REGIONS;
 
-// The number that the version and the length field give, where versions from an oldest to a latest are read.
-fn front(bytes: &[u8], oldest: usize, latest: usize) -> u32
-    ensures { λ r. ⌜ r ≡ first-no (front-questions oldest latest (now (bytes .entry))) ⌝ }
+// Whether bytes have the front of an archive, of a version from an oldest to a latest.
+pub fn opens(bytes: &[u8], oldest: usize, latest: usize) -> bool
+    ensures { λ r. ⌜ r ≡ opens oldest latest (now (bytes .entry)) ⌝ }
 {
     if bytes.len() < FRONT {
-        return NOT_AN_ARCHIVE;
+        return false;
     }
     let first = bytes[0] as usize;
     if first < oldest {
-        return NOT_AN_ARCHIVE;
+        return false;
     }
-    if latest < first {
+    first <= latest
+}
+
+// The number that the version and the length field give.
+fn front(bytes: &[u8]) -> u32
+    ensures { λ r. ⌜ r ≡ first-no (front-questions oldest latest (now (bytes .entry))) ⌝ }
+{
+    if !opens(bytes, OLDEST, LATEST) {
         return NOT_AN_ARCHIVE;
     }
     let size = number_at(bytes, 1, 4);
@@ -109,7 +117,7 @@ fn body_at(bytes: &[u8], at: usize, first: usize) -> Changed
 pub fn read(bytes: &[u8]) -> Changed
     ensures { λ r. ⌜ Reads (now (bytes .entry)) r ⌝ }
 {
-    let number = front(bytes, OLDEST, LATEST);
+    let number = front(bytes);
     if number != NOT_REFUSED {
         return refused(number);
     }

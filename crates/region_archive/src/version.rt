@@ -19,7 +19,7 @@ const LATE: usize = 2;
 const EARLY_SETS: u64 = 65536;
 
 // The version before the latest of the image of a graph with these regions.
-fn older_version(set: u64) -> usize
+pub fn older_version(set: u64) -> usize
     ensures { λ r. ⌜ r ≡ Image.older-version (members set) ⌝ }
 {
     if set < EARLY_SETS {

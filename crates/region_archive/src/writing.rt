@@ -1,23 +1,24 @@
 // The writer: the length of the image first, then its bytes.
 ghost use mathlib.Core.Path.{_≡_};
-ghost use Prim.Native.Nat.{_+_, _≤_};
+ghost use Prim.Native.Nat.{_+_, _≤_, _<_};
 ghost use lib.ListN.{length};
 ghost use Rattle.region_graph.specs.Size.{regions};
 ghost use Rattle.region_graph.specs.Record.{Valid, meaning};
 ghost use Rattle.text_lines.specs.Written.{WrittenAt};
 ghost use Rattle.region_archive.specs.Bounds.{«field-bound», «fields-bound», «section-bound»};
 ghost use Rattle.big_endian.specs.Bytes.{big, counted, sized};
-ghost use Rattle.region_archive.specs.Image.{«part-bytes»};
+ghost use Rattle.region_archive.specs.Image.{«part-bytes», «image-in»};
 ghost use Rattle.region_archive.specs.Forms.{«element-bytes», FormFits};
 ghost use Rattle.region_archive.specs.RecordFields.{«codes-of», «part-of», CodesFit, CodePartFits, ValuesFit};
 ghost use Rattle.region_archive.specs.RecordFields.{«fields-in», «field-bytes», «fields-bytes», «field-count», «section-bytes»};
-ghost use Rattle.region_archive.specs.Promise.{archived, «write-outcome»};
+ghost use Rattle.region_archive.specs.Promise.{archived, «placed-outcome», «write-outcome», «older-outcome»};
 use crate::FRONT;
 use crate::Written;
 use crate::forms::Form;
 use crate::forms::form_of;
 use crate::numbers::put_element;
 use crate::numbers::put_number;
+use crate::plain::unversioned;
 use crate::record_fields::Codes;
 use crate::record_fields::FieldValues;
 use crate::record_fields::Section;
@@ -27,7 +28,9 @@ use crate::record_fields::count;
 use crate::record_fields::field_count;
 use crate::record_fields::first_width;
 use crate::version::LATEST;
+use crate::version::older_version;
 use region_graph::Graph;
+use region_graph::refusals::HAS_VERSIONS;
 use region_graph::refusals::NO_PLACE;
 use region_graph::region_set::has;
 use region_graph::size::EVERYTHING;
@@ -246,22 +249,43 @@ fn put_regions(buffer: &mut [u8], at: usize, graph: Graph) -> usize
     to
 }
 
+// The image of a graph in a version at the buffer's start.
+fn write_in(graph: Graph, version: usize, buffer: &mut [u8]) -> Written
+    requires { ⌜ Valid graph × (version < 256) ⌝ }
+    ensures { λ r. ⌜ archived r (now (buffer .exit)) ≡ placed-outcome (image-in version (meaning graph)) (now (buffer .entry)) ⌝ }
+{
+    let regions = region_count(graph);
+    let bundles = section_size(graph, Section::Bundles(version));
+    let connections = section_size(graph, Section::Connections(version));
+    let size = 1 + regions + bundles + connections;
+    if buffer.len() < size + FRONT {
+        return Written::Refused(NO_PLACE);
+    }
+    let a = put_number(buffer, 0, 1, version);
+    let b = put_number(buffer, a, 4, size);
+    let c = put_regions(buffer, b, graph);
+    let d = put_section(buffer, c, graph, Section::Bundles(version));
+    let end = put_section(buffer, d, graph, Section::Connections(version));
+    Written::Bytes(end)
+}
+
 // The image of a graph at the buffer's start.
 pub fn write(graph: Graph, buffer: &mut [u8]) -> Written
     requires { ⌜ Valid graph ⌝ }
     ensures { λ r. ⌜ archived r (now (buffer .exit)) ≡ write-outcome (meaning graph) (now (buffer .entry)) ⌝ }
 {
-    let regions = region_count(graph);
-    let bundles = section_size(graph, Section::Bundles(LATEST));
-    let connections = section_size(graph, Section::Connections(LATEST));
-    let size = 1 + regions + bundles + connections;
-    if buffer.len() < size + FRONT {
-        return Written::Refused(NO_PLACE);
+    write_in(graph, LATEST, buffer)
+}
+
+// The image that was written before the latest version, of a graph that has no versions.
+pub fn write_older(graph: Graph, buffer: &mut [u8]) -> Written
+    requires { ⌜ Valid graph ⌝ }
+    ensures { λ r. ⌜ archived r (now (buffer .exit)) ≡ older-outcome (meaning graph) (now (buffer .entry)) ⌝ }
+{
+    if !unversioned(graph) {
+        return Written::Refused(HAS_VERSIONS);
     }
-    let a = put_number(buffer, 0, 1, LATEST);
-    let b = put_number(buffer, a, 4, size);
-    let c = put_regions(buffer, b, graph);
-    let d = put_section(buffer, c, graph, Section::Bundles(LATEST));
-    let end = put_section(buffer, d, graph, Section::Connections(LATEST));
-    Written::Bytes(end)
+    let set = graph.region_set();
+    let version = older_version(set);
+    write_in(graph, version, buffer)
 }

@@ -74,3 +74,7 @@ no-entry = 19
 -- the lowest version of a package entry exceeds its highest
 abbrev pub range-reversed : ℕ
 range-reversed = 20
+
+-- an export has a version other than 0, or a package entry does not run from 0 to 65535
+abbrev pub has-versions : ℕ
+has-versions = 21

@@ -26,10 +26,13 @@ use Rattle.region_routes.specs.Resolve.{Candidate, parts, offered-from, resolve
 use Rattle.region_routes.specs.declared.Kind.{Kind}
 use Rattle.region_routes.specs.declared.Routed.the-variants as Routed
 use Rattle.region_routes.specs.declared.Kept.the-variants as Kept
-use Rattle.region_archive.specs.Image.{image}
-use Rattle.region_archive.specs.Promise.{archived, write-questions, write-outcome}
+use Rattle.region_archive.specs.Image.{image, older-image}
+use Rattle.region_archive.specs.File.{FileMeaning, read-model}
+use Rattle.region_archive.specs.Promise.{archived, image-outcome, write-questions, write-outcome}
 use Rattle.region_archive.specs.declared.Written.the-variants as Written
-use Rattle.region_archive.proofs.OneImage.{image-bound}
+use Rattle.region_archive.proofs.OneImage.{image-bound, older-bound}
+use Rattle.region_archive.proofs.Meaning.{model-legal}
+use Rattle.region_convert.specs.Conversion.{forward-questions, back-questions, forward-outcome, back-outcome}
 use Rattle.region_host.specs.CNumbers.{CountFits}
 use Rattle.region_host.proofs.ReadBack.{PaperNumber, RoutedGiven, KeptGiven, WrittenGiven}
 
@@ -145,8 +148,21 @@ resolve-given m l cs entries f =
     kept-given (first-no (resolve-questions m l cs entries)) (first-no-within 100 (resolve-questions m l cs entries) (omega arith, (omega arith, tt)))
     offers cs (written-each (parts (keep offers cs)) entries) entries f
 
+pub image-given : (qs : List Question) → All (λ q. q .number ≤ 100) qs → (s entry : List ℕ) → CountFits (length s)
+    → WrittenGiven (image-outcome qs s entry .answer)
+image-given qs a s entry h =
+    judged-given WrittenGiven Written.Refused (λ n g. g) (first-no qs) (first-no-within 100 qs a)
+    (archived (Written.Bytes (length s)) (written s entry)) h entry
+
 pub write-given : (m : Model) → Legal m → (entry : List ℕ) → WrittenGiven (write-outcome m entry .answer)
-write-given m h entry =
-    judged-given WrittenGiven Written.Refused (λ n g. g) (first-no (write-questions m entry))
-    (first-no-within 100 (write-questions m entry) (omega arith, tt)) (archived (Written.Bytes (length (image m))) (written (image m) entry))
-    (omega (arith, image-bound m h)) entry
+write-given m h entry = image-given (write-questions m entry) (omega arith, tt) (image m) entry (omega (arith, image-bound m h))
+
+pub forward-given : {s : List ℕ} (f : FileMeaning s) (entry : List ℕ) → WrittenGiven (forward-outcome f entry .answer)
+forward-given f entry =
+    image-given (forward-questions f entry) (omega arith, (omega arith, (omega arith, (omega arith, tt)))) (image (read-model f)) entry
+    (omega (arith, image-bound (read-model f) (model-legal f)))
+
+pub back-given : {s : List ℕ} (f : FileMeaning s) (entry : List ℕ) → WrittenGiven (back-outcome f entry .answer)
+back-given f entry =
+    image-given (back-questions f entry) (omega arith, (omega arith, (omega arith, (omega arith, (omega arith, tt))))) (older-image (read-model f)) entry
+    (omega (arith, older-bound (read-model f) (model-legal f)))

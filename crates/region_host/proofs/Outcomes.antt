@@ -9,7 +9,7 @@ use lib.ListN.{length}
 use Rattle.region_graph.specs.Refusals.{not-refused}
 use Rattle.region_graph.specs.Lists.{pick, keep}
 use Rattle.region_graph.specs.Model.{Model}
-use Rattle.region_graph.specs.Calls.{first-no}
+use Rattle.region_graph.specs.Calls.{Question, first-no}
 use Rattle.region_graph.specs.Promise.{place-of}
 use Rattle.region_graph.specs.declared.Item.{Item}
 use Rattle.region_graph.specs.declared.Place.{Place}
@@ -22,8 +22,7 @@ use Rattle.region_routes.specs.declared.Kind.{Kind}
 use Rattle.region_routes.specs.declared.Routed.the-variants as Routed
 use Rattle.region_routes.specs.declared.Kept.{Kept}
 use Rattle.region_routes.specs.declared.Kept.the-variants as Kept
-use Rattle.region_archive.specs.Image.{image}
-use Rattle.region_archive.specs.Promise.{written-as, archived, write-questions, write-outcome}
+use Rattle.region_archive.specs.Promise.{written-as, archived, image-outcome}
 use Rattle.region_archive.specs.declared.Written.the-variants as Written
 use Rattle.region_host.specs.CNumbers.{CAnswer, answered, for-c}
 
@@ -87,7 +86,6 @@ resolve-whole m l cs entries =
     let those = keep (λ c. offered-from m c (place-of (m .bundles) l)) cs in
     kept-whole (first-no (resolve-questions m l cs entries)) (Kept.Wrote (length those)) (written-each (parts those) entries) entries
 
-pub write-whole : (m : Model) (entry : List ℕ) → Whole written-as (write-outcome m entry)
-write-whole m entry =
-    judged-whole written-as Written.Refused (λ n. refl) (first-no (write-questions m entry))
-    {o = archived (Written.Bytes (length (image m))) (written (image m) entry)} entry refl
+pub image-whole : (qs : List Question) (s entry : List ℕ) → Whole written-as (image-outcome qs s entry)
+image-whole qs s entry =
+    judged-whole written-as Written.Refused (λ n. refl) (first-no qs) {o = archived (Written.Bytes (length s)) (written s entry)} entry refl

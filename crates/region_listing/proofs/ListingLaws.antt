@@ -19,7 +19,6 @@ use Rattle.region_graph.specs.declared.bundles.StoredBundle.{StoredBundle}
 use Rattle.region_graph.proofs.Lists.{pick-yes, pick-no, keep-length, all-at, all-map, member-all, concat-next, concat-within, concat-most}
 use Rattle.region_graph.proofs.Arrays.{drop-replicate}
 use Rattle.region_graph.proofs.Storing.{short-bundle}
-use Rattle.region_graph.proofs.Legal.{legal-nothing}
 use Rattle.region_routes.specs.Chosen.{sees}
 use Rattle.region_routes.specs.Hooks.{kind-number}
 use Rattle.region_routes.specs.declared.Kind.{Kind}
@@ -28,8 +27,8 @@ use Rattle.text_lines.specs.Written.{WrittenAt}
 use Rattle.text_lines.specs.Decimal.{decimal, decimal-field, space, newline}
 use Rattle.text_lines.proofs.Writes.{wrote-then, wrote-is, wrote-length}
 use Rattle.text_lines.proofs.DecimalLaws.{decimal-few, decimal-most}
-use Rattle.region_archive.specs.File.{FileMeaning, means, means-none, read-model, read-number}
-use Rattle.region_archive.proofs.Meaning.{file-meaning}
+use Rattle.region_archive.specs.File.{FileMeaning, read-model, read-number}
+use Rattle.region_archive.proofs.Meaning.{file-meaning, model-legal}
 use Rattle.region_listing.specs.Listing.{provided, held, seen-from, line-of, line, header, listing-text, refused-word, refusal-text, file-text}
 use Rattle.region_listing.specs.Listing.{header-size, line-size, longest-text, store-text, ArchiveListed}
 use Rattle.region_listing.specs.Counts.{Counted}
@@ -199,10 +198,6 @@ listing-fits m l = omega (arith, length-append header (concat-map (line m) (m .b
 pub refusal-fits : (n : ℕ) → length (refusal-text n) ≤ longest-text
 unfolding refusal-text refused-word
 refusal-fits n = omega (arith, field-most n newline)
-
-pub model-legal : {s : List ℕ} (f : FileMeaning s) → Legal (read-model f)
-model-legal (means v m l h e) = l
-model-legal (means-none n) = legal-nothing
 
 pub text-fits : {s : List ℕ} (f : FileMeaning s) → length (file-text f) ≤ longest-text
 text-fits f = go (eqb (read-number f) not-refused)

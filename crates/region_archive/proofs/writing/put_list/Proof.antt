@@ -11,7 +11,7 @@ use Rattle.big_endian.specs.Bytes.{counted}
 use Rattle.big_endian.proofs.Digits.{big-length}
 use Rattle.region_archive.specs.Forms.{element-bytes, scale}
 use Rattle.region_archive.specs.RecordFields.{codes-of}
-use Rattle.region_archive.proofs.Fits.{codes-length}
+use Rattle.region_archive.proofs.Fits.{list-counted}
 use Rattle.region_archive.proofs.Writes.{wrote-counted}
 use Rattle.region_archive.proofs.writing.put_list.Statement.{statement}
 use Rattle.region_archive.proofs.writing.put_list.Tie as tie
@@ -58,7 +58,7 @@ returns c =
     let f = s .args .form in
     let n = s .args .t4 in
     let e : a .loop .i ≡ n .count = omega arith in
-    wrote-counted (element-bytes f) (codes-of n) (codes-length n (s .pre .0 .1)) (omega (arith, s .pre .0 .1 .count))
+    wrote-counted (element-bytes f) (codes-of n) (list-counted (s .pre .0 .1)) (omega (arith, s .pre .0 .1 .count))
     (ap (λ (k : ℕ). concat-map (element-bytes f) (take k (n .items))) e) (put-count a .put-number .ensures) (a .loop .inv .1)
 
 pub put-list-spec : {M : Type 1} → statement M

@@ -7,17 +7,20 @@ use Rattle.region_graph.specs.Model.{Model, Legal}
 use Rattle.region_graph.specs.Record.{meaning}
 use Rattle.text_lines.proofs.Writes.{wrote-is, wrote-then, wrote-length}
 use Rattle.big_endian.specs.Bytes.{big, counted}
-use Rattle.region_archive.specs.Image.{latest, body-in}
+use Rattle.region_archive.specs.Image.{body-in, image-in}
 use Rattle.region_archive.specs.RecordFields.{section-bytes}
 use Rattle.region_archive.specs.declared.record_fields.Section.the-variants as Section
 use Rattle.region_archive.proofs.Images.{body-size, image-size, image-pieces, regions-size, wrote-image, no-image}
 use Rattle.region_archive.proofs.Writes.{wrote-leaves}
-use Rattle.region_archive.proofs.writing.write.Statement.{statement}
-use Rattle.region_archive.proofs.writing.write.Tie as tie
+use Rattle.region_archive.proofs.writing.write_in.Statement.{statement}
+use Rattle.region_archive.proofs.writing.write_in.Tie as tie
 
--- the model that is written
+-- the model that is written, and the version of its image
 abbrev model : tie.After-section-size2 → Model
 model c = meaning (c .before .before .before .before .args .graph)
+
+abbrev version : tie.After-section-size2 → ℕ
+version c = c .before .before .before .before .args .version
 
 -- where the version, the size, the regions and the bundles were written
 abbrev version-put : tie.After-slice-known3 → tie.After-slice-known2
@@ -37,12 +40,12 @@ few : (c : tie.After-section-size2) → c .before .before .region-count .result 
 few c = omega (arith, c .before .before .region-count .ensures .1, c .before .section-size .ensures .1, c .section-size2 .ensures .1)
 
 legal : (c : tie.After-section-size2) → Legal (model c)
-legal c = c .before .before .before .before .pre .good
+legal c = c .before .before .before .before .pre .0 .good
 
 size-is : (c : tie.After-section-size2)
-    → 1 + c .before .before .region-count .result + c .before .section-size .result + c .section-size2 .result ≡ length (body-in latest (model c))
+    → 1 + c .before .before .region-count .result + c .before .section-size .result + c .section-size2 .result ≡ length (body-in (version c) (model c))
 size-is c =
-    let whole = body-size latest (model c) (legal c) in
+    let whole = body-size (version c) (model c) (legal c) in
     omega (arith, whole, c .before .before .region-count .ensures .0, c .before .section-size .ensures .0, c .section-size2 .ensures .0)
 
 abbrev sized : tie.After-slice-known2 → tie.Else1
@@ -53,26 +56,29 @@ abbrev regions-length : tie.Else1 → ℕ
 regions-length c = length (counted (big 1) (model (c .before) .regions))
 
 abbrev bundles-length : tie.Else1 → ℕ
-bundles-length c = length (section-bytes (Section.Bundles latest) (model (c .before)))
+bundles-length c = length (section-bytes (Section.Bundles (version (c .before))) (model (c .before)))
 
 abbrev connections-length : tie.Else1 → ℕ
-connections-length c = length (section-bytes (Section.Connections latest) (model (c .before)))
+connections-length c = length (section-bytes (Section.Connections (version (c .before))) (model (c .before)))
 
 fits : (c : tie.Else1)
     → 5 + (regions-length c + (bundles-length c + connections-length c)) ≤ length (c .before .before .before .before .before .args .buffer .now)
-fits c = let m = model (c .before) in omega (arith, c .if1 .left, size-is (c .before), body-size latest m (legal (c .before)), regions-size (m .regions))
+fits c =
+    let m = model (c .before) in
+    omega (arith, c .if1 .left, size-is (c .before), body-size (version (c .before)) m (legal (c .before)), regions-size (m .regions))
 
 returns : tie.Need-returns
 returns c =
     let a = c .before in
-    no-image (model a) (a .before .before .before .before .args .buffer .now) (omega (arith, image-size latest (model a), size-is a, c .if1 .taken))
+    no-image (image-in (version a) (model a)) (a .before .before .before .before .args .buffer .now)
+    (omega (arith, image-size (version a) (model a), size-is a, c .if1 .taken))
 
 put-regions-requires : tie.Need-put-regions-requires
 put-regions-requires c κs =
     let d = c .before in
     let v = version-put d in
     let e = sized v in (
-      e .before .before .before .before .before .pre,
+      e .before .before .before .before .before .pre .0,
       wrote-leaves (d .before .before .put-number2 .ensures) (regions-length e)
           (wrote-leaves (v .before .before .put-number .ensures) (4 + regions-length e) (omega (arith, fits e))),
     )
@@ -84,7 +90,7 @@ put-section-requires c κs =
     let v = version-put d in
     let e = sized v in
     let k = bundles-length e in (
-      e .before .before .before .before .before .pre,
+      e .before .before .before .before .before .pre .0,
       wrote-leaves (b .before .before .put-regions .ensures) k
           (wrote-leaves (d .before .before .put-number2 .ensures) (regions-length e + k)
           (wrote-leaves (v .before .before .put-number .ensures) (4 + (regions-length e + k)) (omega (arith, fits e)))),
@@ -99,7 +105,7 @@ put-section-requires-2 c κs =
     let e = sized v in
     let k = connections-length e in
     let l = bundles-length e + k in (
-      e .before .before .before .before .before .pre,
+      e .before .before .before .before .before .pre .0,
       wrote-leaves (a .before .before .put-section .ensures) k
           (wrote-leaves (b .before .before .put-regions .ensures) l
           (wrote-leaves (d .before .before .put-number2 .ensures) (regions-length e + l)
@@ -122,15 +128,15 @@ returns-2 c =
     let d = size-put b in
     let v = version-put d in
     let s = sized v .before in
-    wrote-image (model s)
-    (wrote-is (image-pieces (model s) (legal s) (size-is s))
+    wrote-image (image-in (version s) (model s))
+    (wrote-is (image-pieces (version s) (model s) (legal s) (s .before .before .before .before .pre .1) (size-is s))
     (wrote-then (v .before .before .put-number .ensures)
     (wrote-then (d .before .before .put-number2 .ensures)
     (wrote-then (b .before .before .put-regions .ensures)
     (wrote-then (a .before .before .put-section .ensures) (c .before .before .put-section2 .ensures))))))
 
-pub write-spec : {M : Type 1} → statement M
-write-spec =
+pub write-in-spec : {M : Type 1} → statement M
+write-in-spec =
     tie.close
     (tie.spec
     (λ c κs. search needs) (λ c κs. search needs) (λ c κs. search needs)

@@ -1,0 +1,2 @@
+-- Laws by subject, each over what stands above it.
+pub mod Conversions

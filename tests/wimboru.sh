@@ -372,15 +372,29 @@ fails() {
     same "files after a conversion $1" "$(ls -Ali "$place")" "$before"
 }
 
-# Root may write to every folder but those of /proc, where no file can be made, and may open what cannot be read.
+# WORDS SCRIPT: a script that runs the program for conversions, $1, with a folder, $2, and an archive, $3: it fails, says so, makes no
+# file, and leaves those that are there
+stops() {
+    before=$(ls -Ali "$place")
+    got=0
+    sh -c "$2" sh "$work/tree/target/wimboru/convert" "$place" "$g" > "$work/out" 2> "$work/err" || got=$?
+    same "status of the program for conversions $1" "$got" 3
+    same "output of the program for conversions $1" "$(cat "$work/out")" ''
+    same "messages of the program for conversions $1" "$(cut -d ' ' -f 1 "$work/err")" convert:
+    same "files after the program for conversions $1" "$(ls -Ali "$place")" "$before"
+}
+
+# Root may write to every folder; in one that is gone nobody can make a file.
 failed_conversions() {
     clear_place
     cp "$sheet" "$place/out"
     fails 'that is longer than a file may be' 8 "$examples/longest.archive" "$place/out"
     fails 'that is longer than a new file may be' 8 "$examples/longest.archive" "$place/new"
     fails 'to a name that is too long' 64 "$g" "$place/$(printf '%300s' '' | tr ' ' x)"
-    [ ! -d /proc/self ] || fails 'to a folder where no file can be made' 64 "$g" /proc/out
-    [ ! -r /proc/self/clear_refs ] || fails 'of what cannot be read' 64 /proc/self/clear_refs "$place/out"
+    # shellcheck disable=SC2016
+    stops 'in a folder that is gone' 'mkdir "$2/gone" && cd "$2/gone" && rmdir "$2/gone" && exec "$1" forward out < "$3"'
+    # shellcheck disable=SC2016
+    stops 'of what cannot be read' 'exec "$1" forward "$2/out" <&-'
     chmod a-w "$place"
     [ -w "$place" ] || fails 'to a folder that cannot be written' 64 "$g" "$place/out"
     chmod u+w "$place"
@@ -396,9 +410,10 @@ new_files() {
     expect 0 '' forward "$g" "$place/out"
     umask "$mask"
     same 'permissions by the umask' "$(find "$place/out" -perm 640)" "$place/out"
-    [ ! -d /proc/self ] || cd /proc
-    expect 0 '' back "$place/out" "$place/out"
-    cd "$root"
+    # shellcheck disable=SC2016
+    sh -c 'mkdir "$1/gone" && cd "$1/gone" && rmdir "$1/gone" && exec "$2" back "$1/out" < "$1/out"' sh "$place" \
+        "$work/tree/target/wimboru/convert"
+    same 'bytes by back from a folder that is gone' "$(compared "$place/out" "$g")" same
     # shellcheck disable=SC2016
     sh -c 'echo kept > "$1/.wimboru-$$-0"; exec "$2" forward "$1/out"' sh "$place" "$work/tree/target/wimboru/convert" \
         < "$g" > "$work/out"

@@ -11,7 +11,7 @@ use Rattle.region_graph.specs.Refusals.{not-refused, not-an-archive}
 use Rattle.region_graph.specs.Lists.{pick}
 use Rattle.region_graph.specs.Model.{Model}
 use Rattle.region_graph.specs.Calls.{Question, first-no}
-use Rattle.region_graph.specs.Record.{meaning}
+use Rattle.region_graph.specs.Record.{Valid, meaning}
 use Rattle.region_graph.specs.declared.Changed.{Changed}
 use Rattle.region_graph.proofs.Lists.{and-fst, and-snd}
 use Rattle.region_graph.proofs.Legal.{first-step, second-step}
@@ -23,6 +23,7 @@ use Rattle.region_archive.specs.declared.Written.{Written}
 use Rattle.region_archive.specs.declared.Written.the-variants as Written
 use Rattle.region_archive.proofs.FileReads.{opens-long}
 use Rattle.region_convert.specs.Conversion.{questions-between}
+use Rattle.region_convert.specs.Between.{ReadsBetween}
 
 -- a file that opens as one of the versions from `low` to `high` is of one of them, and opens as one of more
 module _ (low high : ℕ) (s : List ℕ) (e : opens low high s ≡ true) where
@@ -40,6 +41,24 @@ module _ (low high : ℕ) (s : List ℕ) (e : opens low high s ≡ true) where
         le-leb oldest v (omega (arith, opens-between .0)),
         le-leb v latest (omega (arith, opens-between .1)),
       ) refl
+
+-- a file of a version that is not admitted, and one that a read judges
+module _ (low high : ℕ) {s : List ℕ} {b : Bool} (told : b ≡ opens low high s) {r : Changed} where
+  pub not-opened : not b ≡ true → Valid (r .graph) → r .number ≡ not-an-archive → ReadsBetween low high s r
+  not-opened n v e = record {
+    valid = v;
+    number = λ f. e ∙ rw (sym told ∙ not-true b n) refl;
+    next = λ z. absurd (omega (arith, z, e));
+  }
+
+  pub opened-read : not b ≡ false → oldest ≤ low → high ≤ latest → Reads s r → ReadsBetween low high s r
+  opened-read n l h read =
+      let e = sym told ∙ not-false b n in
+      record {
+        valid = read .valid;
+        number = λ f. read .says f .number ∙ rw (e, opens-more low high s e l h) refl;
+        next = λ z f. read .says f .next;
+      }
 
 -- Versions from `low` to `high`, and for each model the questions that follow those of the reader and the image that is written.
 module _ (low high : ℕ) (rest : Model → List Question) (image-of : Model → List ℕ) (entry : List ℕ) {s : List ℕ} where
@@ -60,24 +79,16 @@ module _ (low high : ℕ) (rest : Model → List Question) (image-of : Model →
       → image-outcome (rest (read-model f)) (image-of (read-model f)) entry ≡ outcome f
   then-asked f e = ap (answer-by f) (second-step (asked f) (rest (read-model f)) (refl, (refl, (refl, tt))) e refl refl)
 
-  -- whether the file is of a version that is admitted
-  module _ {b : Bool} (told : b ≡ opens low high s) where
-    pub not-opened : not b ≡ true → (f : FileMeaning s) → archived (Written.Refused not-an-archive) entry ≡ outcome f
-    not-opened n f = rw (sym told ∙ not-true b n) refl
+  -- what is refused, and what is written of a file that was read
+  module _ {r : Changed} (read : ReadsBetween low high s r) where
+    pub not-read : (r .number ≡ not-refused → ⊥) → (f : FileMeaning s) → archived (Written.Refused (r .number)) entry ≡ outcome f
+    not-read u f =
+        let t = image-of (read-model f) in
+        sym (ap (λ (x : Bool). pick x (archived (Written.Bytes (length t)) (written t entry)) (archived (Written.Refused (r .number)) entry))
+        (ne-eqb (r .number) not-refused u))
+        ∙ ap (answer-by f) (first-step (asked f) (rest (read-model f)) (refl, (refl, (refl, tt))) (read .number f) u)
 
-    -- it is: the number is that of a read
-    module _ (l : oldest ≤ low) (h : high ≤ latest) (n : not b ≡ false) {r : Changed} (read : Reads s r) where
-      number-is : (f : FileMeaning s) → r .number ≡ first-no (asked f)
-      number-is f = let e = sym told ∙ not-false b n in read .says f .number ∙ rw (e, opens-more low high s e l h) refl
-
-      pub not-read : (r .number ≡ not-refused → ⊥) → (f : FileMeaning s) → archived (Written.Refused (r .number)) entry ≡ outcome f
-      not-read u f =
-          let t = image-of (read-model f) in
-          sym (ap (λ (x : Bool). pick x (archived (Written.Bytes (length t)) (written t entry)) (archived (Written.Refused (r .number)) entry))
-          (ne-eqb (r .number) not-refused u))
-          ∙ ap (answer-by f) (first-step (asked f) (rest (read-model f)) (refl, (refl, (refl, tt))) (number-is f) u)
-
-      pub then-written : r .number ≡ not-refused → {o : Outcome Written (List ℕ)}
-          → o ≡ image-outcome (rest (meaning (r .graph))) (image-of (meaning (r .graph))) entry → (f : FileMeaning s) → o ≡ outcome f
-      then-written z e f =
-          e ∙ ap (λ (m : Model). image-outcome (rest m) (image-of m) entry) (read .says f .next) ∙ then-asked f (sym z ∙ number-is f)
+    pub then-written : r .number ≡ not-refused → {o : Outcome Written (List ℕ)}
+        → o ≡ image-outcome (rest (meaning (r .graph))) (image-of (meaning (r .graph))) entry → (f : FileMeaning s) → o ≡ outcome f
+    then-written z e f =
+        e ∙ ap (λ (m : Model). image-outcome (rest m) (image-of m) entry) (read .next z f) ∙ then-asked f (sym z ∙ read .number f)

@@ -17,27 +17,15 @@ Inv-loop versions version i₀ i =
 abbrev μ-loop : tie.MeasureT-loop
 μ-loop versions version i₀ i = length versions - i
 
-loop-holds : tie.Need-loop-holds Inv-loop μ-loop
-loop-holds c = (omega arith, refl)
-
-returns : tie.Need-returns Inv-loop μ-loop
-returns c =
-    let l = c .before .before .before .loop in
-    let s = c .before .before .before .before .args in
-    every-stop (λ v. eqb v (s .version)) (s .versions .now) (l .i) 0 (omega arith) (l .inv .1) (ne-eqb _ _ (c .if1 .taken))
-
-loop-again : tie.Need-loop-again Inv-loop μ-loop
-loop-again c =
-    let l = c .before .before .before .loop in
-    let s = c .before .before .before .before .args in
-    (omega arith, every-later (λ v. eqb v (s .version)) (s .versions .now) (l .i) 0 (omega arith) (l .inv .1) (eq-eqb _ _ (c .if1 .left)))
-
-returns-2 : tie.Need-returns-2 Inv-loop μ-loop
-returns-2 c =
-    let a = c .before .before .args in
-    every-end (λ v. eqb v (a .version)) (a .versions .now) (c .before .loop .i) (c .before .loop .inv .1) (omega arith)
-
 pub all-are-spec : {M : Type 1} → statement M
 all-are-spec =
     tie.close
-    (tie.spec Inv-loop μ-loop loop-holds (λ c. search needs) (λ c. search needs) returns (λ c. search needs) (λ c. search needs) loop-again returns-2)
+    (tie.spec Inv-loop μ-loop (λ c. (omega arith, refl)) (λ c. search needs) (λ c. search needs)
+    (λ c. let a = c .before .before .before in
+    every-stop (λ v. eqb v (a .before .args .version)) _ (a .loop .i) 0 (omega arith) (a .loop .inv .1) (ne-eqb _ _ (c .if1 .taken)))
+    (λ c. search needs) (λ c. search needs)
+    (λ c. let a = c .before .before .before in (
+      omega arith,
+      every-later (λ v. eqb v (a .before .args .version)) _ (a .loop .i) 0 (omega arith) (a .loop .inv .1) (eq-eqb _ _ (c .if1 .left)),
+    ))
+    (λ c. every-end (λ v. eqb v (c .before .before .args .version)) _ (c .before .loop .i) (c .before .loop .inv .1) (omega arith)))

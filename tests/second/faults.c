@@ -10,13 +10,13 @@
 #include "wimboru.h"
 
 /* The faults have the numbers from 1 up to this one; 0 is none. */
-enum { FAULTS = 154 };
+enum { FAULTS = 157 };
 /* From this one on, up to OLDER, they convert a file so that the other conversion does not give it again. */
-enum { ONE_WAY = 143 };
+enum { ONE_WAY = 146 };
 /* From this one on, up to OUTSIDE, they take a file of version 1 or 2 otherwise than a reader must that knows no other version. */
-enum { OLDER = 147 };
+enum { OLDER = 150 };
 /* From this one on they let a bundle learn what stands in regions that no connection leads to. */
-enum { OUTSIDE = 151 };
+enum { OUTSIDE = 154 };
 /* The longest list that a fault of a changing call takes. */
 enum { LONGEST = 4096 };
 
@@ -145,12 +145,24 @@ static void turn_ranges(void)
 
 /* ---- changing calls ---- */
 
+/* The region that an add takes: with a fault a set has 32 places, or a region's number 8 bits. */
+static uint32_t added_region(uint32_t region)
+{
+    if (fault(143) && region < REGION_REGIONS) {
+        return region % 32;
+    }
+    return fault(1) ? region % 256 : region;
+}
+
 CALL(uint32_t, region_add, region_graph *g, uint32_t region)
 {
-    uint32_t number = __real_region_add(g, fault(1) ? region % 256 : region);
+    uint32_t number = __real_region_add(g, added_region(region));
 
-    if (fault(66) && number == 0 && region == REGION_REGIONS - 1) {
-        return region_remove(g, region), 1;
+    if ((fault(66) || fault(144)) && number == 0 && region == REGION_REGIONS - 1) {
+        return region_remove(g, region), fault(66) ? 1 : 0;
+    }
+    if (fault(145) && number == 0) {
+        __real_region_add(g, region + 1);
     }
     return fault(2) && number == 2 ? 3 : number;
 }
@@ -386,7 +398,7 @@ CALL(int64_t, region_bundle_find, const region_graph *g, uint32_t *out, size_t o
     uint8_t route[REGION_ROUTE_BYTES];
     int64_t count = __real_region_bundle_find(g, out, out_count, location, candidates, candidate_count);
 
-    if (fault(151) && count >= 0) {
+    if (fault(154) && count >= 0) {
         count = 0;
         for (size_t i = 0; i < candidate_count; i++) {
             if (__real_region_route_v4(g, route, sizeof route, location, REGION_KIND_BUNDLE, candidates[i], 0) >= 0
@@ -407,7 +419,7 @@ CALL(int64_t, region_service_event, const region_graph *g, uint32_t *out, size_t
     if (fault(24) && listener_count > 1 && not_installed(g, listeners[listener_count - 1])) {
         listener_count--;
     }
-    if (fault(152) && listener_count <= out_count
+    if (fault(155) && listener_count <= out_count
         && __real_region_service_event(g, own, REGION_LONGEST_IMAGE, listeners, listener_count, service) >= 0) {
         for (size_t i = 0; i < listener_count; i++) {
             if (one_before_sees(g, listeners[i], REGION_KIND_SERVICE, service)) {
@@ -544,7 +556,7 @@ static bool is_offered(const region_graph *g, const struct region_bundle *asker,
     if (!exports(g, exporter, package)) {
         return false;
     }
-    if (fault(154)) {
+    if (fault(157)) {
         return true;
     }
     if (fault(79)) {
@@ -769,7 +781,7 @@ CALL(int64_t, region_route_v4, const region_graph *g, uint8_t *out, size_t out_l
     if (fault(28) && count == -REGION_HIDDEN) {
         out[0] = 0;
     }
-    if (fault(153) && count == -REGION_HIDDEN) {
+    if (fault(156) && count == -REGION_HIDDEN) {
         return route_against(g, out, location, kind, item, version);
     }
     if (count == -REGION_NO_PLACE && is_room(out_length)) {
@@ -840,7 +852,7 @@ static uint8_t front_of(const uint8_t *bytes, size_t length)
     if (fault(74) && front == 4) {
         return 3;
     }
-    if (fault(149) && known) {
+    if (fault(152) && known) {
         return 4;
     }
     if (!known) {
@@ -956,12 +968,12 @@ static const uint8_t *taken(const uint8_t *bytes, size_t length)
 /* What a fault of the reader makes of the graph of a file of version 1 or 2. */
 static void change_older(region_graph *g)
 {
-    for (size_t i = 0; (fault(147) || fault(150)) && i < g->bundle_count; i++) {
+    for (size_t i = 0; (fault(150) || fault(153)) && i < g->bundle_count; i++) {
         for (size_t k = 0; k < g->bundles[i].packages.count; k++) {
-            g->bundles[i].packages.versions[k] = fault(147) ? REGION_HIGHEST_VERSION : 1;
+            g->bundles[i].packages.versions[k] = fault(150) ? REGION_HIGHEST_VERSION : 1;
         }
     }
-    for (size_t i = 0; fault(148) && i < g->connection_count; i++) {
+    for (size_t i = 0; fault(151) && i < g->connection_count; i++) {
         for (size_t k = 0; k < REGION_MOST_LISTED; k++) {
             g->connections[i].packages.highest[k] = 0;
         }
@@ -970,7 +982,7 @@ static void change_older(region_graph *g)
 
 static bool changes_older(const uint8_t *bytes, size_t length)
 {
-    return length > FRONT && bytes[0] < 3 && (fault(147) || fault(148) || fault(150));
+    return length > FRONT && bytes[0] < 3 && (fault(150) || fault(151) || fault(153));
 }
 
 /* The version that a fault of the writer puts in front. */
@@ -1098,14 +1110,14 @@ static void leave_out(void)
         for (size_t k = 0; k < current.bundles[i].packages.count; k++) {
             uint16_t *version = &current.bundles[i].packages.versions[k];
 
-            *version = (uint16_t)(fault(146) ? 0 : *version % (fault(137) ? 256 : 65536));
+            *version = (uint16_t)(fault(149) ? 0 : *version % (fault(137) ? 256 : 65536));
         }
     }
     for (size_t i = 0; i < current.connection_count; i++) {
         struct region_package_entries *part = &current.connections[i].packages;
 
         for (size_t k = 0; k < entry_count(part); k++) {
-            const bool both = fault(146) || (fault(140) && k + 1 == entry_count(part));
+            const bool both = fault(149) || (fault(140) && k + 1 == entry_count(part));
 
             part->lowest[k] = both || fault(138) ? 0 : part->lowest[k];
             part->highest[k] = both || fault(139) ? REGION_HIGHEST_VERSION : part->highest[k];
@@ -1184,7 +1196,7 @@ CALL(int64_t, archive_forward, const uint8_t *bytes, size_t length, uint8_t *out
     if (fault(134) && answer >= 0 && (size_t)answer < out_length) {
         out[answer] = 0;
     }
-    if (fault(145) && answer >= 0) {
+    if (fault(148) && answer >= 0) {
         narrow(out, (size_t)answer);
     }
     return answer;
@@ -1223,8 +1235,8 @@ CALL(int64_t, archive_back, const uint8_t *bytes, size_t length, uint8_t *out, s
     if (fault(133) && answer == -REGION_HAS_VERSIONS && out_length > 0) {
         out[0] = 1;
     }
-    if ((fault(143) || fault(144)) && answer >= 0) {
-        out[0] = fault(143) || out[FRONT] > 16 ? 2 : 1;
+    if ((fault(146) || fault(147)) && answer >= 0) {
+        out[0] = fault(146) || out[FRONT] > 16 ? 2 : 1;
     }
     return fault(135) && answer >= 0 ? answer + 1 : answer;
 }

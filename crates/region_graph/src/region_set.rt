@@ -8,74 +8,6 @@ ghost use Rattle.region_graph.specs.Size.{regions};
 ghost use Rattle.region_graph.specs.Sets;
 use crate::size::REGIONS;
 
-// The sets that hold one region.
-const SINGLETONS: [u64; REGIONS] = [
-    1,
-    2,
-    4,
-    8,
-    16,
-    32,
-    64,
-    128,
-    256,
-    512,
-    1024,
-    2048,
-    4096,
-    8192,
-    16384,
-    32768,
-    65536,
-    131072,
-    262144,
-    524288,
-    1048576,
-    2097152,
-    4194304,
-    8388608,
-    16777216,
-    33554432,
-    67108864,
-    134217728,
-    268435456,
-    536870912,
-    1073741824,
-    2147483648,
-    4294967296,
-    8589934592,
-    17179869184,
-    34359738368,
-    68719476736,
-    137438953472,
-    274877906944,
-    549755813888,
-    1099511627776,
-    2199023255552,
-    4398046511104,
-    8796093022208,
-    17592186044416,
-    35184372088832,
-    70368744177664,
-    140737488355328,
-    281474976710656,
-    562949953421312,
-    1125899906842624,
-    2251799813685248,
-    4503599627370496,
-    9007199254740992,
-    18014398509481984,
-    36028797018963968,
-    72057594037927936,
-    144115188075855872,
-    288230376151711744,
-    576460752303423488,
-    1152921504606846976,
-    2305843009213693952,
-    4611686018427387904,
-    9223372036854775808,
-];
-
 // Whether a number is a region's.
 pub fn is_region(number: u32) -> bool
     ensures { λ r. ⌜ r ≡ ltb number regions ⌝ }
@@ -83,18 +15,17 @@ pub fn is_region(number: u32) -> bool
     (number as usize) < REGIONS
 }
 
-// The set that holds one region; a number past the table gives the empty set.
+// The set that holds one region; a number that is no region's gives the empty set.
 pub fn singleton(region: u32) -> u64
     ensures { λ r. ⌜ r ≡ Sets.singleton region ⌝ }
 {
-    let at = region as usize;
-    if at < REGIONS {
-        return SINGLETONS[at];
+    if (region as usize) < REGIONS {
+        return 1u64 << region;
     }
     0
 }
 
-// Whether a region is in a set. Its digit is read by a shift: a constant table is built anew at each use.
+// Whether a region is in a set.
 pub fn has(set: u64, region: u32) -> bool
     ensures { λ r. ⌜ r ≡ Sets.has set region ⌝ }
 {

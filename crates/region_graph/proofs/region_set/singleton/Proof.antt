@@ -1,4 +1,4 @@
--- `region_set::singleton` meets its contract: 1, moved up by as many digits as the region's number says, keeps its digit. Assumes nothing.
+-- `region_set::singleton` meets its contract: 1, moved up by the region's number, stays within 64 digits. Assumes nothing.
 use mathlib.Core.Path.{sym, ap, _∙_}
 use Prim.Native.Nat.{ℕ, _%_, _^_, _<_}
 use native.Mathlib.Nat.{one-mul, mod-eq-of-lt}

@@ -194,7 +194,7 @@ static int64_t route(uint32_t location, uint32_t package)
 /* A query of a file for a package of version 0. */
 static int64_t query(const file *f, uint32_t location, uint32_t package)
 {
-    return archive_query_v4(f->bytes, f->length, location, REGION_KIND_PACKAGE, package, 0);
+    return region_archive_query(f->bytes, f->length, location, REGION_KIND_PACKAGE, package, 0);
 }
 
 /* clang-format off */
@@ -216,7 +216,7 @@ static uint32_t install(region_graph *to) {
 }
 static uint32_t disconnect(region_graph *to) { return region_disconnect(to, 7, 9); }
 static uint32_t connect_listed(region_graph *to) {
-    return region_connect_v4(to, 7, 9, listed, LISTED, false, listed, LISTED, lowest, LISTED, highest, LISTED, false, listed, LISTED);
+    return region_connect_v5(to, 7, 9, listed, LISTED, false, listed, LISTED, lowest, LISTED, highest, LISTED, false, listed, LISTED);
 }
 static uint32_t remove_region(region_graph *to) { return region_remove(to, 9); }
 static uint32_t add_region(region_graph *to) { return region_add(to, 9); }
@@ -228,8 +228,8 @@ static int64_t read_longest_3(void) { return region_read(&graph, longest_3.bytes
 static int64_t query_g(void) { return query(&g, 10, 1); }
 static int64_t query_longest(void) { return query(&longest, 1000, 600); }
 static int64_t query_longest_3(void) { return query(&longest_3, 1000, 600); }
-static int64_t forward_longest(void) { return archive_forward(longest.bytes, longest.length, new_image, sizeof new_image); }
-static int64_t back_longest(void) { return archive_back(longest_3.bytes, longest_3.length, new_image, sizeof new_image); }
+static int64_t forward_longest(void) { return region_archive_forward(longest.bytes, longest.length, new_image, sizeof new_image); }
+static int64_t back_longest(void) { return region_archive_back(longest_3.bytes, longest_3.length, new_image, sizeof new_image); }
 static int64_t name_g(void) { return name_in(g_names.bytes, g_names.length, REGION_KIND_REGION, 1); }
 static int64_t name_first(void) { return name_in(sheet, SHEET, REGION_KIND_BUNDLE, 0); }
 static int64_t name_last(void) { return name_in(sheet, SHEET, REGION_KIND_BUNDLE, ENTRIES - 1); }
@@ -260,7 +260,7 @@ static void connect_full(uint32_t source, uint32_t target, bool all)
 {
     const uint32_t *numbers = target == 15 ? listed_to_15 : listed;
     size_t count = all ? 0 : LISTED;
-    must(region_connect_v4(&graph, source, target, numbers, count, all, numbers, count, lowest, count, highest, count, all, numbers,
+    must(region_connect_v5(&graph, source, target, numbers, count, all, numbers, count, lowest, count, highest, count, all, numbers,
                            count)
              == 0,
          "connect");

@@ -62,6 +62,14 @@ provide_drawing() {
     drawing=$root/target/bin/drawing
 }
 
+# Makes tree, a copy of what ./wimboru uses with one file for all sources of the crates, and bin, a folder for an rt in place of the
+# kit's, both in work.
+copy_command() {
+    mkdir "$work/tree" "$work/tree/crates" "$work/bin"
+    cp -R "$root/wimboru" "$root/crates.txt" "$root/include" "$root/packaging" "$root/tools" "$work/tree"
+    : > "$work/tree/crates/source"
+}
+
 # USAGE NUMBER: ends with 2 unless a number is one from 1 on
 need_count() {
     case $2 in

@@ -1,7 +1,7 @@
 #!/bin/sh
-# Runs ./wimboru on the examples, with wrong usage, and at its builds. Without WIMBORU_LISTING, WIMBORU_DRAWING and WIMBORU_LIB it
-# builds them itself. Exit status 0 where every output and status is the expected one, 1 where one is not, 2 where something is
-# missing.
+# Runs ./wimboru on the examples, with wrong usage, at its builds, and to install. Without WIMBORU_LISTING, WIMBORU_DRAWING and
+# WIMBORU_LIB it builds them itself. Exit status 0 where every output and status is the expected one, 1 where one is not, 2 where
+# something is missing.
 set -eu
 root=$(cd "$(dirname "$0")/.." && pwd)
 # shellcheck source=tests/functions.sh
@@ -12,9 +12,7 @@ copy() {
     listing=${WIMBORU_LISTING:-$root/target/bin/listing}
     drawing=${WIMBORU_DRAWING:-$root/target/bin/drawing}
     library=${WIMBORU_LIB:-$root/target/staticlib/libregion_host.a}
-    mkdir "$work/tree" "$work/tree/crates" "$work/bin"
-    cp -R "$root/wimboru" "$root/crates.txt" "$root/include" "$root/tools" "$work/tree"
-    : > "$work/tree/crates/source"
+    copy_command
     cat > "$work/bin/rt" <<END
 #!/bin/sh
 echo "\$@" >> "$work/calls"
@@ -89,6 +87,25 @@ wrong_conversions() {
     same "files after wrong usage of $1" "$(ls -Al "$place")" "$before"
 }
 
+# Wrong usage of install, which makes no file and no folder: no prefix, more than one, an option, or what is no folder and cannot
+# become one.
+wrong_installs() {
+    clear_place
+    ln -s "$g" "$place/link"
+    ln -s none "$place/leads nowhere"
+    cp "$g" "$place/file"
+    before=$(ls -Al "$place")
+    cd "$place"
+    expect 2 '' install
+    expect 2 '' install ''
+    expect 2 '' install "$place/prefix" "$place/prefix"
+    for wrong in --help "--prefix=$place/prefix" - "$place/file" file "$place/file/prefix" file/a/b link 'leads nowhere'; do
+        expect 2 '' install "$wrong"
+    done
+    cd "$root"
+    same 'files after wrong usage of install' "$(ls -Al "$place")" "$before"
+}
+
 # Wrong usage, which is told before anything is built.
 usage() {
     expect 2 ''
@@ -139,6 +156,7 @@ usage() {
     expect 2 '' draw "$g" "$work/none"
     wrong_conversions forward
     wrong_conversions back
+    wrong_installs
     same 'builds by wrong usage' "$(calls)" ''
     "$work/tree/wimboru" --help > "$work/out" 2> "$work/err"
     same 'first line of the help' "$(head -n 1 "$work/out")" 'usage: wimboru list FILE [SHEET]'
@@ -152,6 +170,7 @@ use_all() {
         "$work/tree/wimboru" query "$g" 10 package 1
         "$work/tree/wimboru" draw "$g"
         "$work/tree/wimboru" forward "$g" "$work/forward"
+        "$work/tree/wimboru" install "$work/prefix"
     } > "$work/out" 2> "$work/err"
 }
 
@@ -170,12 +189,15 @@ what rt says'
     same 'builds of the first picture' "$(calls)" 'check drawing'
     same 'output of the first conversion' "$("$work/tree/wimboru" forward "$g" "$work/forward" 2> "$work/err")" ''
     same 'builds of the first conversion' "$(calls)" 'staticlib region_host'
+    same 'output of the first install' "$("$work/tree/wimboru" install "$work/prefix" 2> "$work/err")" ''
+    same 'builds of the first install' "$(calls)" 'staticlib region_host'
     expect 0 "$listing_g" list "$g"
     expect 0 seen query "$g" 10 package 1
     expect 0 deck name "$sheet" region 0
     expect 0 "$picture" draw "$g"
     expect 0 '' forward "$g" "$work/forward"
     expect 0 '' back "$work/forward" "$work/forward"
+    expect 0 '' install "$work/prefix"
     same 'builds of later uses' "$(calls)" ''
     touch "$work/tree/crates/source"
     use_all
@@ -235,9 +257,9 @@ queries() {
     expect 0 hidden query "$g" 10 2 4294967295
     expect 0 hidden query "$examples/longest.archive" 1000 1 16
     expect 0 seen query "$examples/longest.archive" 1000 1 8
-    expect 1 "refused 12: is the bundle installed?" query "$g" 11 1 1
-    expect 1 "refused 13: is the kind 0 to 2?" query "$g" 10 3 1
-    expect 1 "refused 13: is the kind 0 to 2?" query "$g" 10 4294967295 1
+    expect 1 "refused 12: $question_12" query "$g" 11 1 1
+    expect 1 "refused 13: $question_13" query "$g" 10 3 1
+    expect 1 "refused 13: $question_13" query "$g" 10 4294967295 1
     expect 1 "refused 15: $question_15" query "$examples/refused-15.archive" 10 1 1
     expect 1 "refused 16: $question_16" query "$examples/refused-16.archive" 10 1 1
     expect 1 "refused 17: $question_17" query "$examples/refused-17.archive" 10 1 1
@@ -246,7 +268,7 @@ queries() {
     expect 0 hidden query "$plates" 10 service 5
     expect 0 seen query "$plates" 20 service 5
     expect 0 seen query "$plates" 20 bundle 30
-    expect 1 "refused 12: is the bundle installed?" query "$plates" 63 1 1
+    expect 1 "refused 12: $question_12" query "$plates" 63 1 1
     expect 1 "refused 17: $question_17" query "$examples/refused-17-version.archive" 10 1 1
     expect 1 "refused 17: $question_17" query "$examples/refused-17-range.archive" 10 1 1
     expect 1 "refused 17: $question_17" query "$work/early" 10 1 1
@@ -271,7 +293,7 @@ versions() {
     expect 0 hidden query "$versions" 10 package 2
     expect 0 seen query "$versions" 20 package 2 3
     expect 0 hidden query "$versions" 20 package 2 65535
-    expect 1 "refused 12: is the bundle installed?" query "$versions" 11 package 1 7
+    expect 1 "refused 12: $question_12" query "$versions" 11 package 1 7
 }
 
 # Makes the folder for what conversions write an empty one.
@@ -608,6 +630,107 @@ names_of_files() {
     same 'files after conversions to names' "$(find . -type f)" ''
 }
 
+# The files that are installed, in order.
+files_of_install() {
+    {
+        echo ./lib/libwimboru.a
+        echo ./lib/pkgconfig/wimboru.pc
+        echo ./lib/cmake/Wimboru/WimboruConfig.cmake
+        echo ./lib/cmake/Wimboru/WimboruConfigVersion.cmake
+        (cd "$root" && find ./include -type f)
+    } | sort
+}
+
+# PREFIX: has what is installed and nothing else, whole, with the version of the interface in the place for it
+installed() {
+    same "files in $1" "$(cd "$1" && find . ! -type d | sort)" "$(files_of_install)"
+    same "library in $1" "$(compared "$1/lib/libwimboru.a" "$library")" same
+    for header in "$root"/include/*; do
+        same "${header##*/} in $1" "$(compared "$1/include/${header##*/}" "$header")" same
+    done
+    number=$(awk '$1 == "#define" && $2 == "WIMBORU_VERSION" { print $3 }' "$root/include/wimboru.h")
+    same "version for pkg-config in $1" "$(grep -c "^Version: $number\$" "$1/lib/pkgconfig/wimboru.pc")" 1
+    same "version for CMake in $1" "$(grep -c "VERSION $number)" "$1/lib/cmake/Wimboru/WimboruConfigVersion.cmake")" 1
+    same "places for a version in $1" "$(grep -r @ "$1/lib/pkgconfig" "$1/lib/cmake")" ''
+}
+
+# Into folders that are there or not, of any name, from another folder, and over an earlier install; other files stay.
+installs() {
+    clear_place
+    cd "$place"
+    mkdir there
+    for prefix in 'a folder' there new/folder './-folder' "$place/from the root/" "$place/*"; do
+        expect 0 '' install "$prefix"
+        installed "$prefix"
+    done
+    cd 'a folder'
+    # shellcheck disable=SC2016
+    find . -type f -exec sh -c 'echo old > "$1"' sh {} \;
+    rm lib/pkgconfig/wimboru.pc
+    ln -s ../libwimboru.a lib/pkgconfig/wimboru.pc
+    expect 0 '' install .
+    installed "$place/a folder"
+    echo kept > include/other.h
+    expect 0 '' install "$place/a folder"
+    same 'another file after an install' "$(cat include/other.h)" kept
+    cd "$root"
+    mask=$(umask)
+    umask 027
+    expect 0 '' install "$place/mask"
+    umask "$mask"
+    same 'permissions of files by the umask' "$(find "$place/mask" -type f ! -perm 640)" ''
+    same 'permissions of folders by the umask' "$(find "$place/mask" -type d ! -perm 750)" ''
+}
+
+# WORDS SCRIPT: a script that runs ./wimboru, $1, with a folder, $2, and a folder of programs, $3: the install fails, is told, makes
+# no file, and leaves those that are there
+fails_to_install() {
+    before=$(find "$place" ! -type d -exec ls -dli {} +)
+    got=0
+    sh -c "$2" sh "$work/tree/wimboru" "$place" "$work/killing" > "$work/out" 2> "$work/err" || got=$?
+    same "status of an install $1" "$got" 3
+    same "output of an install $1" "$(cat "$work/out")" ''
+    same "message of an install $1" "$(tail -n 1 "$work/err" | cut -d ' ' -f 1)" wimboru:
+    same "files after an install $1" "$(find "$place" ! -type d -exec ls -dli {} +)" "$before"
+}
+
+# What cannot be written. The library and the headers have more than 8 blocks, and what is written before them has fewer.
+# shellcheck disable=SC2016
+unwritten_installs() {
+    clear_place
+    fails_to_install 'that has longer files than may be' 'ulimit -f 8 && exec "$1" install "$2/new"'
+    expect 0 '' install "$place/prefix"
+    fails_to_install 'over another that has longer files than may be' 'ulimit -f 8 && exec "$1" install "$2/prefix"'
+    mkdir -p "$place/taken/lib/libwimboru.a" "$place/blocked" "$place/closed"
+    fails_to_install 'where a folder has the name of a file' 'exec "$1" install "$2/taken"'
+    : > "$place/blocked/lib"
+    fails_to_install 'where a file has the name of a folder' 'exec "$1" install "$2/blocked"'
+    chmod a-w "$place/closed"
+    [ -w "$place/closed" ] || fails_to_install 'to a folder that cannot be written' 'exec "$1" install "$2/closed"'
+    got=0
+    sh -c 'echo kept > "$2/prefix/lib/libwimboru.a.$$"; exec "$1" install "$2/prefix"' sh "$work/tree/wimboru" "$place" \
+        2> "$work/err" || got=$?
+    same 'status of an install where a file has the name of a new file' "$got" 3
+    same 'a file with the name of a new file' "$(cat "$place"/prefix/lib/libwimboru.a.*)" kept
+}
+
+# What stops on the way: a signal, or a source that is missing.
+# shellcheck disable=SC2016
+stopped_installs() {
+    clear_place
+    expect 0 '' install "$place/prefix"
+    mkdir "$work/killing"
+    printf '#!/bin/sh\nkill -TERM "$PPID"\n' > "$work/killing/cat"
+    chmod +x "$work/killing/cat"
+    fails_to_install 'that gets a signal' 'PATH=$3:$PATH exec "$1" install "$2/prefix"'
+    mv "$work/tree/include/wimboru.h" "$work/tree/include/other.h"
+    fails_to_install 'without the header' 'exec "$1" install "$2/prefix"'
+    mv "$work/tree/include/other.h" "$work/tree/include/wimboru.h"
+    mv "$work/tree/packaging" "$work/packaging"
+    fails_to_install 'without what pkg-config and CMake read' 'exec "$1" install "$2/prefix"'
+    mv "$work/packaging" "$work/tree/packaging"
+}
+
 examples=$root/examples
 g=$examples/g.archive
 plates=$examples/plates.archive
@@ -628,15 +751,17 @@ broken="$work/broken sheet"
 picture='digraph {
 "sheet: none"
 }'
-builds_of_all='check listing,staticlib region_host,staticlib region_host,check drawing,staticlib region_host'
-question_15='are there at least 5 bytes, the first being 1, 2 or 3?'
-question_15_forward='are there at least 5 bytes, the first being 1 or 2?'
-question_15_back='are there at least 5 bytes, the first being 3?'
-question_16='does the length field equal the count of bytes after it?'
-question_17='are those bytes the layout of an archive, to the end?'
-question_18='does the sheet keep its layout?'
-question_19='does an entry have the kind and number?'
-question_21='has every package version 0, and does every package entry run from 0 to 65535?'
+builds_of_all='check listing,staticlib region_host,staticlib region_host,check drawing,staticlib region_host,staticlib region_host'
+question_12=$(tools/words --question 12)
+question_13=$(tools/words --question 13)
+question_15=$(tools/words --question 15 '1, 2 or 3')
+question_15_forward=$(tools/words --question 15 '1 or 2')
+question_15_back=$(tools/words --question 15 3)
+question_16=$(tools/words --question 16)
+question_17=$(tools/words --question 17)
+question_18=$(tools/words --question 18)
+question_19=$(tools/words --question 19)
+question_21=$(tools/words --question 21)
 need "${CC:-cc}" 'Debian: gcc'
 make_sheets
 make_archives
@@ -648,6 +773,8 @@ if [ -z "$WIMBORU_LISTING" ] || [ -z "$WIMBORU_DRAWING" ] || [ -z "$WIMBORU_LIB"
     same 'picture, built here' "$("$root/wimboru" draw "$g" | head -n 1)" 'digraph regions {'
     same 'conversion, built here' "$("$root/wimboru" forward "$g" "$work/forward")" ''
     same 'bytes of a conversion, built here' "$(compared "$work/forward" "$examples/g-version-3.archive")" same
+    same 'install, built here' "$("$root/wimboru" install "$work/built")" ''
+    same 'library of an install, built here' "$(compared "$work/built/lib/libwimboru.a" target/staticlib/libregion_host.a)" same
 fi
 copy
 usage
@@ -667,4 +794,7 @@ failed_conversions
 new_files
 files
 names_of_files
+installs
+unwritten_installs
+stopped_installs
 end_checks

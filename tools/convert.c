@@ -33,9 +33,9 @@ typedef int64_t conversion(const uint8_t *, size_t, uint8_t *, size_t);
 static conversion *named(const char *name)
 {
     if (strcmp(name, "forward") == 0) {
-        return archive_forward;
+        return region_archive_forward;
     }
-    return strcmp(name, "back") == 0 ? archive_back : NULL;
+    return strcmp(name, "back") == 0 ? region_archive_back : NULL;
 }
 
 /* Makes a file in the folder of another one, under a name that no file there has. The path has NAME_BYTES more than the other. */

@@ -26,8 +26,8 @@ int main(int argc, char **argv)
     struct input input;
     bool whole = read_all(&input, stdin);
     if (whole) {
-        print(archive_query_v4(input.bytes, input.length, number(argv[1]), number(argv[2]), number(argv[3]),
-                               (uint16_t)number(argv[4])));
+        print(region_archive_query(input.bytes, input.length, number(argv[1]), number(argv[2]), number(argv[3]),
+                                   (uint16_t)number(argv[4])));
     } else {
         fprintf(stderr, "query: standard input could not be read\n");
     }

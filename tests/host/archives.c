@@ -46,8 +46,8 @@ static void forward(struct image file, size_t length, size_t written)
 static void refused(uint32_t number, const uint8_t *bytes, size_t length)
 {
     UNCHANGED(number, region_read(graph, bytes, length));
-    UNCHANGED(number, archive_query_v4(bytes, length, 10, REGION_KIND_BUNDLE, 10, 0));
-    UNCHANGED(number, archive_query_v4(bytes, length, 11, 3, 10, 7));
+    UNCHANGED(number, region_archive_query(bytes, length, 10, REGION_KIND_BUNDLE, 10, 0));
+    UNCHANGED(number, region_archive_query(bytes, length, 11, 3, 10, 7));
 }
 
 static void refused_file(uint32_t number, const char *name)
@@ -254,9 +254,9 @@ static void query(struct image file, const struct asked *asked, size_t count)
     for (size_t i = 0; i < 2 * count; i++) {
         const struct image *f = &files[i / count];
         const struct asked a = asked[i % count];
-        CHECK(archive_query_v4(f->bytes, f->length, a.location, a.kind, a.item, 0) == a.answer);
-        CHECK(archive_query_v4(f->bytes, f->length, a.location, a.kind, a.item, 1) == versioned(a));
-        CHECK(archive_query_v4(f->bytes, f->length, a.location, a.kind, a.item, UINT16_MAX) == versioned(a));
+        CHECK(region_archive_query(f->bytes, f->length, a.location, a.kind, a.item, 0) == a.answer);
+        CHECK(region_archive_query(f->bytes, f->length, a.location, a.kind, a.item, 1) == versioned(a));
+        CHECK(region_archive_query(f->bytes, f->length, a.location, a.kind, a.item, UINT16_MAX) == versioned(a));
     }
 }
 
@@ -294,12 +294,12 @@ static void query_plates(void)
 /* The longest file of a version: its bundles and connections are those of the others, with other region numbers. */
 static void query_longest(struct image longest)
 {
-    CHECK(archive_query_v4(longest.bytes, longest.length, 1000, REGION_KIND_PACKAGE, 8, 0) == REGION_SEEN);
-    CHECK(archive_query_v4(longest.bytes, longest.length, 1000, REGION_KIND_PACKAGE, 16, 0) == REGION_HIDDEN);
-    CHECK(archive_query_v4(longest.bytes, longest.length, 1000, REGION_KIND_BUNDLE, 1015, 0) == REGION_SEEN);
-    CHECK(archive_query_v4(longest.bytes, longest.length, 1000, REGION_KIND_BUNDLE, 1017, 0) == REGION_HIDDEN);
-    CHECK(archive_query_v4(longest.bytes, longest.length, 1063, REGION_KIND_BUNDLE, 1063, 0) == REGION_SEEN);
-    CHECK(archive_query_v4(longest.bytes, longest.length, 1064, REGION_KIND_BUNDLE, 1063, 0) == REGION_NOT_INSTALLED);
+    CHECK(region_archive_query(longest.bytes, longest.length, 1000, REGION_KIND_PACKAGE, 8, 0) == REGION_SEEN);
+    CHECK(region_archive_query(longest.bytes, longest.length, 1000, REGION_KIND_PACKAGE, 16, 0) == REGION_HIDDEN);
+    CHECK(region_archive_query(longest.bytes, longest.length, 1000, REGION_KIND_BUNDLE, 1015, 0) == REGION_SEEN);
+    CHECK(region_archive_query(longest.bytes, longest.length, 1000, REGION_KIND_BUNDLE, 1017, 0) == REGION_HIDDEN);
+    CHECK(region_archive_query(longest.bytes, longest.length, 1063, REGION_KIND_BUNDLE, 1063, 0) == REGION_SEEN);
+    CHECK(region_archive_query(longest.bytes, longest.length, 1064, REGION_KIND_BUNDLE, 1063, 0) == REGION_NOT_INSTALLED);
 }
 
 static void query_versions(void)
@@ -326,21 +326,21 @@ static void query_versions(void)
     };
     struct image file = load("versions.archive");
     for (size_t i = 0; i < sizeof asked / sizeof asked[0]; i++) {
-        CHECK(archive_query_v4(file.bytes, file.length, asked[i].location, REGION_KIND_PACKAGE, asked[i].item, asked[i].version)
+        CHECK(region_archive_query(file.bytes, file.length, asked[i].location, REGION_KIND_PACKAGE, asked[i].item, asked[i].version)
               == asked[i].answer);
     }
-    CHECK(archive_query_v4(file.bytes, file.length, 20, REGION_KIND_BUNDLE, 30, 9) == REGION_SEEN);
-    CHECK(archive_query_v4(file.bytes, file.length, 10, REGION_KIND_SERVICE, 5, 9) == REGION_SEEN);
-    CHECK(archive_query_v4(file.bytes, file.length, 10, 3, 5, 9) == REGION_NOT_A_KIND);
+    CHECK(region_archive_query(file.bytes, file.length, 20, REGION_KIND_BUNDLE, 30, 9) == REGION_SEEN);
+    CHECK(region_archive_query(file.bytes, file.length, 10, REGION_KIND_SERVICE, 5, 9) == REGION_SEEN);
+    CHECK(region_archive_query(file.bytes, file.length, 10, 3, 5, 9) == REGION_NOT_A_KIND);
 }
 
 static void query_others(void)
 {
     struct image cyclic = load("cyclic.archive");
-    CHECK(archive_query_v4(cyclic.bytes, cyclic.length, 10, REGION_KIND_SERVICE, 77, 0) == REGION_HIDDEN);
-    CHECK(archive_query_v4(cyclic.bytes, cyclic.length, 20, REGION_KIND_BUNDLE, 20, 0) == REGION_SEEN);
+    CHECK(region_archive_query(cyclic.bytes, cyclic.length, 10, REGION_KIND_SERVICE, 77, 0) == REGION_HIDDEN);
+    CHECK(region_archive_query(cyclic.bytes, cyclic.length, 20, REGION_KIND_BUNDLE, 20, 0) == REGION_SEEN);
     struct image empty = load("empty.archive");
-    CHECK(archive_query_v4(empty.bytes, empty.length, 10, REGION_KIND_BUNDLE, 10, 0) == REGION_NOT_INSTALLED);
+    CHECK(region_archive_query(empty.bytes, empty.length, 10, REGION_KIND_BUNDLE, 10, 0) == REGION_NOT_INSTALLED);
 }
 
 /* An archive query says what the route call says of the record that the file is read into. */
@@ -350,7 +350,7 @@ static void query_as_routes_of(struct image file, uint16_t version)
         for (uint32_t kind = 0; kind <= 3; kind++) {
             for (uint32_t item = 0; item <= 30; item++) {
                 int64_t answer = region_route_v4(graph, lent.bytes, REGION_ROUTE_BYTES, location, kind, item, version);
-                int64_t asked = archive_query_v4(file.bytes, file.length, location, kind, item, version);
+                int64_t asked = region_archive_query(file.bytes, file.length, location, kind, item, version);
                 CHECK(asked == (answer < 0 ? -answer : REGION_SEEN));
             }
         }

@@ -13,9 +13,9 @@ static void order_of_calls(void)
     ACCEPTED(region_add(graph, 2));
     ACCEPTED(region_install_v4(graph, 2, 30, PACKAGES(1, 2, 3), NONE));
     ACCEPTED(region_add(graph, 1));
-    ACCEPTED(region_connect_v4(graph, 1, 2, NONE, false, ENTRIES(1, 3), false, NONE));
+    ACCEPTED(region_connect_v5(graph, 1, 2, NONE, false, ENTRIES(1, 3), false, NONE));
     ACCEPTED(region_add(graph, 0));
-    ACCEPTED(region_connect_v4(graph, 0, 1, NONE, false, ENTRIES(1, 2), false, NONE));
+    ACCEPTED(region_connect_v5(graph, 0, 1, NONE, false, ENTRIES(1, 2), false, NONE));
     ACCEPTED(region_install_v4(graph, 1, 20, PACKAGES(1), NONE));
     ACCEPTED(region_install_v4(graph, 0, 10, NO_PACKAGES, NONE));
     CHECK(same_image(image_of(graph), load("g-version-3.archive")));
@@ -48,7 +48,7 @@ static void put_back(void)
     ACCEPTED(region_install_v4(graph, 1, 20, PACKAGES(1), NONE));
     ACCEPTED(region_disconnect(graph, 0, 1));
     UNCHANGED(REGION_NOT_CONNECTED, region_disconnect(graph, 0, 1));
-    ACCEPTED(region_connect_v4(graph, 0, 1, NONE, false, ENTRIES(1, 2), false, NONE));
+    ACCEPTED(region_connect_v5(graph, 0, 1, NONE, false, ENTRIES(1, 2), false, NONE));
     CHECK(same_image(image_of(graph), load("g-version-3.archive")));
 }
 
@@ -59,11 +59,11 @@ static void all_of_a_kind(void)
     static region_graph other;
     regions(0, 2);
     other = *graph;
-    ACCEPTED(region_connect_v4(graph, 0, 1, NONE, true, descending, REGION_MOST_LISTED + 1, zeros, REGION_MOST_LISTED + 1, tops,
+    ACCEPTED(region_connect_v5(graph, 0, 1, NONE, true, descending, REGION_MOST_LISTED + 1, zeros, REGION_MOST_LISTED + 1, tops,
                                REGION_MOST_LISTED + 1, false, LIST(5)));
-    ACCEPTED(region_connect_v4(graph, 1, 0, NONE, false, ENTRIES(5), true, descending, REGION_MOST_LISTED + 1));
-    CHECK(region_connect_v4(&other, 0, 1, NONE, true, NO_ENTRIES, false, LIST(5)) == REGION_NOT_REFUSED);
-    CHECK(region_connect_v4(&other, 1, 0, NONE, false, ENTRIES(5), true, NONE) == REGION_NOT_REFUSED);
+    ACCEPTED(region_connect_v5(graph, 1, 0, NONE, false, ENTRIES(5), true, descending, REGION_MOST_LISTED + 1));
+    CHECK(region_connect_v5(&other, 0, 1, NONE, true, NO_ENTRIES, false, LIST(5)) == REGION_NOT_REFUSED);
+    CHECK(region_connect_v5(&other, 1, 0, NONE, false, ENTRIES(5), true, NONE) == REGION_NOT_REFUSED);
     CHECK(same_graph(graph, &other));
     ACCEPTED(region_install_v4(graph, 0, 10, NO_PACKAGES, NONE));
     ACCEPTED(region_install_v4(graph, 1, 20, PACKAGES(5, 6), LIST(5, 6)));
@@ -82,7 +82,7 @@ static void longest_lists(void)
     ACCEPTED(region_install_v4(graph, 0, UINT32_MAX, listed, REGION_MOST_PROVIDED, zeros, REGION_MOST_PROVIDED, listed,
                                REGION_MOST_PROVIDED));
     ACCEPTED(region_install_v4(graph, 1, 0, PACKAGES(UINT32_MAX), LIST(UINT32_MAX)));
-    ACCEPTED(region_connect_v4(graph, 0, 1, listed, REGION_MOST_LISTED, false, listed, REGION_MOST_LISTED, zeros,
+    ACCEPTED(region_connect_v5(graph, 0, 1, listed, REGION_MOST_LISTED, false, listed, REGION_MOST_LISTED, zeros,
                                REGION_MOST_LISTED, tops, REGION_MOST_LISTED, false, listed, REGION_MOST_LISTED));
     KEEPS(region_bundle_find(graph, lent.places, PLACES, UINT32_MAX, LIST(UINT32_MAX, 0, 1)), UINT32_MAX, 0);
     OFFERS(UINT32_MAX, {0, UINT32_MAX, true}, {UINT32_MAX, 7, true}, {UINT32_MAX, 8, false}, {UINT32_MAX, UINT32_MAX, false});
@@ -94,7 +94,7 @@ static void case_g9(void)
 {
     regions(1, 3);
     ACCEPTED(region_install_v4(graph, 1, 20, NO_PACKAGES, NONE));
-    ACCEPTED(region_connect_v4(graph, 1, 2, LIST(20), false, NO_ENTRIES, false, NONE));
+    ACCEPTED(region_connect_v5(graph, 1, 2, LIST(20), false, NO_ENTRIES, false, NONE));
     ACCEPTED(region_uninstall(graph, 20));
     UNCHANGED(10, region_install_v4(graph, 1, 20, NO_PACKAGES, NONE));
     ACCEPTED(region_install_v4(graph, 2, 20, NO_PACKAGES, NONE));

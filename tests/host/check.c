@@ -15,8 +15,8 @@ static unsigned long failed;
 
 /* No bytes between the parts: every byte that is lent is in a part, and is compared. */
 static_assert(sizeof(struct lent)
-                  == 7 * GUARD + sizeof(region_graph) + 2 * PLACES * sizeof(uint32_t) + PLACES * sizeof(uint16_t) + BYTES
-                         + sizeof(size_t),
+                  == 9 * GUARD + sizeof(region_graph) + sizeof(region_bundle) + sizeof(region_connection)
+                         + 2 * PLACES * sizeof(uint32_t) + PLACES * sizeof(uint16_t) + BYTES + sizeof(size_t),
               "parts with gaps");
 
 void set_pattern(uint8_t byte)
@@ -41,6 +41,8 @@ void expect_same(void)
     memset(lent.versions, pattern, sizeof lent.versions);
     memset(lent.bytes, pattern, sizeof lent.bytes);
     memset(&lent.start, pattern, sizeof lent.start);
+    memset(&lent.bundle, pattern, sizeof lent.bundle);
+    memset(&lent.connection, pattern, sizeof lent.connection);
     memcpy(&expected, &lent, sizeof lent);
 }
 
@@ -67,6 +69,16 @@ void expect_bytes(const uint8_t *bytes, size_t count)
 void expect_start(size_t start)
 {
     expected.start = start;
+}
+
+void expect_bundle(const region_bundle *bundle)
+{
+    memcpy(&expected.bundle, bundle, sizeof *bundle);
+}
+
+void expect_connection(const region_connection *connection)
+{
+    memcpy(&expected.connection, connection, sizeof *connection);
 }
 
 void expect_record(void)

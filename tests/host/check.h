@@ -29,6 +29,10 @@ struct lent {
     uint8_t bytes[BYTES];
     uint8_t beyond[GUARD];
     size_t start;
+    uint8_t beside_bundle[GUARD];
+    region_bundle bundle;
+    uint8_t beside_connection[GUARD];
+    region_connection connection;
     uint8_t after[GUARD];
 };
 
@@ -47,14 +51,16 @@ void lend(void);
 /* What lend fills with. It comes before all else, and makes the lists of versions. */
 void set_pattern(uint8_t byte);
 
-/* Fills the buffers and the start with the pattern, then says what is to be lent after a call: what is lent now, but for numbers or
-   bytes at the start of a buffer, or the start of a name. */
+/* Fills the buffers, the structs and the start with the pattern, then says what is to be lent after a call: what is lent now, but for
+   numbers or bytes at the start of a buffer, the start of a name, or a struct. */
 void expect_same(void);
 void expect_numbers(const uint32_t *numbers, size_t count);
 void expect_others(const uint32_t *numbers, size_t count);
 void expect_versions(const uint16_t *versions, size_t count);
 void expect_bytes(const uint8_t *bytes, size_t count);
 void expect_start(size_t start);
+void expect_bundle(const region_bundle *bundle);
+void expect_connection(const region_connection *connection);
 
 /* Counts a check; prints its place and text where it does not hold. */
 void check(bool holds, const char *file, int line, const char *text);

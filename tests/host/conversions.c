@@ -63,10 +63,10 @@ static region_graph record_of(struct image file)
 /* Both calls, one after the other, give the first bytes. All files are read into equal records, whose image is of version 3. */
 static void there_and_back(struct image older, struct image latest)
 {
-    const struct image forth = by(archive_forward, older);
-    const struct image back = by(archive_back, latest);
-    CHECK(same_image(by(archive_back, forth), older));
-    CHECK(same_image(by(archive_forward, back), latest));
+    const struct image forth = by(region_archive_forward, older);
+    const struct image back = by(region_archive_back, latest);
+    CHECK(same_image(by(region_archive_back, forth), older));
+    CHECK(same_image(by(region_archive_forward, back), latest));
     const region_graph record = record_of(older);
     const region_graph record_forth = record_of(forth);
     const region_graph record_back = record_of(back);
@@ -80,10 +80,10 @@ static void both_ways(struct image older, struct image latest)
 {
     build_g();
     CHECK((older.bytes[0] == 1 || older.bytes[0] == 2) && latest.bytes[0] == 3);
-    converted(archive_forward, older, latest);
-    converted(archive_back, latest, older);
-    refused(archive_forward, REGION_NOT_AN_ARCHIVE, latest);
-    refused(archive_back, REGION_NOT_AN_ARCHIVE, older);
+    converted(region_archive_forward, older, latest);
+    converted(region_archive_back, latest, older);
+    refused(region_archive_forward, REGION_NOT_AN_ARCHIVE, latest);
+    refused(region_archive_back, REGION_NOT_AN_ARCHIVE, older);
     there_and_back(older, latest);
 }
 
@@ -137,13 +137,13 @@ static void regions_both_ways(void)
         numbers[region] = region;
         both_ways(regions_alone(version, &region, 1), regions_alone(3, &region, 1));
         both_ways(regions_alone(version, numbers, region + 1U), regions_alone(3, numbers, region + 1U));
-        refused(archive_forward, REGION_BROKEN_LAYOUT, regions_alone(3 - version, &region, 1));
-        refused(archive_forward, REGION_BROKEN_LAYOUT, regions_alone(3 - version, numbers, region + 1U));
+        refused(region_archive_forward, REGION_BROKEN_LAYOUT, regions_alone(3 - version, &region, 1));
+        refused(region_archive_forward, REGION_BROKEN_LAYOUT, regions_alone(3 - version, numbers, region + 1U));
     }
     numbers[REGION_REGIONS] = REGION_REGIONS;
-    refused(archive_forward, REGION_BROKEN_LAYOUT, regions_alone(2, numbers, 0));
-    refused(archive_forward, REGION_BROKEN_LAYOUT, regions_alone(2, numbers, sizeof numbers));
-    refused(archive_back, REGION_BROKEN_LAYOUT, regions_alone(3, numbers, sizeof numbers));
+    refused(region_archive_forward, REGION_BROKEN_LAYOUT, regions_alone(2, numbers, 0));
+    refused(region_archive_forward, REGION_BROKEN_LAYOUT, regions_alone(2, numbers, sizeof numbers));
+    refused(region_archive_back, REGION_BROKEN_LAYOUT, regions_alone(3, numbers, sizeof numbers));
 }
 
 /* A walk through a file of version 3: its place, and the places of the versions before it. */
@@ -194,7 +194,7 @@ static void changed_version(struct image file, size_t place)
     for (size_t i = 0; i < sizeof changes / sizeof changes[0]; i++) {
         file.bytes[place] = version[0] ^ changes[i][0];
         file.bytes[place + 1] = version[1] ^ changes[i][1];
-        refused(archive_back, REGION_HAS_VERSIONS, file);
+        refused(region_archive_back, REGION_HAS_VERSIONS, file);
         ACCEPTED(region_read(graph, file.bytes, file.length));
     }
 }
@@ -214,11 +214,11 @@ static size_t changed_versions(struct image file)
 static void with_versions(void)
 {
     build_g();
-    refused(archive_back, REGION_HAS_VERSIONS, load("versions.archive"));
+    refused(region_archive_back, REGION_HAS_VERSIONS, load("versions.archive"));
     CHECK(changed_versions(load("g-version-3.archive")) == 12);
     CHECK(changed_versions(as_version_3(load("plates.archive"))) == 11);
     CHECK(changed_versions(longest_image()) == MOST_VERSIONS);
-    refused(archive_back, REGION_HAS_VERSIONS,
+    refused(region_archive_back, REGION_HAS_VERSIONS,
             BYTES_OF(3, 0, 0, 0, 27, 2, 0, 1, 1, 0, 13, 0, 0, 0, 5, 1, 1, 0, 0, 0, 9, 0, 1, 0, 1, 0, 5, 0, 1, 0, 255, 0));
 }
 
@@ -230,10 +230,10 @@ static void other_versions(void)
     for (unsigned version = 0; version <= UINT8_MAX; version++) {
         older.bytes[0] = latest.bytes[0] = (uint8_t)version;
         if (version != 1 && version != 2) {
-            refused(archive_forward, REGION_NOT_AN_ARCHIVE, older);
+            refused(region_archive_forward, REGION_NOT_AN_ARCHIVE, older);
         }
         if (version != 3) {
-            refused(archive_back, REGION_NOT_AN_ARCHIVE, latest);
+            refused(region_archive_back, REGION_NOT_AN_ARCHIVE, latest);
         }
     }
 }
@@ -270,10 +270,10 @@ static void order_of_questions(void)
     static const uint8_t not_latest[] = {0, 1, 2, 4, UINT8_MAX};
     build_g();
     for (size_t i = 0; i < sizeof not_older; i++) {
-        sets_of_faults(archive_forward, load("g.archive"), 2, not_older[i]);
+        sets_of_faults(region_archive_forward, load("g.archive"), 2, not_older[i]);
     }
     for (size_t i = 0; i < sizeof not_latest; i++) {
-        sets_of_faults(archive_back, load("g-version-3.archive"), 3, not_latest[i]);
+        sets_of_faults(region_archive_back, load("g-version-3.archive"), 3, not_latest[i]);
     }
 }
 
@@ -285,31 +285,31 @@ static void other_layouts(void)
     struct image latest = load("g-version-3.archive");
     build_g();
     g.bytes[0] = 2;
-    refused(archive_forward, REGION_BROKEN_LAYOUT, g);
+    refused(region_archive_forward, REGION_BROKEN_LAYOUT, g);
     g.bytes[0] = 3;
-    refused(archive_back, REGION_BROKEN_LAYOUT, g);
+    refused(region_archive_back, REGION_BROKEN_LAYOUT, g);
     plates.bytes[0] = 1;
-    refused(archive_forward, REGION_BROKEN_LAYOUT, plates);
+    refused(region_archive_forward, REGION_BROKEN_LAYOUT, plates);
     plates.bytes[0] = 3;
-    refused(archive_back, REGION_BROKEN_LAYOUT, plates);
+    refused(region_archive_back, REGION_BROKEN_LAYOUT, plates);
     for (uint8_t version = 1; version <= 2; version++) {
         latest.bytes[0] = version;
-        refused(archive_forward, REGION_BROKEN_LAYOUT, latest);
+        refused(region_archive_forward, REGION_BROKEN_LAYOUT, latest);
     }
 }
 
 static void refused_files(void)
 {
-    refused(archive_forward, REGION_NOT_AN_ARCHIVE, load("refused-15.archive"));
-    refused(archive_forward, REGION_WRONG_LENGTH, load("refused-16.archive"));
-    refused(archive_forward, REGION_BROKEN_LAYOUT, load("refused-17.archive"));
-    refused(archive_forward, REGION_BROKEN_LAYOUT, load("refused-17-version.archive"));
-    refused(archive_forward, REGION_NOT_AN_ARCHIVE, load("refused-17-range.archive"));
-    refused(archive_back, REGION_NOT_AN_ARCHIVE, load("refused-15.archive"));
-    refused(archive_back, REGION_NOT_AN_ARCHIVE, load("refused-16.archive"));
-    refused(archive_back, REGION_NOT_AN_ARCHIVE, load("refused-17.archive"));
-    refused(archive_back, REGION_NOT_AN_ARCHIVE, load("refused-17-version.archive"));
-    refused(archive_back, REGION_BROKEN_LAYOUT, load("refused-17-range.archive"));
+    refused(region_archive_forward, REGION_NOT_AN_ARCHIVE, load("refused-15.archive"));
+    refused(region_archive_forward, REGION_WRONG_LENGTH, load("refused-16.archive"));
+    refused(region_archive_forward, REGION_BROKEN_LAYOUT, load("refused-17.archive"));
+    refused(region_archive_forward, REGION_BROKEN_LAYOUT, load("refused-17-version.archive"));
+    refused(region_archive_forward, REGION_NOT_AN_ARCHIVE, load("refused-17-range.archive"));
+    refused(region_archive_back, REGION_NOT_AN_ARCHIVE, load("refused-15.archive"));
+    refused(region_archive_back, REGION_NOT_AN_ARCHIVE, load("refused-16.archive"));
+    refused(region_archive_back, REGION_NOT_AN_ARCHIVE, load("refused-17.archive"));
+    refused(region_archive_back, REGION_NOT_AN_ARCHIVE, load("refused-17-version.archive"));
+    refused(region_archive_back, REGION_BROKEN_LAYOUT, load("refused-17-range.archive"));
 }
 
 /* Every beginning of a file, also with the length that goes with it, and the file with a byte behind it; and no bytes, which may be
@@ -371,8 +371,8 @@ static void at_edges(uint8_t *in, uint8_t *out, conversion_call *call, struct im
 static void both_at_edges(uint8_t *in, uint8_t *out, struct image older)
 {
     const struct image latest = as_version_3(older);
-    at_edges(in, out, archive_forward, older, &latest);
-    at_edges(in, out, archive_back, latest, &older);
+    at_edges(in, out, region_archive_forward, older, &latest);
+    at_edges(in, out, region_archive_back, latest, &older);
 }
 
 static void edges(void)
@@ -415,10 +415,10 @@ void test_conversions(void)
     order_of_questions();
     other_layouts();
     refused_files();
-    beginnings(archive_forward, load("g.archive"));
-    beginnings(archive_forward, load("plates.archive"));
-    beginnings(archive_back, load("g-version-3.archive"));
-    beginnings(archive_back, load("versions.archive"));
+    beginnings(region_archive_forward, load("g.archive"));
+    beginnings(region_archive_forward, load("plates.archive"));
+    beginnings(region_archive_back, load("g-version-3.archive"));
+    beginnings(region_archive_back, load("versions.archive"));
     edges();
     generated();
 }

@@ -13,7 +13,7 @@ static void changes_at(uint8_t *a, uint8_t *b)
     put_g(record);
     const uint32_t *two = numbers_at(b, LIST(1, 2));
     CHECK(region_install_v4(record, 0, 40, two, 2, zeros, 2, two, 2) == REGION_NOT_REFUSED);
-    CHECK(region_connect_v4(record, 2, 0, two, 2, false, two, 2, zeros, 2, tops, 2, false, two, 2) == REGION_NOT_REFUSED);
+    CHECK(region_connect_v5(record, 2, 0, two, 2, false, two, 2, zeros, 2, tops, 2, false, two, 2) == REGION_NOT_REFUSED);
     const uint32_t *wrong = numbers_at(b, LIST(1, 2, 2));
     CHECK(region_install_v4(record, 0, 41, wrong, 3, zeros, 3, wrong, 3) == REGION_LIST_OUT_OF_ORDER);
     CHECK(region_disconnect(record, 2, 0) == REGION_NOT_REFUSED);
@@ -55,11 +55,11 @@ static void connect_at(region_graph *record, uint8_t *const *ends, size_t count,
     const uint32_t *packages = numbers_at(ends[0], numbers, count + longer[0]);
     const uint16_t *lowest = versions_at(ends[1], versions, count + longer[1]);
     const uint16_t *highest = versions_at(ends[2], less, count + longer[2]);
-    CHECK(region_connect_v4(record, 2, 0, NONE, false, packages, count + longer[0], lowest, count + longer[1], highest,
+    CHECK(region_connect_v5(record, 2, 0, NONE, false, packages, count + longer[0], lowest, count + longer[1], highest,
                             count + longer[2], false, NONE)
           == REGION_NOT_REFUSED);
     CHECK(region_disconnect(record, 2, 0) == REGION_NOT_REFUSED);
-    CHECK(region_connect_v4(record, 2, 0, NONE, true, packages, count + longer[0], lowest, count + longer[1], highest,
+    CHECK(region_connect_v5(record, 2, 0, NONE, true, packages, count + longer[0], lowest, count + longer[1], highest,
                             count + longer[2], false, NONE)
           == REGION_NOT_REFUSED);
     CHECK(region_disconnect(record, 2, 0) == REGION_NOT_REFUSED);
@@ -209,7 +209,7 @@ static void longest_image_at(uint8_t *a, uint8_t *b, uint8_t *c)
     const uint8_t *bytes = bytes_at(b, longest.bytes, longest.length);
     region_empty(record);
     CHECK(region_read(record, bytes, longest.length) == REGION_NOT_REFUSED);
-    CHECK(archive_query_v4(bytes, longest.length, 1000, REGION_KIND_PACKAGE, 8, 0) == REGION_SEEN);
+    CHECK(region_archive_query(bytes, longest.length, 1000, REGION_KIND_PACKAGE, 8, 0) == REGION_SEEN);
     memset(c - longest.length, 99, longest.length);
     CHECK(region_write(record, c - longest.length + 1, longest.length - 1) == -REGION_NO_PLACE);
     CHECK(c[-1] == 99 && memcmp(c - longest.length, c - longest.length + 1, longest.length - 1) == 0);
@@ -226,7 +226,7 @@ static void archives_at(uint8_t *a, uint8_t *b, struct image file)
         const uint8_t *bytes = bytes_at(b, file.bytes, length);
         bool whole = length == file.length;
         CHECK((region_read(record, bytes, length) == REGION_NOT_REFUSED) == whole);
-        CHECK((archive_query_v4(bytes, length, 10, REGION_KIND_PACKAGE, 1, 0) == REGION_SEEN) == whole);
+        CHECK((region_archive_query(bytes, length, 10, REGION_KIND_PACKAGE, 1, 0) == REGION_SEEN) == whole);
     }
     /* Beginnings whose length field is right break the layout at their end. */
     for (size_t length = 5; length < file.length; length++) {

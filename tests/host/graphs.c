@@ -17,8 +17,8 @@ void put_g(region_graph *record)
     CHECK(region_install_v4(record, 0, 10, NO_PACKAGES, NONE) == REGION_NOT_REFUSED);
     CHECK(region_install_v4(record, 1, 20, PACKAGES(1), NONE) == REGION_NOT_REFUSED);
     CHECK(region_install_v4(record, 2, 30, PACKAGES(1, 2, 3), NONE) == REGION_NOT_REFUSED);
-    CHECK(region_connect_v4(record, 0, 1, NONE, false, ENTRIES(1, 2), false, NONE) == REGION_NOT_REFUSED);
-    CHECK(region_connect_v4(record, 1, 2, NONE, false, ENTRIES(1, 3), false, NONE) == REGION_NOT_REFUSED);
+    CHECK(region_connect_v5(record, 0, 1, NONE, false, ENTRIES(1, 2), false, NONE) == REGION_NOT_REFUSED);
+    CHECK(region_connect_v5(record, 1, 2, NONE, false, ENTRIES(1, 3), false, NONE) == REGION_NOT_REFUSED);
 }
 
 void build_g(void)
@@ -35,14 +35,14 @@ void build_cycle(void)
     regions(3, 5);
     ACCEPTED(region_install_v4(graph, 3, 10, NO_PACKAGES, NONE));
     ACCEPTED(region_install_v4(graph, 4, 20, NO_PACKAGES, NONE));
-    ACCEPTED(region_connect_v4(graph, 3, 4, NONE, false, NO_ENTRIES, false, LIST(77)));
-    ACCEPTED(region_connect_v4(graph, 4, 3, NONE, false, NO_ENTRIES, false, LIST(77)));
+    ACCEPTED(region_connect_v5(graph, 3, 4, NONE, false, NO_ENTRIES, false, LIST(77)));
+    ACCEPTED(region_connect_v5(graph, 4, 3, NONE, false, NO_ENTRIES, false, LIST(77)));
 }
 
 /* A connection that passes all services. */
 static void open_services(uint32_t source, uint32_t target)
 {
-    ACCEPTED(region_connect_v4(graph, source, target, NONE, false, NO_ENTRIES, true, NONE));
+    ACCEPTED(region_connect_v5(graph, source, target, NONE, false, NO_ENTRIES, true, NONE));
 }
 
 /* Every region, bundle 10 in one, and bundle 20, which publishes service 5, in another. */
@@ -94,7 +94,7 @@ void fill_connections(void)
     regions(0, REGION_REGIONS);
     for (uint32_t source = REGION_REGIONS - 16; source < REGION_REGIONS; source++) {
         for (uint32_t step = 1; step <= 3; step++) {
-            ACCEPTED(region_connect_v4(graph, source, (source + step) % REGION_REGIONS, NONE, false, NO_ENTRIES, false, NONE));
+            ACCEPTED(region_connect_v5(graph, source, (source + step) % REGION_REGIONS, NONE, false, NO_ENTRIES, false, NONE));
         }
     }
 }

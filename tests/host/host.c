@@ -8,6 +8,9 @@
 static void test_all(void)
 {
     test_record();
+    test_reading();
+    test_structs();
+    test_words();
     test_lists();
     test_changes();
     test_refused_changes();

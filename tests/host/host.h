@@ -3,6 +3,9 @@
 #define HOST_H
 
 void test_record(void);
+void test_reading(void);
+void test_structs(void);
+void test_words(void);
 void test_lists(void);
 void test_changes(void);
 void test_refused_changes(void);

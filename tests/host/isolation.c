@@ -207,8 +207,8 @@ static void put_neighbours(region_graph *record)
     CHECK(region_install_v4(record, 3, 10, PACKAGES(1, 2, 3), LIST(7)) == REGION_NOT_REFUSED);
     CHECK(region_install_v4(record, 1, 20, PACKAGES(1), NONE) == REGION_NOT_REFUSED);
     CHECK(region_install_v4(record, 2, 30, PACKAGES(1, 2, 3), NONE) == REGION_NOT_REFUSED);
-    CHECK(region_connect_v4(record, 1, 2, NONE, false, ENTRIES(1, 3), false, NONE) == REGION_NOT_REFUSED);
-    CHECK(region_connect_v4(record, 3, 1, LIST(20), true, NO_ENTRIES, true, NONE) == REGION_NOT_REFUSED);
+    CHECK(region_connect_v5(record, 1, 2, NONE, false, ENTRIES(1, 3), false, NONE) == REGION_NOT_REFUSED);
+    CHECK(region_connect_v5(record, 3, 1, LIST(20), true, NO_ENTRIES, true, NONE) == REGION_NOT_REFUSED);
 }
 
 static void g_and_neighbours(void)
@@ -231,7 +231,7 @@ static void put_row(region_graph *record)
     CHECK(region_install_v4(record, ROW, 10, NO_PACKAGES, LIST(6)) == REGION_NOT_REFUSED);
     CHECK(region_install_v4(record, LAST, 20, LIST(8), VERSIONS(500), LIST(5)) == REGION_NOT_REFUSED);
     for (uint32_t region = ROW; region < LAST; region++) {
-        CHECK(region_connect_v4(record, region, region + 1, LIST(20), false, LIST(8), VERSIONS(0), VERSIONS(500), true, NONE)
+        CHECK(region_connect_v5(record, region, region + 1, LIST(20), false, LIST(8), VERSIONS(0), VERSIONS(500), true, NONE)
               == REGION_NOT_REFUSED);
     }
 }
@@ -243,9 +243,9 @@ static void put_others(region_graph *record)
         CHECK(region_install_v4(record, i % ROW, 2 * i + 1, LIST(8, 8, 9), VERSIONS(0, 500, 0), LIST(4, 5)) == REGION_NOT_REFUSED);
     }
     for (uint32_t i = 0; i < REGION_MOST_CONNECTIONS - 8; i++) {
-        CHECK(region_connect_v4(record, i, ROW + i % 8, LIST(10, 20), true, NO_ENTRIES, true, NONE) == REGION_NOT_REFUSED);
+        CHECK(region_connect_v5(record, i, ROW + i % 8, LIST(10, 20), true, NO_ENTRIES, true, NONE) == REGION_NOT_REFUSED);
     }
-    CHECK(region_connect_v4(record, 0, 1, LIST(10, 20), true, NO_ENTRIES, true, NONE) == REGION_NOT_REFUSED);
+    CHECK(region_connect_v5(record, 0, 1, LIST(10, 20), true, NO_ENTRIES, true, NONE) == REGION_NOT_REFUSED);
 }
 
 /* The row with one other bundle, and the row in a record with no place left, where the others were put before it. */
@@ -260,7 +260,7 @@ static void few_and_many(void)
     put_others(sides[1].record);
     put_row(sides[1].record);
     CHECK(region_install_v4(sides[1].record, 0, 1000, NO_PACKAGES, NONE) == REGION_FULL);
-    CHECK(region_connect_v4(sides[1].record, 1, 0, NONE, false, NO_ENTRIES, false, NONE) == REGION_FULL);
+    CHECK(region_connect_v5(sides[1].record, 1, 0, NONE, false, NO_ENTRIES, false, NONE) == REGION_FULL);
     queries(LIST(10, 20, 10), LIST(1, 4, 5, 6, 7, 8, 9, 10, 11, 20, 77));
 }
 
@@ -271,7 +271,7 @@ static void led_out(void)
     CHECK(region_add(sides[0].record, 3) == REGION_NOT_REFUSED);
     put_neighbours(sides[1].record);
     for (size_t i = 0; i < SIDES; i++) {
-        CHECK(region_connect_v4(sides[i].record, 1, 3, LIST(10), true, NO_ENTRIES, true, NONE) == REGION_NOT_REFUSED);
+        CHECK(region_connect_v5(sides[i].record, 1, 3, LIST(10), true, NO_ENTRIES, true, NONE) == REGION_NOT_REFUSED);
     }
     keep_records();
     CHECK(!hook_alike(finds[0], 3, 20, LIST(10, 20, 30)));

@@ -12,14 +12,14 @@ static void null_lists_of_changes(void)
     ACCEPTED(region_install_v4(graph, 1, 30, NONE, NONE, NONE));
     ACCEPTED(region_install_v4(graph, 1, 40, LIST(1), NONE, NONE));
     ACCEPTED(region_install_v4(graph, 1, 50, NONE, VERSIONS(1), NONE));
-    ACCEPTED(region_connect_v4(graph, 0, 1, NONE, false, NONE, NONE, NONE, false, NONE));
-    ACCEPTED(region_connect_v4(graph, 1, 0, NONE, true, NONE, NONE, NONE, true, NONE));
+    ACCEPTED(region_connect_v5(graph, 0, 1, NONE, false, NONE, NONE, NONE, false, NONE));
+    ACCEPTED(region_connect_v5(graph, 1, 0, NONE, true, NONE, NONE, NONE, true, NONE));
     ACCEPTED(region_disconnect(graph, 0, 1));
-    ACCEPTED(region_connect_v4(graph, 0, 1, NONE, false, LIST(1), VERSIONS(1), NONE, false, NONE));
+    ACCEPTED(region_connect_v5(graph, 0, 1, NONE, false, LIST(1), VERSIONS(1), NONE, false, NONE));
     ACCEPTED(region_disconnect(graph, 0, 1));
-    ACCEPTED(region_connect_v4(graph, 0, 1, NONE, false, NONE, VERSIONS(1), VERSIONS(0), false, NONE));
+    ACCEPTED(region_connect_v5(graph, 0, 1, NONE, false, NONE, VERSIONS(1), VERSIONS(0), false, NONE));
     UNCHANGED(REGION_NOT_AN_ARCHIVE, region_read(graph, NULL, 0));
-    UNCHANGED(REGION_NOT_AN_ARCHIVE, archive_query_v4(NULL, 0, 10, 0, 10, 0));
+    UNCHANGED(REGION_NOT_AN_ARCHIVE, region_archive_query(NULL, 0, 10, 0, 10, 0));
 }
 
 static void null_find(find_call *find)
@@ -87,11 +87,11 @@ static void overlapping(void)
     CHECK(region_add(&apart, 1) == REGION_NOT_REFUSED);
     CHECK(region_install_v4(&apart, 0, 10, PACKAGES(1, 2, 3, 4), LIST(1, 2, 3, 4)) == REGION_NOT_REFUSED);
     CHECK(region_install_v4(&apart, 0, 20, PACKAGES(1, 2, 3), LIST(2, 3, 4)) == REGION_NOT_REFUSED);
-    CHECK(region_connect_v4(&apart, 0, 1, LIST(1, 2), false, ENTRIES(1, 2, 3), false, LIST(3, 4)) == REGION_NOT_REFUSED);
+    CHECK(region_connect_v5(&apart, 0, 1, LIST(1, 2), false, ENTRIES(1, 2, 3), false, LIST(3, 4)) == REGION_NOT_REFUSED);
     regions(0, 2);
     ACCEPTED(region_install_v4(graph, 0, 10, list, 4, zeros, 4, list, 4));
     ACCEPTED(region_install_v4(graph, 0, 20, list, 3, zeros, 3, list + 1, 3));
-    ACCEPTED(region_connect_v4(graph, 0, 1, list, 2, false, list, 3, zeros, 3, tops, 3, false, list + 2, 2));
+    ACCEPTED(region_connect_v5(graph, 0, 1, list, 2, false, list, 3, zeros, 3, tops, 3, false, list + 2, 2));
     CHECK(same_graph(graph, &apart));
 }
 
@@ -103,13 +103,13 @@ static void overlapping_versions(void)
     regions(0, 2);
     apart = *graph;
     CHECK(region_install_v4(&apart, 0, 10, LIST(1, 1, 1), VERSIONS(3, 4, 5), NONE) == REGION_NOT_REFUSED);
-    CHECK(region_connect_v4(&apart, 0, 1, NONE, false, LIST(1, 2), VERSIONS(3, 4), VERSIONS(3, 4), false, NONE)
+    CHECK(region_connect_v5(&apart, 0, 1, NONE, false, LIST(1, 2), VERSIONS(3, 4), VERSIONS(3, 4), false, NONE)
           == REGION_NOT_REFUSED);
-    CHECK(region_connect_v4(&apart, 1, 0, NONE, false, LIST(1, 2), VERSIONS(3, 4), VERSIONS(4, 5), false, NONE)
+    CHECK(region_connect_v5(&apart, 1, 0, NONE, false, LIST(1, 2), VERSIONS(3, 4), VERSIONS(4, 5), false, NONE)
           == REGION_NOT_REFUSED);
     ACCEPTED(region_install_v4(graph, 0, 10, LIST(1, 1, 1), versions, 3, NONE));
-    ACCEPTED(region_connect_v4(graph, 0, 1, NONE, false, LIST(1, 2), versions, 2, versions, 2, false, NONE));
-    ACCEPTED(region_connect_v4(graph, 1, 0, NONE, false, LIST(1, 2), versions, 2, versions + 1, 2, false, NONE));
+    ACCEPTED(region_connect_v5(graph, 0, 1, NONE, false, LIST(1, 2), versions, 2, versions, 2, false, NONE));
+    ACCEPTED(region_connect_v5(graph, 1, 0, NONE, false, LIST(1, 2), versions, 2, versions + 1, 2, false, NONE));
     CHECK(same_graph(graph, &apart));
 }
 

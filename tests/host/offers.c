@@ -200,7 +200,7 @@ static void put_connection(uint32_t source, uint32_t target)
     struct plain_connection c = {source, target, passed(&e)};
     size_t bundle_count = listed(some(NUMBERS), bundles);
     size_t service_count = listed(some(NUMBERS), services);
-    ACCEPTED(region_connect_v4(graph, source, target, bundles, bundle_count, all, e.numbers, e.count, e.lowest, e.count, e.highest,
+    ACCEPTED(region_connect_v5(graph, source, target, bundles, bundle_count, all, e.numbers, e.count, e.lowest, e.count, e.highest,
                                e.count, below(2) == 0, services, service_count));
     c.packages = all ? UINT32_MAX : c.packages;
     plain.connections[plain.connection_count++] = c;

@@ -83,7 +83,7 @@ static void kept(void)
 static void bundles_pass(void)
 {
     build_g();
-    ACCEPTED(region_connect_v4(graph, 2, 1, LIST(20), false, NO_ENTRIES, false, NONE));
+    ACCEPTED(region_connect_v5(graph, 2, 1, LIST(20), false, NO_ENTRIES, false, NONE));
     ROUTES(route(30, REGION_KIND_BUNDLE, 20), 2, 1);
     KEEPS(region_bundle_find(graph, lent.places, PLACES, 30, LIST(10, 20, 30)), 20, 30);
     KEEPS(region_bundle_event(graph, lent.places, PLACES, LIST(10, 20, 30), 20), 20, 30);

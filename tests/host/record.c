@@ -48,14 +48,14 @@ static void size(void)
 
 /* The library has the interface of the header. The table has the bytes of the record, of a route's buffer and of the longest image at
    each version, from 1 on, and only grows: where one of them is another, so is the version. Version 3 has the bytes of version 2,
-   and resolve with other arguments; version 4 has versions of packages. */
+   and resolve with other arguments; version 4 has versions of packages; version 5 has its bytes, and connect with other arguments. */
 static void version(void)
 {
     static const struct {
         size_t record;
         size_t route;
         size_t image;
-    } bytes[] = {{16408, 16, 14248}, {16408, 64, 14296}, {16408, 64, 14296}, {20504, 64, 18392}};
+    } bytes[] = {{16408, 16, 14248}, {16408, 64, 14296}, {16408, 64, 14296}, {20504, 64, 18392}, {20504, 64, 18392}};
     const size_t versions = sizeof bytes / sizeof bytes[0];
     CHECK(region_library_matches());
     CHECK(region_interface_version() == WIMBORU_VERSION);

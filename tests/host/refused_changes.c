@@ -41,14 +41,14 @@ static void build_crowd(void)
 {
     regions(0, 2);
     ACCEPTED(region_install_v4(graph, 0, 20, NO_PACKAGES, NONE));
-    ACCEPTED(region_connect_v4(graph, 0, 1, LIST(20), false, NO_ENTRIES, false, NONE));
+    ACCEPTED(region_connect_v5(graph, 0, 1, LIST(20), false, NO_ENTRIES, false, NONE));
     fill_bundles(1, REGION_MOST_BUNDLES - 1);
 }
 
 /* A connect and a disconnect, which are refused with the same number. */
 static void refused_ends(uint32_t number, uint32_t source, uint32_t target)
 {
-    UNCHANGED(number, region_connect_v4(graph, source, target, descending, LONG_LIST, false, NO_ENTRIES, false, NONE));
+    UNCHANGED(number, region_connect_v5(graph, source, target, descending, LONG_LIST, false, NO_ENTRIES, false, NONE));
     UNCHANGED(number, region_disconnect(graph, source, target));
 }
 
@@ -110,36 +110,36 @@ static void uninstall(void)
 static void connect_ends(void)
 {
     build_g();
-    UNCHANGED(REGION_ENDS_EQUAL, region_connect_v4(graph, 1, 1, descending, LONG_LIST, false, NO_ENTRIES, false, NONE));
-    UNCHANGED(REGION_CONNECTED, region_connect_v4(graph, 0, 1, descending, LONG_LIST, false, NO_ENTRIES, false, NONE));
-    UNCHANGED(REGION_CONNECTED, region_connect_v4(graph, 1, 2, NONE, true, NO_ENTRIES, true, NONE));
+    UNCHANGED(REGION_ENDS_EQUAL, region_connect_v5(graph, 1, 1, descending, LONG_LIST, false, NO_ENTRIES, false, NONE));
+    UNCHANGED(REGION_CONNECTED, region_connect_v5(graph, 0, 1, descending, LONG_LIST, false, NO_ENTRIES, false, NONE));
+    UNCHANGED(REGION_CONNECTED, region_connect_v5(graph, 1, 2, NONE, true, NO_ENTRIES, true, NONE));
 }
 
 static void connect_lists(void)
 {
     build_g();
-    UNCHANGED(REGION_LIST_TOO_LONG, region_connect_v4(graph, 2, 0, ascending, 17, false, NO_ENTRIES, false, NONE));
-    UNCHANGED(REGION_LIST_TOO_LONG, region_connect_v4(graph, 2, 0, NONE, false, ascending, 17, zeros, 17, tops, 17, false, NONE));
-    UNCHANGED(REGION_LIST_TOO_LONG, region_connect_v4(graph, 2, 0, NONE, false, NO_ENTRIES, false, ascending, 17));
-    UNCHANGED(REGION_LIST_TOO_LONG, region_connect_v4(graph, 2, 0, NONE, true, NO_ENTRIES, false, ascending, 17));
-    UNCHANGED(REGION_LIST_TOO_LONG, region_connect_v4(graph, 2, 0, NONE, false, ascending, 17, zeros, 17, tops, 17, true, NONE));
-    UNCHANGED(REGION_LIST_TOO_LONG, region_connect_v4(graph, 2, 0, LIST(2, 1), false, ENTRIES(2, 1), false, ascending, 17));
-    UNCHANGED(REGION_LIST_OUT_OF_ORDER, region_connect_v4(graph, 2, 0, LIST(2, 1), false, NO_ENTRIES, false, NONE));
-    UNCHANGED(REGION_LIST_OUT_OF_ORDER, region_connect_v4(graph, 2, 0, NONE, false, ENTRIES(2, 1), false, NONE));
-    UNCHANGED(REGION_LIST_OUT_OF_ORDER, region_connect_v4(graph, 2, 0, NONE, false, NO_ENTRIES, false, LIST(2, 1)));
-    UNCHANGED(REGION_LIST_OUT_OF_ORDER, region_connect_v4(graph, 2, 0, LIST(1, 1), true, NO_ENTRIES, true, NONE));
-    UNCHANGED(REGION_LIST_OUT_OF_ORDER, region_connect_v4(graph, 2, 0, NONE, true, NO_ENTRIES, false, LIST(1, 2, 2)));
-    UNCHANGED(REGION_LIST_OUT_OF_ORDER, region_connect_v4(graph, 2, 0, NONE, false, ENTRIES(1, 2, 2), true, NONE));
+    UNCHANGED(REGION_LIST_TOO_LONG, region_connect_v5(graph, 2, 0, ascending, 17, false, NO_ENTRIES, false, NONE));
+    UNCHANGED(REGION_LIST_TOO_LONG, region_connect_v5(graph, 2, 0, NONE, false, ascending, 17, zeros, 17, tops, 17, false, NONE));
+    UNCHANGED(REGION_LIST_TOO_LONG, region_connect_v5(graph, 2, 0, NONE, false, NO_ENTRIES, false, ascending, 17));
+    UNCHANGED(REGION_LIST_TOO_LONG, region_connect_v5(graph, 2, 0, NONE, true, NO_ENTRIES, false, ascending, 17));
+    UNCHANGED(REGION_LIST_TOO_LONG, region_connect_v5(graph, 2, 0, NONE, false, ascending, 17, zeros, 17, tops, 17, true, NONE));
+    UNCHANGED(REGION_LIST_TOO_LONG, region_connect_v5(graph, 2, 0, LIST(2, 1), false, ENTRIES(2, 1), false, ascending, 17));
+    UNCHANGED(REGION_LIST_OUT_OF_ORDER, region_connect_v5(graph, 2, 0, LIST(2, 1), false, NO_ENTRIES, false, NONE));
+    UNCHANGED(REGION_LIST_OUT_OF_ORDER, region_connect_v5(graph, 2, 0, NONE, false, ENTRIES(2, 1), false, NONE));
+    UNCHANGED(REGION_LIST_OUT_OF_ORDER, region_connect_v5(graph, 2, 0, NONE, false, NO_ENTRIES, false, LIST(2, 1)));
+    UNCHANGED(REGION_LIST_OUT_OF_ORDER, region_connect_v5(graph, 2, 0, LIST(1, 1), true, NO_ENTRIES, true, NONE));
+    UNCHANGED(REGION_LIST_OUT_OF_ORDER, region_connect_v5(graph, 2, 0, NONE, true, NO_ENTRIES, false, LIST(1, 2, 2)));
+    UNCHANGED(REGION_LIST_OUT_OF_ORDER, region_connect_v5(graph, 2, 0, NONE, false, ENTRIES(1, 2, 2), true, NONE));
 }
 
 static void connect_full(void)
 {
     fill_connections();
-    UNCHANGED(REGION_LIST_TOO_LONG, region_connect_v4(graph, 0, 4, descending, 17, false, NO_ENTRIES, false, NONE));
-    UNCHANGED(REGION_LIST_OUT_OF_ORDER, region_connect_v4(graph, 0, 4, descending, 16, false, NO_ENTRIES, false, NONE));
-    UNCHANGED(REGION_FULL, region_connect_v4(graph, 0, 4, ascending, 16, false, NO_ENTRIES, false, NONE));
+    UNCHANGED(REGION_LIST_TOO_LONG, region_connect_v5(graph, 0, 4, descending, 17, false, NO_ENTRIES, false, NONE));
+    UNCHANGED(REGION_LIST_OUT_OF_ORDER, region_connect_v5(graph, 0, 4, descending, 16, false, NO_ENTRIES, false, NONE));
+    UNCHANGED(REGION_FULL, region_connect_v5(graph, 0, 4, ascending, 16, false, NO_ENTRIES, false, NONE));
     ACCEPTED(region_disconnect(graph, 63, 2));
-    ACCEPTED(region_connect_v4(graph, 0, 4, ascending, 16, false, NO_ENTRIES, false, NONE));
+    ACCEPTED(region_connect_v5(graph, 0, 4, ascending, 16, false, NO_ENTRIES, false, NONE));
 }
 
 static void disconnect(void)

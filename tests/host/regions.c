@@ -52,8 +52,8 @@ static void pair(uint8_t source, uint8_t target)
     ACCEPTED(region_add(graph, target));
     ACCEPTED(region_install_v4(graph, source, 10, PACKAGES(1), LIST(5)));
     ACCEPTED(region_install_v4(graph, target, 20, PACKAGES(2), LIST(6)));
-    ACCEPTED(region_connect_v4(graph, source, target, LIST(20), false, ENTRIES(2), false, LIST(6)));
-    UNCHANGED(REGION_CONNECTED, region_connect_v4(graph, source, target, NONE, false, NO_ENTRIES, false, NONE));
+    ACCEPTED(region_connect_v5(graph, source, target, LIST(20), false, ENTRIES(2), false, LIST(6)));
+    UNCHANGED(REGION_CONNECTED, region_connect_v5(graph, source, target, NONE, false, NO_ENTRIES, false, NONE));
     UNCHANGED(REGION_NOT_CONNECTED, region_disconnect(graph, target, source));
     UNCHANGED(REGION_ENDS_EQUAL, region_disconnect(graph, target, target));
     seen_over(source, target);
@@ -83,8 +83,8 @@ static void last_two(void)
     expect_image(none, sizeof none);
     ACCEPTED(region_add(graph, 63));
     ACCEPTED(region_add(graph, 62));
-    ACCEPTED(region_connect_v4(graph, 63, 62, NONE, false, NO_ENTRIES, false, NONE));
-    ACCEPTED(region_connect_v4(graph, 62, 63, NONE, false, NO_ENTRIES, false, NONE));
+    ACCEPTED(region_connect_v5(graph, 63, 62, NONE, false, NO_ENTRIES, false, NONE));
+    ACCEPTED(region_connect_v5(graph, 62, 63, NONE, false, NO_ENTRIES, false, NONE));
     expect_image(both, sizeof both);
     ACCEPTED(region_remove(graph, 63));
     expect_image(one, sizeof one);
@@ -98,7 +98,7 @@ static void g_and_last(void)
 {
     build_g();
     ACCEPTED(region_add(graph, 63));
-    ACCEPTED(region_connect_v4(graph, 63, 2, NONE, true, NO_ENTRIES, true, NONE));
+    ACCEPTED(region_connect_v5(graph, 63, 2, NONE, true, NO_ENTRIES, true, NONE));
     struct image more = image_of(graph);
     CHECK(more.length == 108 + 1 + 7);
     ACCEPTED(region_remove(graph, 63));
@@ -115,8 +115,8 @@ static void plates(void)
     ACCEPTED(region_install_v4(graph, 63, 30, PACKAGES(2, 3), LIST(5)));
     ACCEPTED(region_install_v4(graph, 16, 20, PACKAGES(1), NONE));
     ACCEPTED(region_install_v4(graph, 0, 10, NO_PACKAGES, NONE));
-    ACCEPTED(region_connect_v4(graph, 16, 63, LIST(30), false, ENTRIES(2, 3), true, NONE));
-    ACCEPTED(region_connect_v4(graph, 0, 16, NONE, false, ENTRIES(1, 2), false, NONE));
+    ACCEPTED(region_connect_v5(graph, 16, 63, LIST(30), false, ENTRIES(2, 3), true, NONE));
+    ACCEPTED(region_connect_v5(graph, 0, 16, NONE, false, ENTRIES(1, 2), false, NONE));
     CHECK(same_image(image_of(graph), as_version_3(load("plates.archive"))));
     ROUTES(region_route_v4(graph, lent.bytes, REGION_ROUTE_BYTES, 10, REGION_KIND_PACKAGE, 2, 0), 0, 16, 63);
     UNCHANGED(-REGION_HIDDEN, region_route_v4(graph, lent.bytes, REGION_ROUTE_BYTES, 10, REGION_KIND_SERVICE, 5, 0));

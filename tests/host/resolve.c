@@ -6,7 +6,7 @@
 
 /* A connection that passes these packages and nothing else. */
 #define PASSES(source, target, ...) \
-    ACCEPTED(region_connect_v4(graph, source, target, NONE, false, ENTRIES(__VA_ARGS__), false, NONE))
+    ACCEPTED(region_connect_v5(graph, source, target, NONE, false, ENTRIES(__VA_ARGS__), false, NONE))
 
 /* A bundle that exports these packages. */
 #define EXPORTS(region, location, ...) ACCEPTED(region_install_v4(graph, region, location, PACKAGES(__VA_ARGS__), NONE))
@@ -73,7 +73,7 @@ static void other_exporters(void)
     ACCEPTED(region_install_v4(graph, 1, 22, NO_PACKAGES, LIST(1)));
     EXPORTS(2, 30, 2);
     PASSES(0, 1, 1);
-    ACCEPTED(region_connect_v4(graph, 0, 2, NONE, true, NO_ENTRIES, true, NONE));
+    ACCEPTED(region_connect_v5(graph, 0, 2, NONE, true, NO_ENTRIES, true, NONE));
     OFFERS(10, {77, 1, false}, {21, 1, false}, {22, 1, false}, {30, 1, false}, {1, 20, false}, {20, 20, false}, {1, 1, false});
     OFFERS(10, {20, 1, true}, {21, 2, false}, {30, 2, true}, {20, 2, false});
     ACCEPTED(region_uninstall(graph, 20));
@@ -105,8 +105,8 @@ static void judged_together(void)
     ACCEPTED(region_install_v4(graph, 3, 40, PACKAGES(1, 3), LIST(1)));
     PASSES(0, 1, 1);
     PASSES(0, 2, 2);
-    ACCEPTED(region_connect_v4(graph, 2, 3, LIST(40), false, ENTRIES(1), true, NONE));
-    ACCEPTED(region_connect_v4(graph, 0, 3, LIST(40), false, ENTRIES(3), true, NONE));
+    ACCEPTED(region_connect_v5(graph, 2, 3, LIST(40), false, ENTRIES(1), true, NONE));
+    ACCEPTED(region_connect_v5(graph, 0, 3, LIST(40), false, ENTRIES(3), true, NONE));
     OFFERS(10, {20, 1, true}, {30, 1, false}, {30, 2, true}, {20, 2, false}, {40, 1, false}, {40, 3, true});
     OFFERS(30, {30, 1, true}, {40, 1, true}, {40, 3, false}, {20, 1, false});
     KEEPS(region_bundle_find(graph, lent.places, PLACES, 10, LIST(10, 20, 30, 40)), 10, 40);
@@ -120,8 +120,8 @@ static void all_packages(void)
     EXPORTS(1, 20, 0, 1, 257, UINT32_MAX);
     EXPORTS(2, 30, 1, 257, 65537);
     EXPORTS(3, 40, 1, 257, 513);
-    ACCEPTED(region_connect_v4(graph, 0, 1, NONE, true, NO_ENTRIES, false, NONE));
-    ACCEPTED(region_connect_v4(graph, 1, 2, NONE, true, NO_ENTRIES, false, NONE));
+    ACCEPTED(region_connect_v5(graph, 0, 1, NONE, true, NO_ENTRIES, false, NONE));
+    ACCEPTED(region_connect_v5(graph, 1, 2, NONE, true, NO_ENTRIES, false, NONE));
     PASSES(2, 3, 257);
     OFFERS(10, {20, 0, true}, {20, 1, true}, {20, 257, true}, {20, UINT32_MAX, true}, {20, 2, false}, {20, 65537, false});
     OFFERS(10, {30, 1, true}, {30, 257, true}, {30, 65537, true}, {30, 513, false}, {30, 0, false}, {30, UINT32_MAX, false});

@@ -31,7 +31,7 @@ static bool changes(region_graph *own)
         && region_uninstall(own, 1000) == REGION_NOT_REFUSED
         && region_install_v4(own, 0, 1, NO_PACKAGES, NONE) == REGION_NOT_REFUSED
         && region_disconnect(own, 48, 49) == REGION_NOT_REFUSED
-        && region_connect_v4(own, 48, 49, NONE, true, NO_ENTRIES, true, NONE) == REGION_NOT_REFUSED
+        && region_connect_v5(own, 48, 49, NONE, true, NO_ENTRIES, true, NONE) == REGION_NOT_REFUSED
         && region_remove(own, 63) == REGION_NOT_REFUSED && region_add(own, 63) == REGION_NOT_REFUSED;
 }
 
@@ -53,7 +53,7 @@ static bool queries(uint8_t *written)
 {
     uint8_t route[REGION_ROUTE_BYTES];
     uint32_t kept[2];
-    return archive_query_v4(longest.bytes, longest.length, 1000, REGION_KIND_PACKAGE, 8, 0) == REGION_SEEN
+    return region_archive_query(longest.bytes, longest.length, 1000, REGION_KIND_PACKAGE, 8, 0) == REGION_SEEN
         && region_route_v4(graph, route, sizeof route, 1000, REGION_KIND_PACKAGE, 8, 0) == 1
         && region_bundle_find(graph, kept, 2, 1000, LIST(1015, 1017)) == 1
         && region_service_find(graph, kept, 2, 1000, LIST(UINT32_MAX)) == 0
@@ -65,9 +65,9 @@ static bool queries(uint8_t *written)
 /* The longest image made an older archive, and the other way. */
 static bool conversions(uint8_t *written)
 {
-    return archive_back(longest.bytes, longest.length, written, REGION_LONGEST_IMAGE) == (int64_t)older.length
+    return region_archive_back(longest.bytes, longest.length, written, REGION_LONGEST_IMAGE) == (int64_t)older.length
         && memcmp(written, older.bytes, older.length) == 0
-        && archive_forward(older.bytes, older.length, written, REGION_LONGEST_IMAGE) == REGION_LONGEST_IMAGE
+        && region_archive_forward(older.bytes, older.length, written, REGION_LONGEST_IMAGE) == REGION_LONGEST_IMAGE
         && memcmp(written, longest.bytes, longest.length) == 0;
 }
 

@@ -13,7 +13,7 @@ static int64_t route(uint32_t location, uint32_t package, uint16_t version)
 /* An install and a connect on the lent record, of packages alone. */
 #define INSTALL(region, location, packages, versions) region_install_v4(graph, region, location, packages, versions, NONE)
 #define CONNECT(source, target, packages, lowest, highest) \
-    region_connect_v4(graph, source, target, NONE, false, packages, lowest, highest, false, NONE)
+    region_connect_v5(graph, source, target, NONE, false, packages, lowest, highest, false, NONE)
 
 /* Packages ascend by number, then version; a bundle may export a number in several versions. */
 static void exported(void)
@@ -64,7 +64,7 @@ static void passed(uint16_t lowest, uint16_t highest)
         regions(0, 2);
         ACCEPTED(region_install_v4(graph, 0, 10, NO_PACKAGES, NONE));
         ACCEPTED(region_install_v4(graph, 1, 20, numbers, 1, versions + i, 1, NONE));
-        ACCEPTED(region_connect_v4(graph, 0, 1, NONE, false, numbers, 1, &lowest, 1, &highest, 1, false, NONE));
+        ACCEPTED(region_connect_v5(graph, 0, 1, NONE, false, numbers, 1, &lowest, 1, &highest, 1, false, NONE));
         if (seen) {
             ROUTES(route(10, 5, versions[i]), 0, 1);
         } else {
@@ -99,7 +99,7 @@ static void along_a_route(void)
     UNCHANGED(-REGION_HIDDEN, route(10, 5, 5));
     OFFERS_VERSIONS(10, {30, 5, 1, false}, {30, 5, 4, true}, {30, 5, 5, false}, {30, 5, 6, true}, {30, 5, 9, false});
     ACCEPTED(region_disconnect(graph, 0, 1));
-    ACCEPTED(region_connect_v4(graph, 0, 1, NONE, true, NO_ENTRIES, false, NONE));
+    ACCEPTED(region_connect_v5(graph, 0, 1, NONE, true, NO_ENTRIES, false, NONE));
     ROUTES(route(10, 5, 9), 0, 1, 2);
     UNCHANGED(-REGION_HIDDEN, route(10, 5, 1));
 }
@@ -125,7 +125,7 @@ static void other_kinds(void)
 {
     static const uint16_t versions[] = {0, 1, 9, 256, UINT16_MAX};
     build_diamond();
-    ACCEPTED(region_connect_v4(graph, 3, 0, LIST(10), false, NO_ENTRIES, false, NONE));
+    ACCEPTED(region_connect_v5(graph, 3, 0, LIST(10), false, NO_ENTRIES, false, NONE));
     for (size_t i = 0; i < sizeof versions / sizeof versions[0]; i++) {
         const uint16_t version = versions[i];
         ROUTES(region_route_v4(graph, lent.bytes, BYTES, 10, REGION_KIND_SERVICE, 5, version), 0, 1, 3);
@@ -154,9 +154,9 @@ static void same_connect(const uint32_t *packages, size_t package_count, const u
     static region_graph cut;
     regions(0, 2);
     cut = *graph;
-    CHECK(region_connect_v4(&cut, 0, 1, NONE, false, packages, count, lowest, count, highest, count, false, NONE)
+    CHECK(region_connect_v5(&cut, 0, 1, NONE, false, packages, count, lowest, count, highest, count, false, NONE)
           == REGION_NOT_REFUSED);
-    ACCEPTED(region_connect_v4(graph, 0, 1, NONE, false, packages, package_count, lowest, lowest_count, highest, highest_count,
+    ACCEPTED(region_connect_v5(graph, 0, 1, NONE, false, packages, package_count, lowest, lowest_count, highest, highest_count,
                                false, NONE));
     CHECK(same_graph(graph, &cut));
 }
@@ -204,7 +204,7 @@ static void refused_entries(void)
     UNCHANGED(REGION_RANGE_REVERSED, CONNECT(0, 1, LIST(5, 6), VERSIONS(1, 0), VERSIONS(0, 9)));
     ACCEPTED(CONNECT(0, 1, LIST(5), VERSIONS(9), VERSIONS(9)));
     /* of a part that is "all" nothing is asked */
-    ACCEPTED(region_connect_v4(graph, 1, 0, NONE, true, LIST(6, 5), VERSIONS(9, 9), VERSIONS(8, 8), false, NONE));
+    ACCEPTED(region_connect_v5(graph, 1, 0, NONE, true, LIST(6, 5), VERSIONS(9, 9), VERSIONS(8, 8), false, NONE));
 }
 
 /* The place of 20 in the order: after 1, 3, 4, 5, 7 and 8, whichever list they are about, and before 11. */
@@ -216,16 +216,16 @@ static void order_of_refusals(void)
     UNCHANGED(REGION_NO_SUCH_REGION, CONNECT(0, 47, LIST(5), VERSIONS(9), VERSIONS(8)));
     UNCHANGED(REGION_ENDS_EQUAL, CONNECT(4, 4, LIST(5), VERSIONS(9), VERSIONS(8)));
     UNCHANGED(REGION_CONNECTED, CONNECT(48, 49, LIST(5), VERSIONS(9), VERSIONS(8)));
-    UNCHANGED(REGION_LIST_TOO_LONG, region_connect_v4(graph, 0, 4, NONE, false, LIST(5), VERSIONS(9), VERSIONS(8), false,
+    UNCHANGED(REGION_LIST_TOO_LONG, region_connect_v5(graph, 0, 4, NONE, false, LIST(5), VERSIONS(9), VERSIONS(8), false,
                                                       LIST(1, 2, 3, 4, 5, 6, 7, 8, 9, 10, 11, 12, 13, 14, 15, 16, 17)));
     UNCHANGED(REGION_LIST_OUT_OF_ORDER, CONNECT(0, 4, LIST(6, 5), VERSIONS(9, 9), VERSIONS(8, 8)));
     UNCHANGED(REGION_LIST_OUT_OF_ORDER,
-              region_connect_v4(graph, 0, 4, LIST(2, 1), false, LIST(5), VERSIONS(9), VERSIONS(8), false, NONE));
+              region_connect_v5(graph, 0, 4, LIST(2, 1), false, LIST(5), VERSIONS(9), VERSIONS(8), false, NONE));
     UNCHANGED(REGION_LIST_OUT_OF_ORDER,
-              region_connect_v4(graph, 0, 4, NONE, false, LIST(5), VERSIONS(9), VERSIONS(8), false, LIST(2, 1)));
+              region_connect_v5(graph, 0, 4, NONE, false, LIST(5), VERSIONS(9), VERSIONS(8), false, LIST(2, 1)));
     UNCHANGED(REGION_RANGE_REVERSED, CONNECT(0, 4, LIST(5), VERSIONS(9), VERSIONS(8)));
     UNCHANGED(REGION_FULL, CONNECT(0, 4, LIST(5), VERSIONS(8), VERSIONS(9)));
-    UNCHANGED(REGION_FULL, region_connect_v4(graph, 0, 4, NONE, true, LIST(5), VERSIONS(9), VERSIONS(8), false, NONE));
+    UNCHANGED(REGION_FULL, region_connect_v5(graph, 0, 4, NONE, true, LIST(5), VERSIONS(9), VERSIONS(8), false, NONE));
 }
 
 /* A version that is too large for C's type is cut silently, as the header says: 65536 + 7 is 7. */
@@ -246,8 +246,8 @@ static void example(void)
     ACCEPTED(region_install_v4(graph, 0, 10, NO_PACKAGES, NONE));
     ACCEPTED(region_install_v4(graph, 1, 20, PACKAGES(1), NONE));
     ACCEPTED(region_install_v4(graph, 2, 30, LIST(1, 1, 2), VERSIONS(0, 7, 3), LIST(5)));
-    ACCEPTED(region_connect_v4(graph, 0, 1, NONE, false, LIST(1, 2), VERSIONS(0, 0), VERSIONS(65535, 2), true, NONE));
-    ACCEPTED(region_connect_v4(graph, 1, 2, LIST(30), false, LIST(1, 2), VERSIONS(5, 3), VERSIONS(9, 3), false, LIST(5)));
+    ACCEPTED(region_connect_v5(graph, 0, 1, NONE, false, LIST(1, 2), VERSIONS(0, 0), VERSIONS(65535, 2), true, NONE));
+    ACCEPTED(region_connect_v5(graph, 1, 2, LIST(30), false, LIST(1, 2), VERSIONS(5, 3), VERSIONS(9, 3), false, LIST(5)));
     CHECK(same_image(image_of(graph), load("versions.archive")));
     ROUTES(route(10, 1, 0), 0, 1);
     ROUTES(route(10, 1, 7), 0, 1, 2);

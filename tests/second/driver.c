@@ -293,7 +293,7 @@ static void connect(char **a)
     struct list bundles = list(a[2], FIRST), packages = list(a[3], SECOND), services = list(a[6], THIRD);
     struct versions lowest = versions(a[4], FOURTH), highest = versions(a[5], FIFTH);
 
-    print_number(region_connect_v4(graph, whole_number(a[0]), whole_number(a[1]), bundles.items, bundles.count, packages.all,
+    print_number(region_connect_v5(graph, whole_number(a[0]), whole_number(a[1]), bundles.items, bundles.count, packages.all,
                                    packages.items, packages.count, lowest.items, lowest.count, highest.items, highest.count,
                                    services.all, services.items, services.count));
 }
@@ -416,8 +416,8 @@ static void query(char **a)
 {
     struct file f = copy(archive);
 
-    print_number(archive_query_v4(f.bytes, f.length, whole_number(a[0]), whole_number(a[1]), whole_number(a[2]),
-                                  version(whole_number(a[3]))));
+    print_number(region_archive_query(f.bytes, f.length, whole_number(a[0]), whole_number(a[1]), whole_number(a[2]),
+                                      version(whole_number(a[3]))));
 }
 
 typedef int64_t convert_call(const uint8_t *, size_t, uint8_t *, size_t);
@@ -434,12 +434,12 @@ static void convert(convert_call *call, char **a)
 
 static void forward(char **a)
 {
-    convert(archive_forward, a);
+    convert(region_archive_forward, a);
 }
 
 static void back(char **a)
 {
-    convert(archive_back, a);
+    convert(region_archive_back, a);
 }
 
 static void keep_sheet(char **a)

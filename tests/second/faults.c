@@ -265,9 +265,9 @@ static uint32_t refused_part(const region_graph *g, uint32_t number, size_t most
     return fault(107) && most > REGION_MOST_LISTED ? 7 : 0;
 }
 
-CALL(uint32_t, region_connect_v4, region_graph *g, uint32_t source, uint32_t target, const uint32_t *bundles, size_t bundle_count,
-     bool all_packages, const uint32_t *packages, size_t package_count, const uint16_t *lowest, size_t lowest_count,
-     const uint16_t *highest, size_t highest_count, bool all_services, const uint32_t *services, size_t service_count)
+CALL(uint32_t, region_connect_v5, region_graph *g, uint32_t source, uint32_t target, const uint32_t *bundles, size_t bundle_count,
+     uint32_t pass_packages, const uint32_t *packages, size_t package_count, const uint16_t *lowest, size_t lowest_count,
+     const uint16_t *highest, size_t highest_count, uint32_t pass_services, const uint32_t *services, size_t service_count)
 {
     const size_t most = larger(package_count, larger(lowest_count, highest_count));
     uint32_t number, other;
@@ -289,9 +289,9 @@ CALL(uint32_t, region_connect_v4, region_graph *g, uint32_t source, uint32_t tar
         highest = columns.highest;
         package_count = lowest_count = highest_count = columns.count;
     }
-    number = __real_region_connect_v4(g, source, target, bundles, bundle_count, all_packages, packages, package_count, lowest,
-                                      lowest_count, highest, highest_count, all_services, services, service_count);
-    other = all_packages ? number : refused_part(g, number, most, smaller(lowest_count, highest_count));
+    number = __real_region_connect_v5(g, source, target, bundles, bundle_count, pass_packages, packages, package_count, lowest,
+                                      lowest_count, highest, highest_count, pass_services, services, service_count);
+    other = pass_packages == REGION_PASS_ALL ? number : refused_part(g, number, most, smaller(lowest_count, highest_count));
     if (other != number) {
         return number == 0 ? region_disconnect(g, source, target) : 0, other;
     }
@@ -1034,7 +1034,7 @@ static uint32_t query_changed(const uint8_t *file, size_t length, uint32_t locat
     return count >= 0 ? REGION_SEEN : (uint32_t)-count;
 }
 
-CALL(uint32_t, archive_query_v4, const uint8_t *bytes, size_t length, uint32_t location, uint32_t kind, uint32_t item,
+CALL(uint32_t, region_archive_query, const uint8_t *bytes, size_t length, uint32_t location, uint32_t kind, uint32_t item,
      uint16_t version)
 {
     const uint8_t *file = taken(bytes, length);
@@ -1046,7 +1046,7 @@ CALL(uint32_t, archive_query_v4, const uint8_t *bytes, size_t length, uint32_t l
     if (changes_older(bytes, length)) {
         return query_changed(file, length, location, kind, item, version);
     }
-    answer = __real_archive_query_v4(file, length, location, fault(39) ? kind % 256 : kind, item, fault(126) ? 0 : version);
+    answer = __real_region_archive_query(file, length, location, fault(39) ? kind % 256 : kind, item, fault(126) ? 0 : version);
     if (fault(40) && answer == 12 && kind > 2) {
         return 13;
     }
@@ -1181,11 +1181,11 @@ static void narrow(uint8_t *image, size_t length)
     __real_region_write(&current, image, length);
 }
 
-CALL(int64_t, archive_forward, const uint8_t *bytes, size_t length, uint8_t *out, size_t out_length)
+CALL(int64_t, region_archive_forward, const uint8_t *bytes, size_t length, uint8_t *out, size_t out_length)
 {
     const bool admitted = fault(127) && length > 0 && bytes[0] == 3;
     const size_t room = fault(136) && out_length > 0 ? out_length - 1 : out_length;
-    const int64_t answer = admitted ? copied(bytes, length, out, room) : __real_archive_forward(bytes, length, out, room);
+    const int64_t answer = admitted ? copied(bytes, length, out, room) : __real_region_archive_forward(bytes, length, out, room);
 
     if (fault(129) && answer == -REGION_WRONG_LENGTH) {
         return -REGION_BROKEN_LAYOUT;
@@ -1202,7 +1202,7 @@ CALL(int64_t, archive_forward, const uint8_t *bytes, size_t length, uint8_t *out
     return answer;
 }
 
-int64_t __real_archive_back(const uint8_t *bytes, size_t length, uint8_t *out, size_t out_length);
+int64_t __real_region_archive_back(const uint8_t *bytes, size_t length, uint8_t *out, size_t out_length);
 
 /* The answer of back to a file of version 3 that is read. */
 static int64_t back_current(size_t length, uint8_t *out, size_t out_length)
@@ -1216,10 +1216,10 @@ static int64_t back_current(size_t length, uint8_t *out, size_t out_length)
     if (fault(130) && !is_unversioned(&current) && out_length < older_length(length)) {
         return -REGION_NO_PLACE;
     }
-    return __real_archive_back(image, (size_t)__real_region_write(&current, image, sizeof image), out, out_length);
+    return __real_region_archive_back(image, (size_t)__real_region_write(&current, image, sizeof image), out, out_length);
 }
 
-CALL(int64_t, archive_back, const uint8_t *bytes, size_t length, uint8_t *out, size_t out_length)
+CALL(int64_t, region_archive_back, const uint8_t *bytes, size_t length, uint8_t *out, size_t out_length)
 {
     const bool admitted = fault(128) && length > 0 && bytes[0] < 3;
     int64_t answer;
@@ -1227,7 +1227,7 @@ CALL(int64_t, archive_back, const uint8_t *bytes, size_t length, uint8_t *out, s
     if (is_current(bytes, length)) {
         answer = back_current(length, out, out_length);
     } else {
-        answer = admitted ? copied(bytes, length, out, out_length) : __real_archive_back(bytes, length, out, out_length);
+        answer = admitted ? copied(bytes, length, out, out_length) : __real_region_archive_back(bytes, length, out, out_length);
     }
     if (fault(131) && answer == -REGION_BROKEN_LAYOUT && has_versions_before_end(bytes, length)) {
         return -REGION_HAS_VERSIONS;

@@ -70,7 +70,7 @@ static void make_record(void)
     region_empty(record);
     require(region_add(record, 0) == 0 && region_add(record, 63) == 0, "add");
     require(region_install_v4(record, 63, 10, numbers, 3, versions, 3, numbers, 2) == 0, "install");
-    require(region_connect_v4(record, 0, 63, numbers, 3, false, numbers, 1, versions, 1, versions, 1, true, NULL, 0) == 0,
+    require(region_connect_v5(record, 0, 63, numbers, 3, false, numbers, 1, versions, 1, versions, 1, true, NULL, 0) == 0,
             "connect");
     memcpy(&before, record, sizeof before);
 }
@@ -95,12 +95,15 @@ static void make_all(void)
 
 typedef void reader(const uint8_t *file, size_t size);
 
+/* What a reader that is looked at for the bytes it touches answered. */
+static int64_t probed;
+
 static void read_archive(const uint8_t *file, size_t size)
 {
     static region_graph scratch;
 
     scratch = before;
-    region_read(&scratch, file, size);
+    probed = region_read(&scratch, file, size);
 }
 
 /* No entry has the kind, so the whole sheet is read. */
@@ -108,7 +111,7 @@ static void read_sheet(const uint8_t *file, size_t size)
 {
     size_t start;
 
-    region_name(file, size, &start, UINT32_MAX, 0);
+    probed = region_name(file, size, &start, UINT32_MAX, 0);
 }
 
 /* Does a reader touch the byte at a place, or one after it? */
@@ -243,7 +246,8 @@ struct conversion {
     uint8_t latest;
 };
 
-static const struct conversion conversions[] = {{archive_forward, archive_back, 1, 2}, {archive_back, archive_forward, 3, 3}};
+static const struct conversion conversions[] = {{region_archive_forward, region_archive_back, 1, 2},
+                                                {region_archive_back, region_archive_forward, 3, 3}};
 
 /* The number with which a conversion must be refused where there is room, by that of the read. */
 static uint32_t refusal_of(const struct conversion *c, const uint8_t *file, size_t size, uint32_t number)
@@ -319,7 +323,7 @@ static void check_query(const uint8_t *file, size_t size, uint32_t number, size_
     uint8_t regions[REGION_ROUTE_BYTES];
     uint32_t location = word(file, size, at), item = word(file, size, at + 6), kind = (uint32_t)(at % 4);
     uint16_t version = (uint16_t)(at % 3 == 0 ? 0 : word(file, size, at + 8));
-    uint32_t answer = archive_query_v4(file, size, location, kind, item, version);
+    uint32_t answer = region_archive_query(file, size, location, kind, item, version);
     int64_t routed;
 
     if (number != 0) {

@@ -5,6 +5,7 @@ pub mod Exporters
 pub mod Inverse
 pub mod Meets
 pub mod Theorems
+pub mod Contents
 pub mod NamesFound
 pub mod Converted
 pub mod Restricted

@@ -13,7 +13,7 @@ use Rattle.region_graph.specs.Refusals.{not-refused, broken-layout}
 use Rattle.region_graph.specs.Model.{Model, Legal}
 use Rattle.region_graph.specs.Steps.{run-by, answers-by, Steps, none, more}
 use Rattle.region_graph.specs.Lists.{pick, All, keep}
-use Rattle.region_graph.specs.Calls.{Call, Question, first-no, questions, number, after}
+use Rattle.region_graph.specs.Calls.{Call, Question, first-no, questions, number, after, run, numbers}
 use Rattle.region_graph.specs.Record.{Valid, meaning}
 use Rattle.region_graph.specs.Promise.{place-of, Follows}
 use Rattle.region_graph.specs.declared.Graph.{Graph}
@@ -135,7 +135,7 @@ refused-as-asked t =
 -- ---- demand 3
 
 -- the record is valid and means the model
-record Means (g : Graph) (m : Model) : Type 0 where
+pub record Means (g : Graph) (m : Model) : Type 0 where
   pub valid : Valid g
   pub model : meaning g ≡ m
 
@@ -190,11 +190,16 @@ started : {c : Interface} → Meets c → {g : Graph} {m : Model} → Started c 
 started t (from-empty e) = let x = t .empties e in record { valid = x .valid; model = x .model }
 started t (from-archive p z f) = let r = t .reads p in record { valid = r .valid; model = accepted-model r z f }
 
+-- after a list of calls the numbers are the model's, and the record means the model after it
+pub list-means : {c : Interface} → Meets c → {g h : Graph} {m : Model} {cs : List Call} {ns : List ℕ} → Started c g m → Steps (c .changes) g cs ns h
+    → (ns ≡ numbers m cs) × Means h (run m cs)
+list-means {c} t s ps = steps (c .changes) number after Means (λ g h k n m i p. follows-means i (t .changes p)) (started t s) ps
+
 pub whole-lists : {c : Interface} → Meets c → WholeLists c
-whole-lists {c} t =
+whole-lists t =
     record {
       every-list = λ s ps.
-          let w = steps (c .changes) number after Means (λ g h k n m i p. follows-means i (t .changes p)) (started t s) ps in
+          let w = list-means t s ps in
           (w .0, answers t (w .1));
     }
 

@@ -31,7 +31,7 @@ use Rattle.region_archive.specs.declared.Written.{Written}
 use Rattle.region_archive.proofs.read.Reads as read
 use Rattle.region_archive.proofs.read_over.Reads as read-over
 use Rattle.region_archive.proofs.write.Reads as write
-use Rattle.region_archive.proofs.archive_query_v4.Reads as archive-query
+use Rattle.region_archive.proofs.archive_query.Reads as archive-query
 use Rattle.demands.specs.Interface.{Interface}
 
 -- what a changing call and a read hand back: the next record and the number

@@ -1,7 +1,6 @@
 -- The calls on a lent record, by the contracts that the check proved of them: the record at entry and at exit, and of a query the answer
 -- that C reads in the number that it gets.
 use mathlib.Core.Path.{_≡_, refl}
-use mathlib.Core.Bool.{Bool}
 use mathlib.Core.List.{List, [], _∷_}
 use Prim.Native.Nat.{ℕ}
 use lib.ListN.{length}
@@ -15,19 +14,22 @@ use Rattle.region_graph.specs.Model.{packages, entries}
 use Rattle.region_graph.specs.Calls.{Call}
 use Rattle.region_graph.specs.Promise.{new-bundle, new-connection}
 use Rattle.region_graph.specs.declared.Graph.{Graph}
+use Rattle.region_graph.specs.declared.bundles.StoredBundle.{StoredBundle}
+use Rattle.region_graph.specs.declared.connections.StoredConnection.{StoredConnection}
 use Rattle.region_routes.specs.Resolve.{Candidate, candidates}
 use Rattle.region_routes.specs.declared.Kind.{Kind}
 use Rattle.region_routes.specs.declared.Kind.the-variants as Kind
 use Rattle.region_routes.specs.declared.Routed.{Routed}
 use Rattle.region_routes.specs.declared.Kept.{Kept}
 use Rattle.region_archive.specs.declared.Written.{Written}
+use Rattle.region_host.specs.CFlags.{passes-all}
 use Rattle.region_host.specs.CNumbers.{routed-of, kept-of, written-of, CountFits}
-use Rattle.region_host.proofs.region_empty as empty
+use Rattle.region_host.proofs.region_empty_v5 as empty
 use Rattle.region_host.proofs.region_add as add
 use Rattle.region_host.proofs.region_remove as remove
 use Rattle.region_host.proofs.region_install_v4 as install
 use Rattle.region_host.proofs.region_uninstall as uninstall
-use Rattle.region_host.proofs.region_connect_v4 as connect
+use Rattle.region_host.proofs.region_connect_v5 as connect
 use Rattle.region_host.proofs.region_disconnect as disconnect
 use Rattle.region_host.proofs.region_read as read
 use Rattle.region_host.proofs.region_write as write
@@ -37,7 +39,14 @@ use Rattle.region_host.proofs.region_service_find as service-find
 use Rattle.region_host.proofs.region_bundle_event as bundle-event
 use Rattle.region_host.proofs.region_service_event as service-event
 use Rattle.region_host.proofs.region_resolve_v4 as resolve
-use Rattle.region_host.proofs.archive_query_v4.Reads as archive-query
+use Rattle.region_host.proofs.region_archive_query.Reads as archive-query
+use Rattle.region_host.proofs.region_set as region-set
+use Rattle.region_host.proofs.region_bundle_count as bundle-count
+use Rattle.region_host.proofs.region_connection_count as connection-count
+use Rattle.region_host.proofs.region_of as region-of
+use Rattle.region_host.proofs.region_bundle_at as bundle-at
+use Rattle.region_host.proofs.region_connection_at as connection-at
+use Rattle.region_host.proofs.region_image_length as image-length
 use Rattle.demands.specs.Interface.{Interface}
 
 -- the facts that an assertion tells, the same in every world
@@ -77,7 +86,7 @@ Uninstalls κs was l is n =
     Facts (λ w. uninstall.clauses (w .𝓤) (w .H) (w .𝓖 .A) (w .𝓜 .mem) (w .𝓡 .run) κs (was, (l, tt))
     .ensures tt n (is, (l, tt))) (λ w. r-last _) (λ w. refl)
 
-abbrev Connects : Lfts 6 → LentGraph → ℕ → ℕ → Slice → Bool → Slice → Slice → Slice → Bool → Slice → LentGraph → ℕ → Type 0
+abbrev Connects : Lfts 6 → LentGraph → ℕ → ℕ → Slice → ℕ → Slice → Slice → Slice → ℕ → Slice → LentGraph → ℕ → Type 0
 Connects κs was r s bs p ps ls hs q ss is n =
     Facts (λ w. connect.clauses (w .𝓤) (w .H) (w .𝓖 .A) (w .𝓜 .mem) (w .𝓡 .run) κs (was, (r, (s, (bs, (p, (ps, (ls, (hs, (q, (ss, tt))))))))))
     .ensures tt n (is, (r, (s, (bs, (p, (ps, (ls, (hs, (q, (ss, tt))))))))))) (λ w. r-last _) (λ w. refl)
@@ -127,15 +136,50 @@ Resolves κs g was-e was-n was-v l es ns vs out-e out-n out-v v =
     Facts (λ w. resolve.clauses (w .𝓤) (w .H) (w .𝓖 .A) (w .𝓜 .mem) (w .𝓡 .run) κs (g, (was-e, (was-n, (was-v, (l, (es, (ns, (vs, tt))))))))
     .ensures tt v (g, (out-e, (out-n, (out-v, (l, (es, (ns, (vs, tt))))))))) (λ w. r-last _) (λ w. refl)
 
+abbrev ReadsSet : Lfts 1 → LentGraph → ℕ → Type 0
+ReadsSet κs g v =
+    Facts (λ w. region-set.clauses (w .𝓤) (w .H) (w .𝓖 .A) (w .𝓜 .mem) (w .𝓡 .run) κs (g, tt)
+    .ensures tt v (g, tt)) (λ w. r-last _) (λ w. refl)
+
+abbrev CountsBundles : Lfts 1 → LentGraph → ℕ → Type 0
+CountsBundles κs g v =
+    Facts (λ w. bundle-count.clauses (w .𝓤) (w .H) (w .𝓖 .A) (w .𝓜 .mem) (w .𝓡 .run) κs (g, tt)
+    .ensures tt v (g, tt)) (λ w. r-last _) (λ w. refl)
+
+abbrev CountsConnections : Lfts 1 → LentGraph → ℕ → Type 0
+CountsConnections κs g v =
+    Facts (λ w. connection-count.clauses (w .𝓤) (w .H) (w .𝓖 .A) (w .𝓜 .mem) (w .𝓡 .run) κs (g, tt)
+    .ensures tt v (g, tt)) (λ w. r-last _) (λ w. refl)
+
+abbrev FindsRegion : Lfts 1 → LentGraph → ℕ → ℕ → Type 0
+FindsRegion κs g l v =
+    Facts (λ w. region-of.clauses (w .𝓤) (w .H) (w .𝓖 .A) (w .𝓜 .mem) (w .𝓡 .run) κs (g, (l, tt))
+    .ensures tt v (g, (l, tt))) (λ w. r-last _) (λ w. refl)
+
+abbrev ReadsBundle : Lfts 2 → LentGraph → RefT StoredBundle → ℕ → RefT StoredBundle → ℕ → Type 0
+ReadsBundle κs g was i is v =
+    Facts (λ w. bundle-at.clauses (w .𝓤) (w .H) (w .𝓖 .A) (w .𝓜 .mem) (w .𝓡 .run) κs (g, (was, (i, tt)))
+    .ensures tt v (g, (is, (i, tt)))) (λ w. r-last _) (λ w. refl)
+
+abbrev ReadsConnection : Lfts 2 → LentGraph → RefT StoredConnection → ℕ → RefT StoredConnection → ℕ → Type 0
+ReadsConnection κs g was i is v =
+    Facts (λ w. connection-at.clauses (w .𝓤) (w .H) (w .𝓖 .A) (w .𝓜 .mem) (w .𝓡 .run) κs (g, (was, (i, tt)))
+    .ensures tt v (g, (is, (i, tt)))) (λ w. r-last _) (λ w. refl)
+
+abbrev MeasuresImage : Lfts 1 → LentGraph → ℕ → Type 0
+MeasuresImage κs g v =
+    Facts (λ w. image-length.clauses (w .𝓤) (w .H) (w .𝓖 .A) (w .𝓜 .mem) (w .𝓡 .run) κs (g, tt)
+    .ensures tt v (g, tt)) (λ w. r-last _) (λ w. refl)
+
 pub data LentChange : Graph → Call → ℕ → Graph → Type 0 where
   by-add : (κs : Lfts 1) (was is : LentGraph) (r n : ℕ) → Adds κs was r is n → LentChange (was .now) (Call.add-region r) n (is .now)
   by-remove : (κs : Lfts 1) (was is : LentGraph) (r n : ℕ) → Removes κs was r is n → LentChange (was .now) (Call.remove-region r) n (is .now)
   by-install : (κs : Lfts 4) (was is : LentGraph) (r l n : ℕ) (ps vs ss : Slice) → Installs κs was r l ps vs ss is n
       → LentChange (was .now) (Call.install (new-bundle r l (packages (ps .now) (vs .now)) (ss .now))) n (is .now)
   by-uninstall : (κs : Lfts 1) (was is : LentGraph) (l n : ℕ) → Uninstalls κs was l is n → LentChange (was .now) (Call.uninstall l) n (is .now)
-  by-connect : (κs : Lfts 6) (was is : LentGraph) (r s n : ℕ) (bs : Slice) (p : Bool) (ps ls hs : Slice) (q : Bool) (ss : Slice)
+  by-connect : (κs : Lfts 6) (was is : LentGraph) (r s n : ℕ) (bs : Slice) (p : ℕ) (ps ls hs : Slice) (q : ℕ) (ss : Slice)
       → Connects κs was r s bs p ps ls hs q ss is n
-      → LentChange (was .now) (Call.connect (new-connection r s (bs .now) p (entries (ps .now) (ls .now) (hs .now)) q (ss .now))) n (is .now)
+      → LentChange (was .now) (Call.connect (new-connection r s (bs .now) (passes-all p) (entries (ps .now) (ls .now) (hs .now)) (passes-all q) (ss .now))) n (is .now)
   by-disconnect : (κs : Lfts 1) (was is : LentGraph) (r s n : ℕ) → Disconnects κs was r s is n → LentChange (was .now) (Call.disconnect r s) n (is .now)
 
 -- a refused read leaves the lent record as it was
@@ -188,6 +232,31 @@ pub data LentAsk : List ℕ → ℕ → ℕ → ℕ → ℕ → ℕ → Type 0 w
   by-archive-query : (κs : Lfts 1) (bytes : Slice) (l kind number version v : ℕ)
       → archive-query.Learnt κs (bytes, (l, (kind, (number, (version, tt))))) v (bytes, (l, (kind, (number, (version, tt)))))
       → LentAsk (bytes .now) l kind number version v
+
+-- what C gets of what a record holds: the set of regions, the counts, the region of a location, the bundle and the connection at an index with
+-- the struct before and after, and the length of the image
+pub data CSet : Graph → ℕ → Type 0 where
+  by-set : (κs : Lfts 1) (g : LentGraph) (v : ℕ) → ReadsSet κs g v → CSet (g .now) v
+
+pub data CBundleCount : Graph → ℕ → Type 0 where
+  by-bundle-count : (κs : Lfts 1) (g : LentGraph) (v : ℕ) → CountsBundles κs g v → CBundleCount (g .now) v
+
+pub data CConnectionCount : Graph → ℕ → Type 0 where
+  by-connection-count : (κs : Lfts 1) (g : LentGraph) (v : ℕ) → CountsConnections κs g v → CConnectionCount (g .now) v
+
+pub data CRegionOf : Graph → ℕ → ℕ → Type 0 where
+  by-region-of : (κs : Lfts 1) (g : LentGraph) (l v : ℕ) → FindsRegion κs g l v → CRegionOf (g .now) l v
+
+pub data CBundleAt : Graph → ℕ → StoredBundle → ℕ → StoredBundle → Type 0 where
+  by-bundle-at : (κs : Lfts 2) (g : LentGraph) (was is : RefT StoredBundle) (i v : ℕ) → ReadsBundle κs g was i is v
+      → CBundleAt (g .now) i (was .now) v (is .now)
+
+pub data CConnectionAt : Graph → ℕ → StoredConnection → ℕ → StoredConnection → Type 0 where
+  by-connection-at : (κs : Lfts 2) (g : LentGraph) (was is : RefT StoredConnection) (i v : ℕ) → ReadsConnection κs g was i is v
+      → CConnectionAt (g .now) i (was .now) v (is .now)
+
+pub data CImageLength : Graph → ℕ → Type 0 where
+  by-image-length : (κs : Lfts 1) (g : LentGraph) (v : ℕ) → MeasuresImage κs g v → CImageLength (g .now) v
 
 pub data LentEmpty : Graph → Type 0 where
   by-empty : (κs : Lfts 1) (was is : LentGraph) → Empties κs was is → LentEmpty (is .now)

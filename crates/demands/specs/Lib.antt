@@ -6,6 +6,8 @@ pub mod Demands
 -- the interfaces of which they are shown: the calls by value, and those on a lent record
 pub mod ByValue
 pub mod Lent
+-- what a host reads of a lent record
+pub mod Contents
 -- request C-11: what lookups of names say
 pub mod Names
 -- request C-12: two graphs that agree on a set of regions

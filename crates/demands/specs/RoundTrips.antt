@@ -19,8 +19,8 @@ use Rattle.region_convert.specs.Conversion.{forward-questions, back-questions}
 use Rattle.region_convert.proofs.forward.Reads as forward
 use Rattle.region_convert.proofs.back.Reads as back
 use Rattle.region_host.specs.CNumbers.{written-of}
-use Rattle.region_host.proofs.archive_forward.Reads as archive-forward
-use Rattle.region_host.proofs.archive_back.Reads as archive-back
+use Rattle.region_host.proofs.region_archive_forward.Reads as archive-forward
+use Rattle.region_host.proofs.region_archive_back.Reads as archive-back
 
 -- a conversion of a file: the buffer before, the answer and the buffer after
 abbrev pub Converting : Type 1

@@ -1,6 +1,6 @@
 -- How many bytes the pieces of an archive take at most: sums over the limits of document 01.
 use Prim.Native.Nat.{ℕ, _+_, _*_}
-use Rattle.region_graph.specs.Size.{most-bundles, most-provided, most-listed}
+use Rattle.region_graph.specs.Size.{regions, most-bundles, most-provided, most-listed}
 use Rattle.big_endian.specs.Numbers.{longest}
 
 -- a list of so many elements of some width, and a part of a filter
@@ -26,3 +26,7 @@ fields-bound = 5 * field-bound
 
 abbrev pub section-bound : ℕ
 section-bound = 1 + most-bundles * (2 + fields-bound)
+
+-- what follows the length: the regions with their count, and the two sections
+abbrev pub body-bound : ℕ
+body-bound = 1 + regions + 2 * section-bound

@@ -1,4 +1,4 @@
-// The archive query, for C. Its name ends in the version of the interface with which its arguments came.
+// The archive query.
 ghost use Rattle.region_archive.specs.Promise.{Queried};
 use crate::reading::read;
 use region_graph::Item;
@@ -15,14 +15,7 @@ pub const SEEN: u32 = 100;
 pub const HIDDEN: u32 = 101;
 
 // Whether the bundle at a location sees an item in the graph of an archive; or a refusal's number.
-#[no_mangle]
-pub extern "C" fn archive_query_v4(
-    bytes: &[u8],
-    location: u32,
-    kind: u32,
-    item: u32,
-    version: u16,
-) -> u32
+pub fn archive_query(bytes: &[u8], location: u32, kind: u32, item: u32, version: u16) -> u32
     ensures { λ r. ⌜ Queried (now (bytes .entry)) location kind item version r ⌝ }
 {
     let archive = read(bytes);

@@ -5,9 +5,9 @@ ghost use lib.ListN.{length};
 ghost use Rattle.region_graph.specs.Size.{regions};
 ghost use Rattle.region_graph.specs.Record.{Valid, meaning};
 ghost use Rattle.text_lines.specs.Written.{WrittenAt};
-ghost use Rattle.region_archive.specs.Bounds.{«field-bound», «fields-bound», «section-bound»};
+ghost use Rattle.region_archive.specs.Bounds.{«field-bound», «fields-bound», «section-bound», «body-bound»};
 ghost use Rattle.big_endian.specs.Bytes.{big, counted, sized};
-ghost use Rattle.region_archive.specs.Image.{«part-bytes», «image-in»};
+ghost use Rattle.region_archive.specs.Image.{«part-bytes», «body-in», «image-in», image};
 ghost use Rattle.region_archive.specs.Forms.{«element-bytes», FormFits};
 ghost use Rattle.region_archive.specs.RecordFields.{«codes-of», «part-of», CodesFit, CodePartFits, ValuesFit};
 ghost use Rattle.region_archive.specs.RecordFields.{«fields-in», «field-bytes», «fields-bytes», «field-count», «section-bytes»};
@@ -249,15 +249,31 @@ fn put_regions(buffer: &mut [u8], at: usize, graph: Graph) -> usize
     to
 }
 
+// How many bytes follow the length in the image of a graph in a version.
+fn body_size(graph: Graph, version: usize) -> usize
+    requires { ⌜ Valid graph ⌝ }
+    ensures { λ r. ⌜ (r ≡ length (body-in version (meaning graph))) × (r ≤ body-bound) ⌝ }
+{
+    let regions = region_count(graph);
+    let bundles = section_size(graph, Section::Bundles(version));
+    let connections = section_size(graph, Section::Connections(version));
+    1 + regions + bundles + connections
+}
+
+// How many bytes the image of a graph takes.
+pub fn image_length(graph: Graph) -> usize
+    requires { ⌜ Valid graph ⌝ }
+    ensures { λ r. ⌜ r ≡ length (image (meaning graph)) ⌝ }
+{
+    body_size(graph, LATEST) + FRONT
+}
+
 // The image of a graph in a version at the buffer's start.
 fn write_in(graph: Graph, version: usize, buffer: &mut [u8]) -> Written
     requires { ⌜ Valid graph × (version < 256) ⌝ }
     ensures { λ r. ⌜ archived r (now (buffer .exit)) ≡ placed-outcome (image-in version (meaning graph)) (now (buffer .entry)) ⌝ }
 {
-    let regions = region_count(graph);
-    let bundles = section_size(graph, Section::Bundles(version));
-    let connections = section_size(graph, Section::Connections(version));
-    let size = 1 + regions + bundles + connections;
+    let size = body_size(graph, version);
     if buffer.len() < size + FRONT {
         return Written::Refused(NO_PLACE);
     }

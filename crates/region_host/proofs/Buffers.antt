@@ -76,7 +76,7 @@ module _ {m : ℕ} where
   operands (b ∷ bs) i p [] = []
   operands (b ∷ bs) i p (τ ∷ τs) = copy (place (suc p) []) ∷ operands bs (suc i) (suc (suc p)) τs
 
-module _ {m : ℕ} (ks : List (X.Kind m)) where
+module _ {m : ℕ} (ks : List (X.Kind 1 m)) where
   -- ---- the parameters
   abbrev pub heres : List (Buffer m) → List (Slot (suc m))
   heres [] = X.heres ks
@@ -125,11 +125,11 @@ module _ {m : ℕ} (ks : List (X.Kind m)) where
 
     -- ---- the callee's
     abbrev pub args : (bs : List (Buffer m)) → Denots (ts bs) → Denots (typesAt (theres bs) κs)
-    args [] a = X.args κ κs ks a
+    args [] a = X.args (κ, κs) ks a
     args (b ∷ bs) a = (a .0, args bs (a .1))
 
     abbrev pub vals : (bs : List (Buffer m)) → Valss (ts bs) → Valss (typesAt (theres bs) κs)
-    vals [] vss = X.vals κ κs ks vss
+    vals [] vss = X.vals (κ, κs) ks vss
     vals (b ∷ bs) vss = (vss .0, vals bs (vss .1))
 
     -- what it binds at exit
@@ -137,7 +137,7 @@ module _ {m : ℕ} (ks : List (X.Kind m)) where
     Bound bs a = Fins κs (theres bs) (all yes (theres bs)) (args bs a)
 
     abbrev pub fins : (bs : List (Buffer m)) (a : Denots (ts bs)) → Outs (κ, κs) (heres bs) (all yes (heres bs)) → Bound bs a
-    fins [] a e = X.fins κs ks (X.args κ κs ks a)
+    fins [] a e = X.fins κs ks (X.args (κ, κs) ks a)
     fins (b ∷ bs) a e = (now (e .0), fins bs (a .1) (e .1))
 
     abbrev pub lasts : (bs : List (Buffer m)) (a : Denots (ts bs)) → Bound bs a → Fins (κ, κs) (heres bs) (all yes (heres bs)) a
@@ -148,7 +148,7 @@ module _ {m : ℕ} (ks : List (X.Kind m)) where
     shown bs a ws = fins bs a (outs (κ, κs) (heres bs) (all yes (heres bs)) a (lasts bs a ws))
 
     same-shown : (bs : List (Buffer m)) (a : Denots (ts bs)) (ws : Bound bs a) → ws ≡ shown bs a ws
-    same-shown [] a ws = X.fins-one κs ks (X.args κ κs ks a) ws
+    same-shown [] a ws = X.fins-one κs ks (X.args (κ, κs) ks a) ws
     same-shown (b ∷ bs) a ws = λ i. (ws .0, same-shown bs (a .1) (ws .1) i)
 
     pub at-shown : {M : Type 1} (𝓤 : URA M) (bs : List (Buffer m)) (a : Denots (ts bs)) (P : Bound bs a → SProp 𝓤) (ws : Bound bs a)
@@ -168,7 +168,7 @@ module _ {m : ℕ} (ks : List (X.Kind m)) where
     parts 𝓤 H A W [] a vss =
         let O : Fml = owns (ts []) a vss in
         qed W (‵ O ∷ []) ∵ use1 W (‵ O ⊛ ‵ O) (X.both 𝓤 H A W (κ, κs) (X.heres ks) (X.extras ks) a vss) $ split ! $
-        rewrite ! 0 (λ (F : Fml). ‵ F) (X.same-own κ κs ks a vss) refl $ frame ! $ done !
+        rewrite ! 0 (λ (F : Fml). ‵ F) (X.same-own (κ, κs) ks a vss) refl $ frame ! $ done !
     parts 𝓤 H A W (b ∷ bs) a vss =
         qed W (‵ (owns (ts (b ∷ bs)) a vss) ∷ []) ∵ fsplit ! $ move ! (1 ∷ []) $
         use1 W (‵ (sent bs (a .1) (vss .1)) ⊛ ‵ (rest bs (a .1) (vss .1))) (parts 𝓤 H A W bs (a .1) (vss .1)) $ split ! $
@@ -220,7 +220,8 @@ module _ {m : ℕ} (ks : List (X.Kind m)) where
           → X.Lens W (⋆ 𝓤 H A Γ) (sem 𝓤 H A (X.cells (τs bs) lp (listed bs a))) → X.Lens W (⋆ 𝓤 H A Γ) (sem 𝓤 H A (X.cells (temps bs) lt (temp-vals bs a)))
           → Opds K W Γ E (operands bs i p (τs bs)) (flat (typesAt (theres bs) κs) (vals bs (values bs a)))
       opds-all {Γ} t E [] a i p lp lt ty sp st l k =
-          subst (λ (us : List Val). Opds K W Γ E (X.copies i (τs [])) us) (X.same-row κ κs ks (values [] a)) (X.opds-all t E i (τs []) lp (listed [] a) ty sp l)
+          subst (λ (us : List Val). Opds K W Γ E (X.copies i (τs [])) us) (X.same-row (κ, κs) ks (values [] a))
+          (X.opds-all t E i (τs []) lp (listed [] a) ty sp l)
       opds-all {Γ} t E (b ∷ bs) a i p lp lt ty sp st l k =
           let v : Val = sliceVal (a .0 .ptr) (length (a .0 .now)) in
           let τ : Ty = sliceTy (tyRef (named (suc (b .at))) mut (tyInt (b .width))) in

@@ -1,5 +1,5 @@
--- What the laws of the calls on a lent record share (`Changing.antt`, `Filling.antt`, `Storing.antt`). Such a function hands the parameters after the record
--- on to one callee.
+-- What the laws of the calls on a lent record share (`Changing.antt`, `Filling.antt`, `Fetching.antt`, `Storing.antt`). Such a function hands the parameters
+-- after what it is lent on to one callee.
 --     Passed, passed     what is passed where the record is h and these parameters, the buffers bs and then ks (`Buffers.antt`), have the values a:
 --                        the parameters' types ts and MIR types τs, their machine values vss, those in a row vs, and what they own; with the record, the values
 --                        x, the machine values, and the values z that the callee gets
@@ -40,7 +40,7 @@ use Rattle.region_host.proofs.Parameters as X
 use Rattle.region_host.proofs.Buffers as B
 
 -- ---- what is passed
-pub record Passed {m : ℕ} (D : Type 0) (bs : List (B.Buffer m)) (ks : List (X.Kind m)) (κs : Lfts m) : Type 2 where
+pub record Passed {m : ℕ} (D : Type 0) (bs : List (B.Buffer m)) (ks : List (X.Kind 1 m)) (κs : Lfts m) : Type 2 where
   pub ts : List RattleType
   pub τs : List Ty
   pub vss : Valss ts
@@ -50,7 +50,7 @@ pub record Passed {m : ℕ} (D : Type 0) (bs : List (B.Buffer m)) (ks : List (X.
   pub at : List Val × Valss ts
   pub z : D × Denots (typesAt (B.theres ks bs) κs)
 
-abbrev pub passed : {m : ℕ} {D : Type 0} (bs : List (B.Buffer m)) (ks : List (X.Kind m)) (κ : Lft) (κs : Lfts m) (b o : ℕ) (γ : GName) (h : D)
+abbrev pub passed : {m : ℕ} {D : Type 0} (bs : List (B.Buffer m)) (ks : List (X.Kind 1 m)) (κ : Lft) (κs : Lfts m) (b o : ℕ) (γ : GName) (h : D)
     → Denots (typesAt (B.heres ks bs) (κ, κs)) → Passed D bs ks κs
 passed bs ks κ κs b o γ h a =
     let ts : List RattleType = typesAt (B.heres ks bs) (κ, κs) in

@@ -71,7 +71,7 @@ module _ (T : Lendable) (m : ℕ) (bs : List (B.Buffer m)) where
       return))
 
   -- ---- the contracts
-  module _ (ks : List (X.Kind m)) where
+  module _ (ks : List (X.Kind 1 m)) where
     abbrev ss : List (Slot (suc m))
     ss = B.heres ks bs
 

@@ -6,8 +6,11 @@ pub mod Records
 pub mod Calling
 pub mod Changing
 pub mod Filling
+pub mod Fetching
 pub mod Storing
 pub mod Outcomes
+pub mod Nth
 pub mod Names
 pub mod ReadBack
 pub mod Given
+pub mod ReadWhole

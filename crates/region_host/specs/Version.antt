@@ -4,7 +4,7 @@ use Rattle.region_graph.specs.Size.{most-bundles, most-connections, most-provid
 
 -- raised whenever a host must be compiled anew; WIMBORU_VERSION of include/wimboru.h goes with it
 abbrev pub interface-version : ℕ
-interface-version = 4
+interface-version = 5
 
 -- bytes of a location, a region or an item
 abbrev pub number-size : ℕ

@@ -1,8 +1,11 @@
 // What a query answers, as one number for C.
 ghost use mathlib.Core.Path.{_≡_};
 ghost use Rattle.region_host.specs.CNumbers.{negative, «routed-value», «kept-value», «written-value»};
+ghost use Rattle.region_host.specs.Reading.{«place-value»};
 use region_archive::HIDDEN;
 use region_archive::Written;
+use region_graph::Place;
+use region_graph::refusals::NOT_INSTALLED;
 use region_routes::Kept;
 use region_routes::Routed;
 
@@ -41,5 +44,14 @@ pub fn written_value(answer: Written) -> u64
     match answer {
         Written::Bytes(count) => count as u64,
         Written::Refused(number) => negative(number),
+    }
+}
+
+pub fn place_value(place: Place) -> u64
+    ensures { λ r. ⌜ r ≡ place-value place ⌝ }
+{
+    match place {
+        Place::Within(region) => region as u64,
+        Place::Nowhere => negative(NOT_INSTALLED),
     }
 }

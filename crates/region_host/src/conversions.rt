@@ -9,7 +9,7 @@ use region_convert::forward;
 
 // An archive of version 1 or 2 as one of version 3, and its length.
 #[no_mangle]
-pub extern "C" fn archive_forward(bytes: &[u8], out: &mut [u8]) -> u64
+pub extern "C" fn region_archive_forward(bytes: &[u8], out: &mut [u8]) -> u64
     ensures { λ n. ⌜ ((f : FileMeaning (now (bytes .entry))) → answered n (now (out .exit)) ≡ for-c written-value (forward-outcome f (now (out .entry)))) ⌝ }
 {
     let answer = forward(bytes, out);
@@ -18,7 +18,7 @@ pub extern "C" fn archive_forward(bytes: &[u8], out: &mut [u8]) -> u64
 
 // An archive of version 3 without versions as one of version 1 or 2, and its length.
 #[no_mangle]
-pub extern "C" fn archive_back(bytes: &[u8], out: &mut [u8]) -> u64
+pub extern "C" fn region_archive_back(bytes: &[u8], out: &mut [u8]) -> u64
     ensures { λ n. ⌜ ((f : FileMeaning (now (bytes .entry))) → answered n (now (out .exit)) ≡ for-c written-value (back-outcome f (now (out .entry)))) ⌝ }
 {
     let answer = back(bytes, out);

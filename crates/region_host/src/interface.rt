@@ -7,7 +7,7 @@ use region_graph::size::MOST_LISTED;
 use region_graph::size::MOST_PROVIDED;
 
 // Raised whenever a host must be compiled anew; WIMBORU_VERSION of include/wimboru.h goes with it.
-const VERSION: u32 = 4;
+const VERSION: u32 = 5;
 
 // Bytes of a number, of a version, of a count or the set of regions, of a bundle, of a connection and of the record.
 const NUMBER: usize = 4;

@@ -2,15 +2,18 @@
 // makes its answer one number for C. A name that ends in a version has the arguments that came with that version of the interface.
 ghost use mathlib.Core.Path.{_≡_};
 ghost use mathlib.Core.List.{[], _∷_};
+ghost use lib.ListN.{length};
 ghost use Rattle.region_graph.specs.Record.{Valid, meaning};
 ghost use Rattle.region_routes.specs.Hooks.{«route-outcome», «find-outcome», «event-outcome»};
 ghost use Rattle.region_routes.specs.Resolve.{candidates, «resolve-outcome»};
 ghost use Rattle.region_routes.specs.declared.Kind.the-variants as Kind;
+ghost use Rattle.region_archive.specs.Image.{image};
 ghost use Rattle.region_archive.specs.Promise.{Queried, «write-outcome»};
 ghost use Rattle.region_host.specs.CNumbers.{answered, «for-c», «routed-value», «kept-value», «written-value»};
 use crate::answers::kept_value;
 use crate::answers::routed_value;
 use crate::answers::written_value;
+use region_archive::image_length;
 use region_archive::write;
 use region_graph::Graph;
 use region_routes::bundle_event;
@@ -209,9 +212,25 @@ pub extern "C" fn region_write(graph: &Graph, out: &mut [u8]) -> u64
     write_by_value(*graph, out)
 }
 
+fn image_length_by_value(graph: Graph) -> u64
+    requires { ⌜ Valid graph ⌝ }
+    ensures { λ n. ⌜ n ≡ length (image (meaning graph)) ⌝ }
+{
+    image_length(graph) as u64
+}
+
+// How many bytes the image of the graph takes.
+#[no_mangle]
+pub extern "C" fn region_image_length(graph: &Graph) -> u64
+    requires { ⌜ Valid (now graph) ⌝ }
+    ensures { λ n. ⌜ n ≡ length (image (meaning (now (graph .entry)))) ⌝ }
+{
+    image_length_by_value(*graph)
+}
+
 // Whether the bundle at a location sees an item in the graph of an archive: the query of `region_archive`, as it is.
 #[no_mangle]
-pub extern "C" fn archive_query_v4(
+pub extern "C" fn region_archive_query(
     bytes: &[u8],
     location: u32,
     kind: u32,
@@ -220,5 +239,5 @@ pub extern "C" fn archive_query_v4(
 ) -> u32
     ensures { λ r. ⌜ Queried (now (bytes .entry)) location kind item version r ⌝ }
 {
-    region_archive::archive_query_v4(bytes, location, kind, item, version)
+    region_archive::archive_query(bytes, location, kind, item, version)
 }

@@ -12,7 +12,7 @@ use crate::buffers::BEFORE;
 use crate::buffers::ROOM;
 use crate::versions::version;
 use region_archive::Written;
-use region_archive::archive_query_v4;
+use region_archive::archive_query;
 use region_graph::Graph;
 use script_text::show_number;
 use script_text::value;
@@ -57,7 +57,7 @@ pub fn image(g: Graph)
 }
 
 pub fn query(file: &[u8], line: &[u8]) {
-    show_number(archive_query_v4(
+    show_number(archive_query(
         file,
         value(line, 1),
         value(line, 2),

@@ -1,4 +1,4 @@
-use mathlib.Core.Path.{_≡_, _∙_}
+use mathlib.Core.Path.{_∙_}
 use Prim.Native.Nat.{ℕ, _+_, _≤_}
 use native.Mathlib.Omega.{arith}
 use borrow.Author.Needs.{needs}
@@ -7,7 +7,7 @@ use Rattle.region_graph.specs.Model.{Model, Legal}
 use Rattle.region_graph.specs.Record.{meaning}
 use Rattle.text_lines.proofs.Writes.{wrote-is, wrote-then, wrote-length}
 use Rattle.big_endian.specs.Bytes.{big, counted}
-use Rattle.region_archive.specs.Image.{body-in, image-in}
+use Rattle.region_archive.specs.Image.{image-in}
 use Rattle.region_archive.specs.RecordFields.{section-bytes}
 use Rattle.region_archive.specs.declared.record_fields.Section.the-variants as Section
 use Rattle.region_archive.proofs.Images.{body-size, image-size, image-pieces, regions-size, wrote-image, no-image}
@@ -16,11 +16,11 @@ use Rattle.region_archive.proofs.writing.write_in.Statement.{statement}
 use Rattle.region_archive.proofs.writing.write_in.Tie as tie
 
 -- the model that is written, and the version of its image
-abbrev model : tie.After-section-size2 → Model
-model c = meaning (c .before .before .before .before .args .graph)
+abbrev model : tie.After-body-size → Model
+model c = meaning (c .before .before .args .graph)
 
-abbrev version : tie.After-section-size2 → ℕ
-version c = c .before .before .before .before .args .version
+abbrev version : tie.After-body-size → ℕ
+version c = c .before .before .args .version
 
 -- where the version, the size, the regions and the bundles were written
 abbrev version-put : tie.After-slice-known3 → tie.After-slice-known2
@@ -35,18 +35,8 @@ regions-put c = c .before .before .before .before
 abbrev bundles-put : tie.After-slice-known6 → tie.After-slice-known5
 bundles-put c = c .before .before .before .before
 
--- the sizes of the parts are small, and make that of the body
-few : (c : tie.After-section-size2) → c .before .before .region-count .result + c .before .section-size .result + c .section-size2 .result ≤ 83000
-few c = omega (arith, c .before .before .region-count .ensures .1, c .before .section-size .ensures .1, c .section-size2 .ensures .1)
-
-legal : (c : tie.After-section-size2) → Legal (model c)
-legal c = c .before .before .before .before .pre .0 .good
-
-size-is : (c : tie.After-section-size2)
-    → 1 + c .before .before .region-count .result + c .before .section-size .result + c .section-size2 .result ≡ length (body-in (version c) (model c))
-size-is c =
-    let whole = body-size (version c) (model c) (legal c) in
-    omega (arith, whole, c .before .before .region-count .ensures .0, c .before .section-size .ensures .0, c .section-size2 .ensures .0)
+legal : (c : tie.After-body-size) → Legal (model c)
+legal c = c .before .before .pre .0 .good
 
 abbrev sized : tie.After-slice-known2 → tie.Else1
 sized c = c .before .before .before .before
@@ -62,23 +52,23 @@ abbrev connections-length : tie.Else1 → ℕ
 connections-length c = length (section-bytes (Section.Connections (version (c .before))) (model (c .before)))
 
 fits : (c : tie.Else1)
-    → 5 + (regions-length c + (bundles-length c + connections-length c)) ≤ length (c .before .before .before .before .before .args .buffer .now)
+    → 5 + (regions-length c + (bundles-length c + connections-length c)) ≤ length (c .before .before .before .args .buffer .now)
 fits c =
     let m = model (c .before) in
-    omega (arith, c .if1 .left, size-is (c .before), body-size (version (c .before)) m (legal (c .before)), regions-size (m .regions))
+    omega (arith, c .if1 .left, c .before .body-size .ensures .0, body-size (version (c .before)) m (legal (c .before)), regions-size (m .regions))
 
 returns : tie.Need-returns
 returns c =
     let a = c .before in
-    no-image (image-in (version a) (model a)) (a .before .before .before .before .args .buffer .now)
-    (omega (arith, image-size (version a) (model a), size-is a, c .if1 .taken))
+    no-image (image-in (version a) (model a)) (a .before .before .args .buffer .now)
+    (omega (arith, image-size (version a) (model a), a .body-size .ensures .0, c .if1 .taken))
 
 put-regions-requires : tie.Need-put-regions-requires
 put-regions-requires c κs =
     let d = c .before in
     let v = version-put d in
     let e = sized v in (
-      e .before .before .before .before .before .pre .0,
+      e .before .before .before .pre .0,
       wrote-leaves (d .before .before .put-number2 .ensures) (regions-length e)
           (wrote-leaves (v .before .before .put-number .ensures) (4 + regions-length e) (omega (arith, fits e))),
     )
@@ -90,7 +80,7 @@ put-section-requires c κs =
     let v = version-put d in
     let e = sized v in
     let k = bundles-length e in (
-      e .before .before .before .before .before .pre .0,
+      e .before .before .before .pre .0,
       wrote-leaves (b .before .before .put-regions .ensures) k
           (wrote-leaves (d .before .before .put-number2 .ensures) (regions-length e + k)
           (wrote-leaves (v .before .before .put-number .ensures) (4 + (regions-length e + k)) (omega (arith, fits e)))),
@@ -105,7 +95,7 @@ put-section-requires-2 c κs =
     let e = sized v in
     let k = connections-length e in
     let l = bundles-length e + k in (
-      e .before .before .before .before .before .pre .0,
+      e .before .before .before .pre .0,
       wrote-leaves (a .before .before .put-section .ensures) k
           (wrote-leaves (b .before .before .put-regions .ensures) l
           (wrote-leaves (d .before .before .put-number2 .ensures) (regions-length e + l)
@@ -129,7 +119,7 @@ returns-2 c =
     let v = version-put d in
     let s = sized v .before in
     wrote-image (image-in (version s) (model s))
-    (wrote-is (image-pieces (version s) (model s) (legal s) (s .before .before .before .before .pre .1) (size-is s))
+    (wrote-is (image-pieces (version s) (model s) (legal s) (s .before .before .pre .1) (s .body-size .ensures .0))
     (wrote-then (v .before .before .put-number .ensures)
     (wrote-then (d .before .before .put-number2 .ensures)
     (wrote-then (b .before .before .put-regions .ensures)
@@ -139,11 +129,8 @@ pub write-in-spec : {M : Type 1} → statement M
 write-in-spec =
     tie.close
     (tie.spec
-    (λ c κs. search needs) (λ c κs. search needs) (λ c κs. search needs)
-    (λ c. omega (arith, few c))
-    (λ c. omega (arith, few c))
-    (λ c. omega (arith, few c))
-    (λ c. omega (arith, few c))
+    (λ c κs. search needs)
+    (λ c. omega (arith, c .body-size .ensures .1))
     returns
     (λ c κs. omega (arith, c .before .if1 .left))
     (λ c κs.

@@ -31,9 +31,10 @@
  *   A changing call returns 0, or the number of a refusal (REGION_NOT_A_REGION and on). A query returns what it is asked for, 0
  *   or more, or minus the number of a refusal; region_route also -101 where the item is hidden, which is no refusal.
  *   region_refused and region_is_hidden tell these apart. region_archive_query returns 100, 101 or the number of a refusal. A
- *   call puts questions in the order in which its comment lists their numbers. The first that is answered no refuses the call. A
- *   refused call changes no byte of a buffer, of a struct or of a number, and the record holds the graph that it held.
- *   region_refusal_text has a sentence for each number.
+ *   call puts questions in the order in which its comment lists their numbers, each of all that it is about, both regions, every
+ *   list or every listener, before the next. The first that is answered no refuses the call. A refused call changes no byte of a
+ *   buffer, of a struct or of a number, and the record holds the graph that it held. region_refusal_text has a sentence for each
+ *   number.
  *
  * Threads and signals
  *   Calls keep nothing outside the record and the buffers, allocate no memory and make no system call. While a call changes a
@@ -49,9 +50,10 @@
  *
  * Versions
  *   WIMBORU_VERSION is raised whenever a host must be compiled anew. A host that was compiled with the header of another version
- *   does not link: the library's names of region_empty and of calls whose arguments changed end in a version. Where the library
- *   is loaded at run time, region_library_matches tells. An archive that a version of the library accepted is accepted by every
- *   later one, and means the same graph.
+ *   does not link: the library's names of region_empty and of calls whose arguments changed end in a version. A single file of a
+ *   host that makes none of these calls does link; all files of a host are to be compiled with one header. Where the library is
+ *   loaded at run time, region_library_matches tells. An archive that a version of the library accepted is accepted by every later
+ *   one, and means the same graph.
  */
 #ifndef WIMBORU_H
 #define WIMBORU_H

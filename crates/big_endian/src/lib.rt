@@ -1,4 +1,6 @@
 // Big-endian numbers of up to 8 bytes at a place of a buffer.
+#![tactic(auto)]
+
 ghost use Rattle.std.specs.Prelude.{◌+◌, ◌<◌, ◌≤◌, ◌^◌, ◌≡◌, false, length};
 ghost use Rattle.big_endian.specs.Bytes.{big};
 ghost use Rattle.big_endian.specs.Parsing.{Parsed};
@@ -12,14 +14,14 @@ const LONGEST: usize = 8;
 const WIDEST: usize = 4;
 
 // What stands at a place: whether it is a number, the place after it, and the number.
-#[derive(Drop)]
+#[derive(Clone, Copy)]
 pub struct LongAt {
     pub ok: bool,
     pub next: usize,
     pub number: u64,
 }
 
-#[derive(Drop)]
+#[derive(Clone, Copy)]
 pub struct NumberAt {
     pub ok: bool,
     pub next: usize,

@@ -1,5 +1,7 @@
 // Converts the archives of a script, its file `stdin`, and writes a line for each conversion: its answer. The head of that file says how to
 // write one. The file `stdout` has the answers.
+#![tactic(auto)]
+
 ghost use Rattle.std.specs.Prelude.{◌≤◌, length};
 
 use region_archive::Written;

@@ -3,6 +3,8 @@
 //
 // `refused` and a number is all that is printed where the archive is refused, with 15, 16 or 17, else where the sheet is broken, with 18.
 // Where the sheet cannot be read or has no room, that is said, and nothing else.
+#![tactic(auto)]
+
 mod connections;
 mod picture;
 mod regions;

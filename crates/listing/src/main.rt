@@ -1,4 +1,6 @@
 // Reads an archive on standard input and prints its listing. An input over 65,536 bytes is judged by its first 65,536.
+#![tactic(auto)]
+
 fn main() {
     let mut file = io::large_buffer();
     let n = io::read_full(0, &mut file);

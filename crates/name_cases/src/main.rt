@@ -1,5 +1,7 @@
 // Looks names up in the sheets of a script, its file `stdin`, and writes a line for each lookup: its answer. The head of that file says how
 // to write one. The file `stdout` has the answers.
+#![tactic(auto)]
+
 ghost use Rattle.std.specs.Prelude.{◌≤◌, length};
 
 use name_sheet::{locate, lookup};

@@ -6,7 +6,7 @@ use crate::{FIELDS, GREATEST_KIND, LONGEST_NAME};
 use big_endian::number_at;
 
 // Whether an entry stands at a place, the place after it, and its kind and number.
-#[derive(Drop)]
+#[derive(Clone, Copy)]
 pub struct EntryAt {
     pub ok: bool,
     pub next: usize,

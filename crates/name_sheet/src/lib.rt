@@ -1,4 +1,6 @@
 // The name sheet: names of bundles, packages, services and regions, by kind and number.
+#![tactic(auto)]
+
 mod entries;
 mod sheet;
 
@@ -6,7 +8,7 @@ pub use sheet::{locate, lookup};
 
 // Where the name of a kind and number stands in a sheet: 0, and the part from a place up to another; or a refusal's number, and the
 // empty part at the sheet's start.
-#[derive(Drop)]
+#[derive(Clone, Copy)]
 pub struct Located {
     pub refusal: u32,
     pub from: usize,

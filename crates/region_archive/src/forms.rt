@@ -8,7 +8,7 @@ use big_endian::{LongAt, long_at};
 
 // A code has the bytes of what is left of it without the lowest bits that are skipped, so many as the width says; the bits that are skipped
 // are the rest. The codes of a list ascend by what is left without the lower bits.
-#[derive(Drop)]
+#[derive(Clone, Copy)]
 pub struct Form {
     pub width: usize,
     pub skipped: u32,
@@ -33,7 +33,7 @@ const PACKAGES: usize = 2;
 const PACKAGE_PART: usize = 3;
 
 // What a list has: numbers, packages or entries; packages and entries without their versions in files before version 3.
-#[derive(Drop)]
+#[derive(Clone, Copy)]
 pub enum ListOf {
     Numbers,
     Packages,

@@ -12,21 +12,21 @@ use region_graph::size::{MOST_BUNDLES, MOST_CONNECTIONS, MOST_LISTED, MOST_PROVI
 use region_graph::{Graph, StoredBundle, StoredConnection};
 
 // The sections of an archive of a version whose records have fields.
-#[derive(Drop)]
+#[derive(Clone, Copy)]
 pub enum Section {
     Bundles(usize),
     Connections(usize),
 }
 
 // The codes of a list, or the sign for everything as the count.
-#[derive(Drop)]
+#[derive(Clone, Copy)]
 pub struct Codes {
     pub count: usize,
     pub items: [u64; MOST_LISTED],
 }
 
 // Location, region, packages and services of a bundle; source, target and the three parts of a connection's filter.
-#[derive(Drop)]
+#[derive(Clone, Copy)]
 pub struct FieldValues {
     pub first: u32,
     pub second: u32,

@@ -16,13 +16,13 @@ use big_endian::number_at;
 use region_graph::region_set::{has, is_region, singleton};
 use region_graph::size::REGIONS;
 
-#[derive(Drop)]
+#[derive(Clone, Copy)]
 pub struct FieldAt {
     pub ok: bool,
     pub next: usize,
 }
 
-#[derive(Drop)]
+#[derive(Clone, Copy)]
 pub struct RegionsAt {
     pub ok: bool,
     pub next: usize,
@@ -30,7 +30,7 @@ pub struct RegionsAt {
     pub set: u64,
 }
 
-#[derive(Drop)]
+#[derive(Clone, Copy)]
 pub struct SectionAt {
     pub ok: bool,
     pub next: usize,
@@ -225,7 +225,7 @@ fn field_at(
     }
 }
 
-#[derive(Drop)]
+#[derive(Clone, Copy)]
 pub struct LengthAt {
     pub ok: bool,
     pub next: usize,

@@ -1,4 +1,6 @@
 // Archives of the versions before the latest made archives of the latest, and these made older ones.
+#![tactic(auto)]
+
 ghost use Rattle.std.specs.Prelude.{◌≤◌};
 ghost use Rattle.region_archive.specs.Image;
 ghost use Rattle.region_archive.specs.File;

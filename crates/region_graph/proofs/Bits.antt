@@ -246,7 +246,7 @@ pub bit_set_below : (k : ℕ) (p : ℕ → Bool) (n : ℕ) → n < k → bit (se
 unfolding set_below
 bit_set_below zero p n h = absurd (not-suc-le-zero h)
 bit_set_below (suc k) p n h =
-    ap (λ (x : ℕ). bit x n) (top_or k (set_below k p) (p k) (set_below_lt k p)) ∙ bit_or (set_below k p) (pick (p k) (2 ^ k) 0) n
+    ap (λ (x : ℕ). bit x n) (top_or k (set_below k p) (p k) (set_below_lt k p)) ∙ bit_of_or (set_below k p) (pick (p k) (2 ^ k) 0) n
     ∙ go (eq-or-lt_of_le (le_of_suc-le-suc h)) (bit_set_below k p n)
   where
     Digit : ℕ → Type 0

@@ -12,7 +12,7 @@ use crate::packages::{Packages, package_count, packages_ascending};
 use crate::size::{MOST_BUNDLES, MOST_PROVIDED};
 
 #[repr(C)]
-#[derive(Drop)]
+#[derive(Clone, Copy)]
 pub struct StoredBundle {
     pub location: u32,
     pub region: u32,
@@ -21,14 +21,14 @@ pub struct StoredBundle {
 }
 
 #[repr(C)]
-#[derive(Drop)]
+#[derive(Clone, Copy)]
 pub struct Bundles {
     pub count: usize,
     pub items: [StoredBundle; MOST_BUNDLES],
 }
 
 // A property by which bundles are looked for or left out: at a location, in a region, at a location above one.
-#[derive(Drop)]
+#[derive(Clone, Copy)]
 pub enum BundleTest {
     At(u32),
     In(u32),

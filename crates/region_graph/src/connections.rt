@@ -17,7 +17,7 @@ use crate::size::{EVERYTHING, MOST_CONNECTIONS, MOST_LISTED};
 
 // A service part has the numbers listed, or the count EVERYTHING and no numbers.
 #[repr(C)]
-#[derive(Drop)]
+#[derive(Clone, Copy)]
 pub struct StoredConnection {
     pub source: u32,
     pub target: u32,
@@ -27,7 +27,7 @@ pub struct StoredConnection {
 }
 
 #[repr(C)]
-#[derive(Drop)]
+#[derive(Clone, Copy)]
 pub struct Connections {
     pub count: usize,
     pub items: [StoredConnection; MOST_CONNECTIONS],
@@ -35,7 +35,7 @@ pub struct Connections {
 
 // A property by which connections are looked for or left out: from one region to another, from or to a region, from a region
 // with a location in the bundle part, after a pair of regions in the order.
-#[derive(Drop)]
+#[derive(Clone, Copy)]
 pub enum ConnectionTest {
     Joining(u32, u32),
     Touching(u32),

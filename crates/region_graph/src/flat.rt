@@ -39,55 +39,55 @@ const RANGE_BITS: u32 = 2 * VERSION_BITS;
 const TAILS: u64 = 65536;
 
 // What is made of numbers. It counts where `ok` is set; else document 01 allows nothing that has them.
-#[derive(Drop)]
+#[derive(Clone, Copy)]
 struct WordOf {
     ok: bool,
     word: u32,
 }
 
-#[derive(Drop)]
+#[derive(Clone, Copy)]
 struct ListAt {
     ok: bool,
     count: usize,
 }
 
-#[derive(Drop)]
+#[derive(Clone, Copy)]
 struct PackagesAt {
     ok: bool,
     packages: Packages,
 }
 
-#[derive(Drop)]
+#[derive(Clone, Copy)]
 struct EntriesAt {
     ok: bool,
     entries: Entries,
 }
 
-#[derive(Drop)]
+#[derive(Clone, Copy)]
 struct BundleOf {
     ok: bool,
     bundle: StoredBundle,
 }
 
-#[derive(Drop)]
+#[derive(Clone, Copy)]
 struct ConnectionOf {
     ok: bool,
     connection: StoredConnection,
 }
 
-#[derive(Drop)]
+#[derive(Clone, Copy)]
 struct RegionList {
     ok: bool,
     set: u64,
 }
 
-#[derive(Drop)]
+#[derive(Clone, Copy)]
 struct BundleList {
     ok: bool,
     bundles: Bundles,
 }
 
-#[derive(Drop)]
+#[derive(Clone, Copy)]
 struct ConnectionList {
     ok: bool,
     connections: Connections,

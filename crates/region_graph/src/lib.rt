@@ -1,4 +1,6 @@
 // The region graph: regions R, bundles B and connections F of document 01 in one record, and the six calls that change it.
+#![tactic(auto)]
+
 mod bundles;
 mod calls;
 mod connections;
@@ -21,7 +23,7 @@ pub use packages::{Entries, Packages, has_package};
 
 // R as a set, B and F in ascending order in the first places of their arrays.
 #[repr(C)]
-#[derive(Drop)]
+#[derive(Clone, Copy)]
 pub struct Graph {
     regions: u64,
     bundles: Bundles,
@@ -29,14 +31,14 @@ pub struct Graph {
 }
 
 // What a changing call hands back: the next graph, and 0 or the number of the question that was answered no.
-#[derive(Drop)]
+#[derive(Clone, Copy)]
 pub struct Changed {
     pub graph: Graph,
     pub number: u32,
 }
 
 // A number of one of the kinds 0 bundle, 1 package and 2 service, and a version, which counts for a package alone.
-#[derive(Drop)]
+#[derive(Clone, Copy)]
 pub struct Item {
     pub kind: u32,
     pub number: u32,
@@ -44,7 +46,7 @@ pub struct Item {
 }
 
 // The region in which a location is installed.
-#[derive(Drop)]
+#[derive(Clone, Copy)]
 pub enum Place {
     Within(u32),
     Nowhere,

@@ -8,7 +8,7 @@ ghost use Rattle.region_graph.specs.Places.{put_into};
 use crate::size::{MOST_LISTED, MOST_PROVIDED};
 
 #[repr(C)]
-#[derive(Drop)]
+#[derive(Clone, Copy)]
 pub struct Numbers {
     pub count: usize,
     pub items: [u32; MOST_LISTED],
@@ -16,7 +16,7 @@ pub struct Numbers {
 
 // What a bundle brings: as Numbers, with fewer places.
 #[repr(C)]
-#[derive(Drop)]
+#[derive(Clone, Copy)]
 pub struct Provided {
     pub count: usize,
     pub items: [u32; MOST_PROVIDED],

@@ -12,7 +12,7 @@ use crate::size::{EVERYTHING, MOST_LISTED, MOST_PROVIDED};
 
 // What a bundle exports.
 #[repr(C)]
-#[derive(Drop)]
+#[derive(Clone, Copy)]
 pub struct Packages {
     pub count: usize,
     pub numbers: [u32; MOST_PROVIDED],
@@ -21,7 +21,7 @@ pub struct Packages {
 
 // A package part: its entries, or the count EVERYTHING and no entries.
 #[repr(C)]
-#[derive(Drop)]
+#[derive(Clone, Copy)]
 pub struct Entries {
     pub count: usize,
     pub numbers: [u32; MOST_LISTED],

@@ -12,14 +12,14 @@ use crate::answers::place_value;
 use region_graph::{Graph, StoredBundle, StoredConnection};
 
 // What the lent struct becomes, and how many bundles were written: one or none.
-#[derive(Drop)]
+#[derive(Clone, Copy)]
 pub struct BundleRead {
     bundle: StoredBundle,
     count: u64,
 }
 
 // The same of connections.
-#[derive(Drop)]
+#[derive(Clone, Copy)]
 pub struct ConnectionRead {
     connection: StoredConnection,
     count: u64,

@@ -11,7 +11,7 @@ use region_routes::Kind;
 
 pub const MOST_DIFFERENT: usize = MOST_BUNDLES * MOST_PROVIDED;
 
-#[derive(Drop)]
+#[derive(Clone, Copy)]
 pub struct Collection {
     pub count: usize,
     pub numbers: [u32; MOST_DIFFERENT],

@@ -1,4 +1,6 @@
 // The listing of an archive as text.
+#![tactic(auto)]
+
 mod collection;
 mod counts;
 mod listing;

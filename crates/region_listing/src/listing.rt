@@ -20,7 +20,7 @@ const LINE: usize = 25;
 pub const LONGEST: usize = HEADER + MOST_BUNDLES * LINE;
 
 // A text in the first places, and 0 in each other place.
-#[derive(Drop)]
+#[derive(Clone, Copy)]
 pub struct Text {
     pub length: usize,
     pub bytes: [u8; LONGEST],

@@ -1,4 +1,6 @@
 // Routes and hooks: which items a bundle sees through the filtered connections between regions.
+#![tactic(auto)]
+
 mod hooks;
 mod resolver;
 mod routes;
@@ -11,7 +13,7 @@ pub use routes::route;
 pub use search::regions_seeing;
 
 // The kinds of items.
-#[derive(Drop)]
+#[derive(Clone, Copy)]
 pub enum Kind {
     Bundle,
     Package,
@@ -19,7 +21,7 @@ pub enum Kind {
 }
 
 // What a route call answers: hidden, the route's count of connections, or a refusal's number.
-#[derive(Drop)]
+#[derive(Clone, Copy)]
 pub enum Routed {
     Hidden,
     Count(usize),
@@ -27,7 +29,7 @@ pub enum Routed {
 }
 
 // What a hook answers: how many were written, or a refusal's number.
-#[derive(Drop)]
+#[derive(Clone, Copy)]
 pub enum Kept {
     Wrote(usize),
     Refused(u32),

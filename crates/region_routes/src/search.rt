@@ -17,7 +17,7 @@ use region_graph::size::REGIONS;
 use region_graph::{Graph, Item};
 
 // The layers sets[0] to sets[deep], and all regions in them.
-#[derive(Drop)]
+#[derive(Clone, Copy)]
 pub struct Layers {
     pub sets: [u64; REGIONS],
     pub deep: usize,
@@ -83,14 +83,14 @@ pub fn distance(found: Layers, region: u32) -> usize
 }
 
 // The predecessors of each region for an item, and the layers over them.
-#[derive(Drop)]
+#[derive(Clone, Copy)]
 pub struct ItemSearch {
     pub pred: [u64; REGIONS],
     pub found: Layers,
 }
 
 // Where a route for an item may end: in each region that holds it, or in one region alone.
-#[derive(Drop)]
+#[derive(Clone, Copy)]
 pub enum Ends {
     Holders,
     Region(u32),

@@ -4,7 +4,7 @@ ghost use Rattle.std.specs.Prelude.{◌≤◌, length};
 use script_text::{has_bytes, is, put_hex};
 
 // Where the file starts and ends in a buffer. The bytes before it are the base.
-#[derive(Drop)]
+#[derive(Clone, Copy)]
 pub struct File {
     pub start: usize,
     pub end: usize,

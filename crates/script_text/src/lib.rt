@@ -1,4 +1,6 @@
 // The text of scripts and of answers: lines with words, numbers, lists and bytes in hex.
+#![tactic(auto)]
+
 mod answers;
 mod hex;
 mod lines;

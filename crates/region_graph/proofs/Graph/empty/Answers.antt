@@ -1,0 +1,9 @@
+use borrow.Author.Rules.{rules}
+use Rattle.region_graph.proofs.Storing.{stores_nothing, stored_graph}
+use Rattle.region_graph.proofs.Bits.{set_none}
+use mathlib.Core.Path.{sym}
+use Rattle.region_graph.specs.Model.{nothing}
+use Rattle.region_graph.proofs.Graph.empty.Goals as goal
+
+pub returns : goal.returns
+returns c = stores_nothing (stored_graph nothing (sym set_none) c.none-none.ensures c.none-unconnected.ensures)

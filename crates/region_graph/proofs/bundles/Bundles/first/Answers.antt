@@ -1,0 +1,20 @@
+use Prim.Native.Nat.{◌-◌}
+use native.Mathlib.Omega.{arith}
+use borrow.Author.Rules.{rules}
+use Rattle.region_graph.specs.Record.{bundles_of}
+use Rattle.region_graph.specs.Places.{bundle_meets}
+use Rattle.region_graph.proofs.PlaceLoops.{bundle_storage, bundles_reading}
+use Rattle.region_graph.proofs.PlaceLoops.{Searching, searching_start, searching_here, searching_later, searching_end}
+use Rattle.region_graph.proofs.bundles.Bundles.first.Goals as goal
+
+pub loop-i-init : goal.loop-i-init
+loop-i-init c = searching_start (bundles_reading c.args.test c.requires)
+
+pub returns-then-bundle_meets : goal.returns-then-bundle_meets
+returns-then-bundle_meets c = searching_here c.loop-i.invariant (omega arith) _ c.bundle_meets.ensures c.if-bundle_meets.true
+
+pub loop-i-preserved : goal.loop-i-preserved
+loop-i-preserved c = searching_later c.loop-i.invariant (omega arith) _ c.bundle_meets.ensures c.if-bundle_meets.false
+
+pub returns : goal.returns
+returns c = searching_end c.loop-i.invariant (omega arith)

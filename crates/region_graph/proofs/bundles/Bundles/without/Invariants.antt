@@ -1,0 +1,16 @@
+use Prim.Native.Nat.{◌-◌}
+use native.Mathlib.Omega.{arith}
+use borrow.Author.Rules.{rules}
+use Rattle.region_graph.specs.Record.{bundles_of}
+use Rattle.region_graph.specs.Places.{bundle_meets}
+use Rattle.region_graph.proofs.Storing.{filled_bundles}
+use Rattle.region_graph.proofs.PlaceLoops.{bundle_storage, bundles_reading}
+use Rattle.region_graph.proofs.PlaceLoops.{Leaving, leaving_start, leaving_out, leaving_stays, leaving_moves, leaving_end}
+use Rattle.region_graph.proofs.bundles.Bundles.without.Given as goal
+
+abbrev pub invariant-loop-i : goal.invariant-loop-i
+invariant-loop-i l =
+    Leaving bundle_storage (bundle_meets l.test) l.none l.initial.items l.count (bundles_of (record { count = l.count; items = l.initial.items })) l.items l.n l.i
+
+abbrev pub decreases-loop-i : goal.decreases-loop-i
+decreases-loop-i l = l.count - l.i

@@ -1,0 +1,24 @@
+use Prim.Native.Nat.{◌-◌}
+use native.Mathlib.Omega.{arith}
+use borrow.Author.Rules.{rules}
+use Rattle.region_graph.specs.Record.{connections_of}
+use Rattle.region_graph.specs.Places.{connection_meets}
+use Rattle.region_graph.proofs.Storing.{connection_stored}
+use Rattle.region_graph.proofs.PlaceLoops.{connection_storage, connections_reading}
+use Rattle.region_graph.proofs.PlaceLoops.{Searching, searching_start, searching_here, searching_later, searching_end}
+use Rattle.region_graph.proofs.connections.Connections.first.Goals as goal
+
+pub loop-i-init : goal.loop-i-init
+loop-i-init c = searching_start (connections_reading c.args.test c.requires)
+
+pub connection_meets-requires : goal.connection_meets-requires
+connection_meets-requires c = connection_stored c.args.test c.requires c.loop-i.i _ (omega arith)
+
+pub returns-then-connection_meets : goal.returns-then-connection_meets
+returns-then-connection_meets c = searching_here c.loop-i.invariant (omega arith) _ c.connection_meets.ensures c.if-connection_meets.true
+
+pub loop-i-preserved : goal.loop-i-preserved
+loop-i-preserved c = searching_later c.loop-i.invariant (omega arith) _ c.connection_meets.ensures c.if-connection_meets.false
+
+pub returns : goal.returns
+returns c = searching_end c.loop-i.invariant (omega arith)

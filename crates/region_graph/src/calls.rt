@@ -25,6 +25,7 @@ use crate::size::{MOST_BUNDLES, MOST_CONNECTIONS};
 use crate::{Changed, Graph};
 
 // The number of an add.
+#[tactic(auto, using(crate::proofs::Storing::has_member))]
 fn add_number(regions: u64, region: u32) -> u32
     ensures { result ≡ first_no (new_region_questions (members regions) region) }
 {
@@ -38,6 +39,7 @@ fn add_number(regions: u64, region: u32) -> u32
 }
 
 // The number of a remove, and that of an install's region.
+#[tactic(auto, using(crate::proofs::Storing::has_member))]
 fn region_number(regions: u64, region: u32) -> u32
     ensures { result ≡ first_no (region_questions (members regions) region) }
 {
@@ -92,6 +94,7 @@ fn install_number(bundles: Bundles, connections: Connections, region: u32, locat
 }
 
 // The number that the two ends of a connection give.
+#[tactic(auto, using(crate::proofs::Storing::has_member))]
 fn ends_number(regions: u64, source: u32, target: u32) -> u32
     ensures { result ≡ first_no (end_questions (members regions) source target) }
 {

@@ -11,7 +11,7 @@ use lib.ListN.{length, get_or, take, replicate, length-map}
 use lib.Seq.{take_at}
 use Rattle.region_graph.specs.Size.{regions, most_bundles, most_connections, most_listed, most_provided, everything_sign}
 use Rattle.region_graph.specs.Refusals.{not_refused}
-use Rattle.region_graph.specs.Lists.{All, member, keep, insert_by, count_from}
+use Rattle.region_graph.specs.Lists.{All, exists, member, keep, position, insert_by, count_from}
 use Rattle.region_graph.specs.Sets.{bit, has, singleton, members, set_of}
 use Rattle.region_graph.specs.Model.{Model, Package, PackageEntry, packages, entries, Bundle, Part, Connection, nothing}
 use Rattle.region_graph.specs.Model.{Sorted, SortedPart, Legal, LegalBundle, LegalConnection}
@@ -41,7 +41,7 @@ use Rattle.region_graph.proofs.Lists.{pick_yes, pick_no, all_map, all_at, keep_s
 use Rattle.region_graph.proofs.Ascending.{members_back}
 use Rattle.region_graph.proofs.Bits.{has_set, set_ext, set_join, set_leave}
 use Rattle.region_graph.proofs.Legal.{legal_accepted, legal_nothing, Words}
-use Rattle.region_graph.proofs.Arrays.{Filled, filled_none, filled_at, filled_inside, drop_replicate}
+use Rattle.region_graph.proofs.Arrays.{Filled, filled_none, filled_at, filled_inside, filled_found, filled_missed, drop_replicate}
 use Rattle.region_graph.proofs.Columns.{packages_whole, entries_whole}
 
 -- the used places hold the list
@@ -453,3 +453,15 @@ settled g c r s f h =
 
 pub empty_settled : (g h : Graph) → Empty g → Empty h → g ≡ h
 empty_settled g h e f = meaning_injective g h e.valid f.valid (e.model ∙ sym f.model)
+
+-- a search by place in the connections ended within their count, or did not
+pub connections_found : (cs : Connections) (p : Connection → Bool) → ConnectionsStored cs → position p (connections_of cs) < cs.count
+    → exists p (connections_of cs) ≡ true
+connections_found cs p h l = filled_found (connections_filled cs h) p refl l
+
+pub connections_missed : (cs : Connections) (p : Connection → Bool) → ConnectionsStored cs → cs.count ≤ position p (connections_of cs)
+    → exists p (connections_of cs) ≡ false
+connections_missed cs p h l = filled_missed (connections_filled cs h) p refl l
+
+pub connections_counted : (cs : Connections) → ConnectionsStored cs → length (connections_of cs) ≡ cs.count
+connections_counted cs h = sym (connections_filled cs h).counted

@@ -117,6 +117,7 @@ fn ends_number(regions: u64, source: u32, target: u32) -> u32
 }
 
 // The number that the connections and the filter give to a connect.
+#[tactic(auto, using(crate::proofs::Storing::connections_found, crate::proofs::Storing::connections_missed, crate::proofs::Storing::connections_counted))]
 fn connect_number(
     connections: Connections,
     source: u32,

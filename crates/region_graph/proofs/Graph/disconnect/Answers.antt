@@ -1,88 +1,65 @@
 use mathlib.Core.Path.{◌≡◌, refl, sym, ◌∙◌}
-use mathlib.Core.Bool.{true, not}
+use mathlib.Core.Bool.{Bool, true, not}
 use Prim.Native.Nat.{ℕ}
-use lib.ListN.{length, drop}
-use borrow.Author.Rules.{rules}
-use Rattle.region_graph.specs.Lists.{keep, All}
-use Rattle.region_graph.specs.Calls.{Call, number, accepted, questions, end_questions, joins}
-use Rattle.region_graph.specs.Record.{meaning}
+use lib.ListN.{drop}
+use Rattle.region_graph.specs.Refusals.{not_refused, not_connected}
+use Rattle.region_graph.specs.Lists.{exists, keep, pick}
+use Rattle.region_graph.specs.Model.{Model}
+use Rattle.region_graph.specs.Calls.{Call, first_no, number, accepted, questions, end_questions, joins}
+use Rattle.region_graph.specs.Record.{Valid, meaning, connections_of, store_connections}
 use Rattle.region_graph.specs.Promise.{Follows}
+use Rattle.region_graph.specs.declared.Graph.{Graph}
+use Rattle.region_graph.specs.declared.connections.Connections.{Connections}
 use Rattle.region_graph.proofs.Arrays.{filled_whole, filled_fewer}
-use Rattle.region_graph.proofs.Legal.{all_yes, first_step, disconnect_idle}
+use Rattle.region_graph.proofs.Legal.{first_step, second_step, disconnect_idle}
 use Rattle.region_graph.proofs.Storing.{connections_filled, connections_count, regions_stored, bundles_stored, connections_stored, stored_graph, changes}
 use Rattle.region_graph.proofs.Graph.disconnect.Goals as goal
+
+-- the record without the connection between the ends, with the number of the call
+follows : (g : Graph) (r s : ℕ) (cs : Connections) (k : ℕ) → Valid g → cs ≡ store_connections (keep (λ x. not (joins r s x)) (connections_of g.connections))
+    → k ≡ number (meaning g) (Call.disconnect r s)
+    → Follows g (Call.disconnect r s) (record { graph = record { regions = g.regions; bundles = g.bundles; connections = cs }; number = k })
+unfolding meaning
+follows g r s cs k v e n =
+    changes g (Call.disconnect r s) v n tt (disconnect_idle (meaning g) v.good r s)
+    (stored_graph (accepted (meaning g) (Call.disconnect r s)) (regions_stored g v) (bundles_stored g v).stored e)
+
+-- the ends are not refused, and so the connection tells
+asked : (m : Model) (r s : ℕ) {k : ℕ} {b : Bool} → k ≡ first_no (end_questions m.regions r s) → k ≡ not_refused
+    → exists (joins r s) m.connections ≡ b → pick b not_refused not_connected ≡ number m (Call.disconnect r s)
+asked m r s e z f =
+    second_step (end_questions m.regions r s) (drop 3 (questions m (Call.disconnect r s))) (refl, (refl, (refl, tt))) e z (rw f)
 
 pub returns-then-left-connections : goal.returns-then-left-connections
 unfolding meaning
 returns-then-left-connections c =
-    let left : {k : ℕ} → (let a = c.args in k ≡ number (meaning a.self) (Call.disconnect a.source a.target) → Follows a.self (Call.disconnect a.source a.target) (record { graph = record { regions = a.self.regions; bundles = a.self.bundles; connections = c.without-left.result }; number = k })) =
-    λ e. let s = c in
-    let g = s.args.self in
-    let o = Call.disconnect s.args.source s.args.target in
-    changes g o s.requires e tt (disconnect_idle (meaning g) s.requires.good s.args.source s.args.target)
-    (stored_graph (accepted (meaning g) o) (regions_stored g s.requires) (bundles_stored g s.requires).stored c.without-left.ensures) in
-    let count : (let a = c.args in c.without-left.result.count ≡ length (keep (λ x. not (joins a.source a.target x)) (meaning a.self).connections)) =
     let a = c.args in
-    connections_count (keep (λ x. not (joins a.source a.target x)) (meaning a.self).connections) c.without-left.ensures in
-    let ends : (let a = c.args in All (λ q. q.yes ≡ true) (end_questions (meaning a.self).regions a.source a.target)) =
-    let a = c.args in
-    all_yes (end_questions (meaning a.self).regions a.source a.target) (refl, (refl, (refl, tt)))
-    (sym c.ends_number-number.ensures ∙ c.if-number-eq-NOT_REFUSED.true) in
-    let s = c in
-    let a = s.args in
-    let h = ends in
-    left
-    (rw (
-      h.0,
-      h.1.0,
-      h.1.1.0,
-      filled_whole (connections_filled a.self.connections (connections_stored a.self s.requires)) (joins a.source a.target)
-          count c.if-left-connections.true,
-    ))
+    let g = a.self in
+    let e = c.without-left.ensures in
+    follows g _ _ _ _ c.requires e
+    (asked (meaning g) a.source a.target c.ends_number-number.ensures c.if-number-eq-NOT_REFUSED.true
+    (filled_whole (connections_filled g.connections (connections_stored g c.requires)) (joins a.source a.target) (connections_count _ e)
+    c.if-left-connections.true))
 
 pub returns-else-left-connections : goal.returns-else-left-connections
 unfolding meaning
 returns-else-left-connections c =
-    let left : {k : ℕ} → (let a = c.args in k ≡ number (meaning a.self) (Call.disconnect a.source a.target) → Follows a.self (Call.disconnect a.source a.target) (record { graph = record { regions = a.self.regions; bundles = a.self.bundles; connections = c.without-left.result }; number = k })) =
-    λ e. let s = c in
-    let g = s.args.self in
-    let o = Call.disconnect s.args.source s.args.target in
-    changes g o s.requires e tt (disconnect_idle (meaning g) s.requires.good s.args.source s.args.target)
-    (stored_graph (accepted (meaning g) o) (regions_stored g s.requires) (bundles_stored g s.requires).stored c.without-left.ensures) in
-    let count : (let a = c.args in c.without-left.result.count ≡ length (keep (λ x. not (joins a.source a.target x)) (meaning a.self).connections)) =
     let a = c.args in
-    connections_count (keep (λ x. not (joins a.source a.target x)) (meaning a.self).connections) c.without-left.ensures in
-    let ends : (let a = c.args in All (λ q. q.yes ≡ true) (end_questions (meaning a.self).regions a.source a.target)) =
-    let a = c.args in
-    all_yes (end_questions (meaning a.self).regions a.source a.target) (refl, (refl, (refl, tt)))
-    (sym c.ends_number-number.ensures ∙ c.if-number-eq-NOT_REFUSED.true) in
-    let s = c in
-    let a = s.args in
-    let h = ends in
-    left
+    let g = a.self in
+    let e = c.without-left.ensures in
+    follows g _ _ _ _ c.requires e
     (c.if-number-eq-NOT_REFUSED.true
-    ∙ rw (
-      h.0,
-      h.1.0,
-      h.1.1.0,
-      filled_fewer (connections_filled a.self.connections (connections_stored a.self s.requires)) (joins a.source a.target)
-          count c.if-left-connections.false,
-    ))
+    ∙ asked (meaning g) a.source a.target c.ends_number-number.ensures c.if-number-eq-NOT_REFUSED.true
+    (filled_fewer (connections_filled g.connections (connections_stored g c.requires)) (joins a.source a.target) (connections_count _ e)
+    c.if-left-connections.false))
 
 pub returns-else-number-eq-NOT_REFUSED : goal.returns-else-number-eq-NOT_REFUSED
 unfolding meaning
 returns-else-number-eq-NOT_REFUSED c =
-    let left : {k : ℕ} → (let a = c.args in k ≡ number (meaning a.self) (Call.disconnect a.source a.target) → Follows a.self (Call.disconnect a.source a.target) (record { graph = record { regions = a.self.regions; bundles = a.self.bundles; connections = c.without-left.result }; number = k })) =
-    λ e. let s = c in
-    let g = s.args.self in
-    let o = Call.disconnect s.args.source s.args.target in
-    changes g o s.requires e tt (disconnect_idle (meaning g) s.requires.good s.args.source s.args.target)
-    (stored_graph (accepted (meaning g) o) (regions_stored g s.requires) (bundles_stored g s.requires).stored c.without-left.ensures) in
     let a = c.args in
-    left
-    (first_step (end_questions (meaning a.self).regions a.source a.target)
-    (drop 3 (questions (meaning a.self) (Call.disconnect a.source a.target))) (refl, (refl, (refl, tt)))
-    c.ends_number-number.ensures c.if-number-eq-NOT_REFUSED.false)
+    follows a.self _ _ _ _ c.requires c.without-left.ensures
+    (first_step (end_questions (meaning a.self).regions a.source a.target) (drop 3 (questions (meaning a.self) (Call.disconnect a.source a.target)))
+    (refl, (refl, (refl, tt))) c.ends_number-number.ensures c.if-number-eq-NOT_REFUSED.false)
 
 pub without-left-requires : goal.without-left-requires
 without-left-requires c = connections_stored c.args.self c.requires

@@ -199,11 +199,6 @@ module _ {A B : Type 0} {k : Rows A B} {rows : List ℕ} {items : List B} {least
         go (Decoded.found x g h u e) = false_true (sym (ap not u) ∙ n)
         go (Decoded.none f u) = f y gy hy
 
-  -- the four ways in which the loop ends: no place is left, too few numbers are, what was found is not good, or not in order
-  pub stuck_any : {W X Y Z : Type 0} → (W → k.most ≤ i) → (X → length rows < at + k.width) → (Y → Stuck) → (Z → Stuck) → W ⊎ (X ⊎ (Y ⊎ Z)) → Stuck
-  stuck_any full short bad low =
-      ⊎_elim (λ w y g h room l few. omega (arith, full w)) (⊎_elim (λ x y g h room l few. omega (arith, short x)) (⊎_elim bad low))
-
   -- one element more
   taken_one : {b : B} (x : A) → k.Good x → k.Is (take k.width (drop at rows)) x → b ≡ k.put x → at + k.width ≤ length rows
       → least ≤ k.key b → i < k.most → Taken k rows (set items i b) (k.key b + 1) (i + 1) (at + k.width)

@@ -90,18 +90,18 @@ fn keep_few(graph: Graph, kind: Kind, region: u32, candidates: &[u32], out: &mut
     let mut n: usize = 0;
     let mut i: usize = 0;
     while i < candidates.len() {
-        let number = candidates[i];
+        let candidate = candidates[i];
         i += 1;
         let set = regions_seeing(
             graph,
             Item {
                 kind,
-                number,
+                number: candidate,
                 version: 0,
             },
         );
         if has(set, region) {
-            out[n] = number;
+            out[n] = candidate;
             n += 1;
         }
     }

@@ -30,7 +30,7 @@ pub loop-i-preserved-then-connection_passes : goal.loop-i-preserved-then-connect
 loop-i-preserved-then-connection_passes c =
     let a = c in
     leading_took (λ x. x.source) (λ x. x.target) (λ x. passes a.args.item x.filter) a.loop-i.invariant (omega arith) _
-    c.connection_passes.ensures c.if-connection_passes.true c.singleton.ensures (array-read-sets c.before)
+    c.connection_passes.ensures c.if-connection_passes.true c.singleton.ensures (target_region c.args.self c.requires c.loop-i.i _ (omega arith))
 
 pub loop-i-preserved : goal.loop-i-preserved
 loop-i-preserved c =
@@ -43,13 +43,13 @@ unfolding meaning led predecessor_sets
 returns c = folding_end c.loop-i.invariant (omega arith)
 
 pub overflow_cast-target : goal.overflow_cast-target
-overflow_cast-target c = omega (arith, array-read-sets c)
+overflow_cast-target c = omega (arith, bounds-sets-target c)
 
 pub offset_bounds-sets-target : goal.offset_bounds-sets-target
-offset_bounds-sets-target c = omega (arith, array-read-sets c)
-
-pub offset_bounds-sets-target-then-connection_passes : goal.offset_bounds-sets-target-then-connection_passes
-offset_bounds-sets-target-then-connection_passes c = omega (arith, array-read-sets c.before)
+offset_bounds-sets-target c = omega (arith, bounds-sets-target c)
 
 pub bounds-sets-target-then-connection_passes : goal.bounds-sets-target-then-connection_passes
-bounds-sets-target-then-connection_passes c = array-read-sets c.before
+bounds-sets-target-then-connection_passes c = target_region c.args.self c.requires c.loop-i.i _ (omega arith)
+
+pub offset_bounds-sets-target-then-connection_passes : goal.offset_bounds-sets-target-then-connection_passes
+offset_bounds-sets-target-then-connection_passes c = omega (arith, bounds-sets-target-then-connection_passes c)

@@ -29,28 +29,28 @@ bundle_provides-requires c =
 pub returns-then-bundle_provides : goal.returns-then-bundle_provides
 unfolding meaning
 returns-then-bundle_provides c =
-    let told : (e : StoredBundle) {t : Bool} → (let a = c in let s = a.args in let b = get_or s.self.bundles.items a.loop-i.i e in c.bundle_provides.result ≡ provides s.item (bundle_in b) → c.bundle_provides.result ≡ t → pick t (Within b.region) Nowhere ≡ provider_place (bundles_of s.self.bundles) s.location s.item) =
-    λ e p q. let a = c in
+    let told : (e : StoredBundle) (t : Bool) → (let a = c in let s = a.args in let b = get_or s.self.bundles.items a.loop-i.i e in c.bundle_provides.result ≡ provides s.item (bundle_in b) → c.bundle_provides.result ≡ t → pick t (Within b.region) Nowhere ≡ provider_place (bundles_of s.self.bundles) s.location s.item) =
+    λ e t p q. let a = c in
     let s = a.args in
     let w = a.loop-i.invariant.reading in
     let here = searching_here a.loop-i.invariant (omega arith) _ c.bundle_meets.ensures c.if-bundle_meets.true in
     let read = reading_means w (omega arith) e in
     (λ j. pick ((sym q ∙ p ∙ ap (provides s.item) read) j) (Within (read j).region) Nowhere)
     ∙ rw here (provider_found s.location s.item (bundles_of s.self.bundles) (omega (arith, here, reading_inside w (omega arith)))) in
-    told _ c.bundle_provides.ensures c.if-bundle_provides.true
+    told _ _ c.bundle_provides.ensures c.if-bundle_provides.true
 
 pub returns-then-bundle_meets : goal.returns-then-bundle_meets
 unfolding meaning
 returns-then-bundle_meets c =
-    let told : (e : StoredBundle) {t : Bool} → (let a = c in let s = a.args in let b = get_or s.self.bundles.items a.loop-i.i e in c.bundle_provides.result ≡ provides s.item (bundle_in b) → c.bundle_provides.result ≡ t → pick t (Within b.region) Nowhere ≡ provider_place (bundles_of s.self.bundles) s.location s.item) =
-    λ e p q. let a = c in
+    let told : (e : StoredBundle) (t : Bool) → (let a = c in let s = a.args in let b = get_or s.self.bundles.items a.loop-i.i e in c.bundle_provides.result ≡ provides s.item (bundle_in b) → c.bundle_provides.result ≡ t → pick t (Within b.region) Nowhere ≡ provider_place (bundles_of s.self.bundles) s.location s.item) =
+    λ e t p q. let a = c in
     let s = a.args in
     let w = a.loop-i.invariant.reading in
     let here = searching_here a.loop-i.invariant (omega arith) _ c.bundle_meets.ensures c.if-bundle_meets.true in
     let read = reading_means w (omega arith) e in
     (λ j. pick ((sym q ∙ p ∙ ap (provides s.item) read) j) (Within (read j).region) Nowhere)
     ∙ rw here (provider_found s.location s.item (bundles_of s.self.bundles) (omega (arith, here, reading_inside w (omega arith)))) in
-    told _ c.bundle_provides.ensures c.if-bundle_provides.false
+    told _ _ c.bundle_provides.ensures c.if-bundle_provides.false
 
 pub returns : goal.returns
 unfolding meaning

@@ -7,14 +7,12 @@ use Rattle.region_graph.specs.Sets.{members}
 use Rattle.region_graph.specs.declared.connections.StoredConnection.{StoredConnection}
 use Rattle.region_graph.proofs.Storing.{no_connections, filled_connections}
 use Rattle.region_graph.proofs.FlatLaws.{members_small}
-use Rattle.region_graph.proofs.FlatLoops.{Rows, connection_rows, Taken, taken_none, taken_more, taken_end, stuck_low, stuck_bad, stuck_any}
+use Rattle.region_graph.proofs.FlatLoops.{Rows, connection_rows, Taken, taken_none, taken_more, taken_end, stuck_low, stuck_bad}
 use Rattle.region_graph.proofs.flat.connection_list.Goals as goal
-
-abbrev rows_in : ℕ → Rows Connection StoredConnection
-rows_in x = connection_rows (members x) (members_small x)
+use Rattle.region_graph.proofs.flat.connection_list.Goals.{else-loop-i-test, then-loop-i-test+then-rows-at-lt-CONNECTION_WIDTH, then-loop-i-test+else-rows-at-lt-CONNECTION_WIDTH+then-not-next, then-loop-i-test+else-rows-at-lt-CONNECTION_WIDTH+else-not-next+then-order-least}
 
 pub loop-i-init : goal.loop-i-init
-loop-i-init c = taken_none (rows_in c.args.regions) (no_connections c.none-none.ensures)
+loop-i-init c = taken_none (connection_rows (members c.args.regions) (members_small c.args.regions)) (no_connections c.none-none.ensures)
 
 pub loop-i-preserved : goal.loop-i-preserved
 loop-i-preserved c =
@@ -25,5 +23,9 @@ loop-i-preserved c =
 
 pub returns : goal.returns
 returns c = let t = c.loop-i.invariant in
-    taken_end t (stuck_any t (λ w. omega arith) (λ w. omega arith) (λ w. stuck_bad t w.3.ensures w.5.taken)
-    (λ w. stuck_low t w.3.ensures w.9.taken w.5.left) c.loop-i-test.branch) (λ xs h. filled_connections h)
+    taken_end t (elim c.loop-i-test.branch [
+      else-loop-i-test w ↦ λ y g h room l few. omega (arith, w.loop-i-test.false)
+      | then-loop-i-test+then-rows-at-lt-CONNECTION_WIDTH w ↦ λ y g h room l few. omega (arith, w.if-rows-at-lt-CONNECTION_WIDTH.true)
+      | then-loop-i-test+else-rows-at-lt-CONNECTION_WIDTH+then-not-next w ↦ stuck_bad t w.connection_of-next.ensures w.if-not-next.true
+      | then-loop-i-test+else-rows-at-lt-CONNECTION_WIDTH+else-not-next+then-order-least w ↦ stuck_low t w.connection_of-next.ensures w.if-order-least.true w.if-not-next.false
+    ]) (λ xs h. filled_connections h)

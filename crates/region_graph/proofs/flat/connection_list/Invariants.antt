@@ -7,11 +7,11 @@ use Rattle.region_graph.specs.Sets.{members}
 use Rattle.region_graph.specs.declared.connections.StoredConnection.{StoredConnection}
 use Rattle.region_graph.proofs.Storing.{no_connections, filled_connections}
 use Rattle.region_graph.proofs.FlatLaws.{members_small}
-use Rattle.region_graph.proofs.FlatLoops.{Rows, connection_rows, Taken, taken_none, taken_more, taken_end, stuck_low, stuck_bad, stuck_any}
+use Rattle.region_graph.proofs.FlatLoops.{Rows, connection_rows, Taken, taken_none, taken_more, taken_end}
 use Rattle.region_graph.proofs.flat.connection_list.Given as goal
 
 abbrev pub invariant-loop-i : goal.invariant-loop-i
-invariant-loop-i l = Taken (rows_in l.regions) l.rows l.items l.least l.i l.at
+invariant-loop-i l = Taken (connection_rows (members l.regions) (members_small l.regions)) l.rows l.items l.least l.i l.at
 
 abbrev pub decreases-loop-i : goal.decreases-loop-i
 decreases-loop-i l = most_connections - l.i

@@ -12,6 +12,7 @@ use Rattle.region_graph.specs.Items.{entry_passes}
 use Rattle.region_graph.proofs.Lists.{and_yes, and_left, and_right, exists_here, exists_later, exists_end}
 use Rattle.region_graph.proofs.Columns.{no_range, entries_within, entries_at}
 use Rattle.region_graph.proofs.packages.entries_pass.Goals as goal
+use Rattle.region_graph.proofs.packages.entries_pass.Goals.{then-numbers-i+else-lies_between, else-numbers-i}
 
 pub loop-i-init : goal.loop-i-init
 loop-i-init c =
@@ -39,8 +40,10 @@ loop-i-preserved c =
       l.invariant.1,
       exists_later (entry_passes a.number a.version) es l.i no_range (omega arith) l.invariant.2
           (rw (entries_at a.numbers.now a.lowest.now a.highest.now l.i (omega arith))
-          (⊎_elim {C = entry_passes a.number a.version e ≡ false} (λ w. and_right (eq-eqb _ _ (sym w.0.taken)) (sym w.3.ensures ∙ w.4.left))
-          (λ w. and_left _ (ne_eqb _ _ (λ f. w.left (sym f)))) c.if-numbers-i.branch)),
+          (elim c.if-numbers-i.branch as (λ w. entry_passes a.number a.version e ≡ false) [
+            then-numbers-i+else-lies_between w ↦ and_right (eq-eqb _ _ (sym w.if-numbers-i.true)) (sym w.lies_between.ensures ∙ w.if-lies_between.false)
+            | else-numbers-i w ↦ and_left _ (ne_eqb _ _ (λ f. w.if-numbers-i.false (sym f)))
+          ])),
     )
 
 pub returns : goal.returns

@@ -12,6 +12,7 @@ use Rattle.region_graph.specs.Items.{is_package}
 use Rattle.region_graph.proofs.Lists.{and_yes, and_left, and_right, exists_here, exists_later, exists_end}
 use Rattle.region_graph.proofs.Columns.{no_package, packages_within, packages_at}
 use Rattle.region_graph.proofs.packages.has_package.Goals as goal
+use Rattle.region_graph.proofs.packages.has_package.Goals.{then-numbers-i+else-versions-i, else-numbers-i}
 
 pub loop-i-init : goal.loop-i-init
 loop-i-init c =
@@ -36,8 +37,10 @@ loop-i-preserved c =
       l.invariant.1,
       exists_later (is_package a.number a.version) ps l.i no_package (omega arith) l.invariant.2
           (rw (packages_at a.numbers.now a.versions.now l.i (omega arith))
-          (⊎_elim {C = is_package a.number a.version p ≡ false} (λ w. and_right (eq-eqb _ _ (sym w.0.taken)) (ne_eqb _ _ (λ e. w.2.left (sym e))))
-          (λ w. and_left _ (ne_eqb _ _ (λ e. w.left (sym e)))) c.if-numbers-i.branch)),
+          (elim c.if-numbers-i.branch as (λ w. is_package a.number a.version p ≡ false) [
+            then-numbers-i+else-versions-i w ↦ and_right (eq-eqb _ _ (sym w.if-numbers-i.true)) (ne_eqb _ _ (λ e. w.if-versions-i.false (sym e)))
+            | else-numbers-i w ↦ and_left _ (ne_eqb _ _ (λ e. w.if-numbers-i.false (sym e)))
+          ])),
     )
 
 pub returns : goal.returns

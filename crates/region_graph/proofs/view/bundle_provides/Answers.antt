@@ -1,3 +1,4 @@
+use mathlib.Core.Path.{◌≡◌}
 use borrow.Author.Rules.{rules}
 use Rattle.region_graph.specs.Record.{packages_of, provided_of}
 use Rattle.region_graph.proofs.Lists.{eqb_sym}
@@ -38,4 +39,8 @@ pub slice_bounds-has_number-end : goal.slice_bounds-has_number-end
 slice_bounds-has_number-end c = let s = c in filled_part (provided_filled s.args.b.services (services_stored s.args.b s.requires))
 
 pub returns-in_default : goal.returns-in_default
-returns-in_default c = rw (provides_none _ _ _ c.in-0.rest.0.0.1 c.in-0.rest.0.1 c.in-0.rest.1)
+returns-in_default c = 
+    let n0 : c.args.item.kind ≡ 0 → ⊥ = search rules in
+    let n1 : c.args.item.kind ≡ 1 → ⊥ = search rules in
+    let n2 : c.args.item.kind ≡ 2 → ⊥ = search rules in
+    rw (provides_none _ _ _ n0 n1 n2)

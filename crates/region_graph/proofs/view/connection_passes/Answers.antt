@@ -1,3 +1,4 @@
+use mathlib.Core.Path.{◌≡◌}
 use borrow.Author.Rules.{rules}
 use Rattle.region_graph.specs.Record.{numbers_of}
 use Rattle.region_graph.proofs.Arrays.{filled_within, filled_part}
@@ -28,4 +29,8 @@ pub returns-in-2 : goal.returns-in-2
 returns-in-2 c = rw c.in-2.is c.part_passes.ensures
 
 pub returns-in_default : goal.returns-in_default
-returns-in_default c = rw (passes_none _ _ _ c.in-0.rest.0.0.1 c.in-0.rest.0.1 c.in-0.rest.1)
+returns-in_default c = 
+    let n0 : c.args.item.kind ≡ 0 → ⊥ = search rules in
+    let n1 : c.args.item.kind ≡ 1 → ⊥ = search rules in
+    let n2 : c.args.item.kind ≡ 2 → ⊥ = search rules in
+    rw (passes_none _ _ _ n0 n1 n2)

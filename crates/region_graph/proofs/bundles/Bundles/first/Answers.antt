@@ -8,7 +8,7 @@ use Rattle.region_graph.proofs.PlaceLoops.{Searching, searching_start, searching
 use Rattle.region_graph.proofs.bundles.Bundles.first.Goals as goal
 
 pub loop-i-init : goal.loop-i-init
-loop-i-init c = searching_start (bundles_reading c.args.test c.requires)
+loop-i-init c = searching_start (bundles_reading c.args.self c.requires)
 
 pub returns-then-bundle_meets : goal.returns-then-bundle_meets
 returns-then-bundle_meets c = searching_here c.loop-i.invariant (omega arith) _ c.bundle_meets.ensures c.if-bundle_meets.true

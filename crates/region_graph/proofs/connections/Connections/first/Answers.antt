@@ -9,10 +9,10 @@ use Rattle.region_graph.proofs.PlaceLoops.{Searching, searching_start, searching
 use Rattle.region_graph.proofs.connections.Connections.first.Goals as goal
 
 pub loop-i-init : goal.loop-i-init
-loop-i-init c = searching_start (connections_reading c.args.test c.requires)
+loop-i-init c = searching_start (connections_reading c.args.self c.requires)
 
 pub connection_meets-requires : goal.connection_meets-requires
-connection_meets-requires c = connection_stored c.args.test c.requires c.loop-i.i _ (omega arith)
+connection_meets-requires c = connection_stored c.args.self c.requires c.loop-i.i _ (omega arith)
 
 pub returns-then-connection_meets : goal.returns-then-connection_meets
 returns-then-connection_meets c = searching_here c.loop-i.invariant (omega arith) _ c.connection_meets.ensures c.if-connection_meets.true

@@ -6,7 +6,8 @@ use Rattle.region_graph.specs.Refusals.{not_refused}
 use Rattle.region_graph.specs.Lists.{insert_by}
 use Rattle.region_graph.specs.Model.{Model, Connection, entries, Word, EntryFits, connection_before}
 use Rattle.region_graph.specs.Calls.{Call, first_no, number, accepted, end_questions, connection_questions}
-use Rattle.region_graph.specs.Record.{Valid, meaning, store_numbers, store_package_part, store_part, store_connection, store_connections, connections_of, connection_in}
+use Rattle.region_graph.specs.Record.{Valid, meaning, store_numbers, store_package_part, store_part, store_connection, store_connections}
+use Rattle.region_graph.specs.Record.{connections_of, connection_in}
 use Rattle.region_graph.specs.Places.{ShortConnection}
 use Rattle.region_graph.specs.Promise.{Follows, new_connection}
 use Rattle.region_graph.specs.declared.Graph.{Graph}
@@ -32,8 +33,8 @@ module _ (m : Model) (x : Connection) {j k : ℕ} (e : j ≡ first_no (end_quest
       f ∙ first_step (end_questions m.regions x.source x.target) (connection_questions m.connections x) (refl, (refl, (refl, tt))) e u
 
 -- the new place stores the connection
-stores : (x : Connection) {n : Numbers} {p : Entries} {s : Numbers} → n ≡ store_numbers x.filter.bundles → p ≡ store_package_part x.filter.packages
-    → s ≡ store_part x.filter.services
+stores : (x : Connection) {n : Numbers} {p : Entries} {s : Numbers} → n ≡ store_numbers x.filter.bundles
+    → p ≡ store_package_part x.filter.packages → s ≡ store_part x.filter.services
     → ◌≡◌ {A = StoredConnection} (record { source = x.source; target = x.target; bundles = n; packages = p; services = s }) (store_connection x)
 stores x e f h = λ i. record { source = x.source; target = x.target; bundles = e i; packages = f i; services = h i }
 
@@ -66,13 +67,18 @@ pub with-more-requires : goal.with-more-requires
 unfolding meaning
 with-more-requires c =
     let a = c.args in
-    let x = new_connection a.source a.target a.bundles.now a.all_packages (entries a.packages.now a.lowest.now a.highest.now) a.all_services a.services.now in
+    let es = entries a.packages.now a.lowest.now a.highest.now in
+    let x = new_connection a.source a.target a.bundles.now a.all_packages es a.all_services a.services.now in
     record {
       connections_stored = connections_stored a.self c.requires;
       connection_stored =
           stored_as store_connection connection_in ShortConnection connection_back x
           (stores x c.copied-named.ensures c.package_part_copied-passed.ensures c.part_copied-offered.ensures)
-          (record { bundles = grind (arith, common_steps); packages = part_short x.filter.packages (grind (arith, common_steps)); services = part_short x.filter.services (grind (arith, common_steps)) });
+          (record {
+            bundles = grind (arith, common_steps);
+            packages = part_short x.filter.packages (grind (arith, common_steps));
+            services = part_short x.filter.services (grind (arith, common_steps));
+          });
       self_value = (c.requires.good.connections_legal.ascend, grind (arith, common_steps));
     }
 
@@ -85,21 +91,26 @@ returns-then-number-eq-NOT_REFUSED-2 c =
     let e = c.ends_number-number.ensures in
     let fits = c.type_inv in
     follows a.self x _ _ _ c.requires
-    (all_of Word 0 a.bundles.now (λ i h. (fits.bundles i).fits),
+    (
+      all_of Word 0 a.bundles.now (λ i h. (fits.bundles i).fits),
       part_each EntryFits a.all_packages es
-          (entries_fit a.packages.now a.lowest.now a.highest.now (λ i. (fits.packages i).fits) (λ i. (fits.lowest i).fits) (λ i. (fits.highest i).fits)),
-      part_each Word a.all_services a.services.now (all_of Word 0 a.services.now (λ i h. (fits.services i).fits)))
+          (entries_fit a.packages.now a.lowest.now a.highest.now (λ i. (fits.packages i).fits) (λ i. (fits.lowest i).fits)
+          (λ i. (fits.highest i).fits)),
+      part_each Word a.all_services a.services.now (all_of Word 0 a.services.now (λ i h. (fits.services i).fits)),
+    )
     (elim c.if-number-eq-NOT_REFUSED.branch [
       then-number-eq-NOT_REFUSED w ↦ asked_on (meaning a.self) x e w.if-number-eq-NOT_REFUSED.true (w.number-is ∙ w.connect_number-number.ensures)
     | else-number-eq-NOT_REFUSED w ↦ asked_out (meaning a.self) x e w.if-number-eq-NOT_REFUSED.false w.number-is
     ])
-    c.if-number-eq-NOT_REFUSED-2.true (stores x c.copied-named.ensures c.package_part_copied-passed.ensures c.part_copied-offered.ensures) c.with-more.ensures
+    c.if-number-eq-NOT_REFUSED-2.true (stores x c.copied-named.ensures c.package_part_copied-passed.ensures c.part_copied-offered.ensures)
+    c.with-more.ensures
 
 pub returns-else-number-eq-NOT_REFUSED-2 : goal.returns-else-number-eq-NOT_REFUSED-2
 unfolding meaning
 returns-else-number-eq-NOT_REFUSED-2 c =
     let a = c.args in
-    let x = new_connection a.source a.target a.bundles.now a.all_packages (entries a.packages.now a.lowest.now a.highest.now) a.all_services a.services.now in
+    let es = entries a.packages.now a.lowest.now a.highest.now in
+    let x = new_connection a.source a.target a.bundles.now a.all_packages es a.all_services a.services.now in
     let e = c.ends_number-number.ensures in
     refused a.self (Call.connect x) c.requires
     (elim c.if-number-eq-NOT_REFUSED.branch [

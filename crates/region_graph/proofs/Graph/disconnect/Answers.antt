@@ -1,5 +1,5 @@
-use mathlib.Core.Path.{◌≡◌, refl, sym, ◌∙◌}
-use mathlib.Core.Bool.{Bool, true, not}
+use mathlib.Core.Path.{◌≡◌, refl, ◌∙◌}
+use mathlib.Core.Bool.{Bool, not}
 use Prim.Native.Nat.{ℕ}
 use lib.ListN.{drop}
 use Rattle.region_graph.specs.Refusals.{not_refused, not_connected}
@@ -16,7 +16,8 @@ use Rattle.region_graph.proofs.Storing.{connections_filled, connections_count, r
 use Rattle.region_graph.proofs.Graph.disconnect.Goals as goal
 
 -- the record without the connection between the ends, with the number of the call
-follows : (g : Graph) (r s : ℕ) (cs : Connections) (k : ℕ) → Valid g → cs ≡ store_connections (keep (λ x. not (joins r s x)) (connections_of g.connections))
+follows : (g : Graph) (r s : ℕ) (cs : Connections) (k : ℕ) → Valid g
+    → cs ≡ store_connections (keep (λ x. not (joins r s x)) (connections_of g.connections))
     → k ≡ number (meaning g) (Call.disconnect r s)
     → Follows g (Call.disconnect r s) (record { graph = record { regions = g.regions; bundles = g.bundles; connections = cs }; number = k })
 unfolding meaning

@@ -75,8 +75,11 @@ returns-then-number-eq-NOT_REFUSED-2 c =
     let e = c.provided_number-number.ensures in
     let fits = c.type_inv in
     follows a.self b _ _ _ c.requires
-    (c.ranges.location.fits, packages_fit a.numbers.now a.versions.now (λ i. (fits.numbers i).fits) (λ i. (fits.versions i).fits),
-      all_of Word 0 a.services.now (λ i h. (fits.services i).fits))
+    (
+      c.ranges.location.fits,
+      packages_fit a.numbers.now a.versions.now (λ i. (fits.numbers i).fits) (λ i. (fits.versions i).fits),
+      all_of Word 0 a.services.now (λ i h. (fits.services i).fits),
+    )
     (elim c.if-number-eq-NOT_REFUSED.branch [
       then-number-eq-NOT_REFUSED w ↦ asked_on (meaning a.self) b e w.if-number-eq-NOT_REFUSED.true (w.number-is ∙ w.install_number-number.ensures)
     | else-number-eq-NOT_REFUSED w ↦ asked_out (meaning a.self) b e w.if-number-eq-NOT_REFUSED.false w.number-is

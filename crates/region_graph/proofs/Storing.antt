@@ -17,7 +17,6 @@ use Rattle.region_graph.specs.Model.{Model, Package, PackageEntry, packages, ent
 use Rattle.region_graph.specs.Model.{Sorted, SortedPart, Legal, LegalBundle, LegalConnection}
 use Rattle.region_graph.specs.Model.{Word, LegalEntry, entry_before}
 use Rattle.region_graph.specs.Calls.{Call, number, accepted}
-use Rattle.region_graph.specs.Record
 use Rattle.region_graph.specs.Record.{number_places, Stored, Valid, store, meaning, no_bundle, no_connection}
 use Rattle.region_graph.specs.Record.{store_numbers, numbers_of, store_provided, provided_of, store_part, part_in}
 use Rattle.region_graph.specs.Record.{store_packages, packages_of, store_entries, entries_of, store_package_part, package_part_in}

@@ -15,7 +15,7 @@ use Rattle.region_graph.specs.Lists.{pick, exists, position, count_from}
 use Rattle.region_graph.specs.Sets.{singleton, set_of}
 use Rattle.region_graph.specs.Model.{Bundle, Filter, LegalConnection}
 use Rattle.region_graph.specs.Calls.{at_location}
-use Rattle.region_graph.specs.Items.{provides_of, passes_of, provides, passes}
+use Rattle.region_graph.specs.Items.{provides_of, passes_of, provides}
 use Rattle.region_graph.specs.Record.{Valid, meaning, no_bundle, no_connection}
 use Rattle.region_graph.specs.Promise.{place_of, provider_place}
 use Rattle.region_graph.specs.declared.Graph.{Graph}

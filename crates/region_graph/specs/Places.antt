@@ -15,11 +15,9 @@ use Rattle.region_graph.specs.declared.packages.Entries.{Entries}
 use Rattle.region_graph.specs.declared.bundles.StoredBundle.{StoredBundle}
 use Rattle.region_graph.specs.declared.bundles.Bundles.{Bundles}
 use Rattle.region_graph.specs.declared.bundles.BundleTest.{BundleTest}
-use Rattle.region_graph.specs.declared.bundles.BundleTest.TheVariants as BundleTest
 use Rattle.region_graph.specs.declared.connections.StoredConnection.{StoredConnection}
 use Rattle.region_graph.specs.declared.connections.Connections.{Connections}
 use Rattle.region_graph.specs.declared.connections.ConnectionTest.{ConnectionTest}
-use Rattle.region_graph.specs.declared.connections.ConnectionTest.TheVariants as ConnectionTest
 
 -- the places in which a list was put: it stands first, and each other place is as it was
 abbrev pub put_into : List ℕ → List ℕ → List ℕ

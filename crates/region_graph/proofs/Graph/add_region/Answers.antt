@@ -1,6 +1,5 @@
 use mathlib.Core.Path.{ap, ◌∙◌}
 use lib.Bits.{bit_or}
-use borrow.Author.Rules.{rules}
 use Rattle.region_graph.specs.Calls.{Call, accepted}
 use Rattle.region_graph.specs.Record.{meaning}
 use Rattle.region_graph.proofs.Legal.{add_idle}

@@ -1,6 +1,5 @@
 use mathlib.Core.Path.{◌∙◌}
 use native.Mathlib.Omega.{arith}
-use borrow.Author.Rules.{rules}
 use Rattle.region_graph.specs.Record.{no_bundle}
 use Rattle.region_graph.proofs.Arrays.{filled_at}
 use Rattle.region_graph.proofs.PlaceLoops.{graph_bundles, reading_past}

@@ -90,8 +90,7 @@ returns-then-number-eq-NOT_REFUSED-2 c =
     let x = new_connection a.source a.target a.bundles.now a.all_packages es a.all_services a.services.now in
     let e = c.ends_number-number.ensures in
     let fits = c.type_inv in
-    follows a.self x _ _ _ c.requires
-    (
+    follows a.self x _ _ _ c.requires (
       all_of Word 0 a.bundles.now (λ i h. (fits.bundles i).fits),
       part_each EntryFits a.all_packages es
           (entries_fit a.packages.now a.lowest.now a.highest.now (λ i. (fits.packages i).fits) (λ i. (fits.lowest i).fits)
@@ -99,8 +98,8 @@ returns-then-number-eq-NOT_REFUSED-2 c =
       part_each Word a.all_services a.services.now (all_of Word 0 a.services.now (λ i h. (fits.services i).fits)),
     )
     (elim c.if-number-eq-NOT_REFUSED.branch [
-      then-number-eq-NOT_REFUSED w ↦ asked_on (meaning a.self) x e w.if-number-eq-NOT_REFUSED.true (w.number-is ∙ w.connect_number-number.ensures)
-    | else-number-eq-NOT_REFUSED w ↦ asked_out (meaning a.self) x e w.if-number-eq-NOT_REFUSED.false w.number-is
+      | then-number-eq-NOT_REFUSED w ↦ asked_on (meaning a.self) x e w.if-number-eq-NOT_REFUSED.true (w.number-is ∙ w.connect_number-number.ensures)
+      | else-number-eq-NOT_REFUSED w ↦ asked_out (meaning a.self) x e w.if-number-eq-NOT_REFUSED.false w.number-is
     ])
     c.if-number-eq-NOT_REFUSED-2.true (stores x c.copied-named.ensures c.package_part_copied-passed.ensures c.part_copied-offered.ensures)
     c.with-more.ensures
@@ -114,7 +113,7 @@ returns-else-number-eq-NOT_REFUSED-2 c =
     let e = c.ends_number-number.ensures in
     refused a.self (Call.connect x) c.requires
     (elim c.if-number-eq-NOT_REFUSED.branch [
-      then-number-eq-NOT_REFUSED w ↦ asked_on (meaning a.self) x e w.if-number-eq-NOT_REFUSED.true (w.number-is ∙ w.connect_number-number.ensures)
-    | else-number-eq-NOT_REFUSED w ↦ asked_out (meaning a.self) x e w.if-number-eq-NOT_REFUSED.false w.number-is
+      | then-number-eq-NOT_REFUSED w ↦ asked_on (meaning a.self) x e w.if-number-eq-NOT_REFUSED.true (w.number-is ∙ w.connect_number-number.ensures)
+      | else-number-eq-NOT_REFUSED w ↦ asked_out (meaning a.self) x e w.if-number-eq-NOT_REFUSED.false w.number-is
     ])
     c.if-number-eq-NOT_REFUSED-2.false refl

@@ -1,4 +1,3 @@
-use borrow.Author.Rules.{rules}
 use Rattle.region_graph.proofs.Storing.{stores_nothing, stored_graph}
 use Rattle.region_graph.proofs.Bits.{set_none}
 use mathlib.Core.Path.{sym}

@@ -1,11 +1,8 @@
 use Prim.Native.Nat.{◌-◌}
-use native.Mathlib.Omega.{arith}
-use borrow.Author.Rules.{rules}
 use Rattle.region_graph.specs.Items.{provides}
-use Rattle.region_graph.specs.Record.{meaning, bundles_of}
-use Rattle.region_graph.proofs.Storing.{bundles_stored, bundle_stored}
-use Rattle.region_graph.proofs.PlaceLoops.{bundle_storage, bundles_reading, Folding, folding_start, folding_end}
-use Rattle.region_graph.proofs.Views.{held, held_none, holding_took, holding_left}
+use Rattle.region_graph.specs.Record.{bundles_of}
+use Rattle.region_graph.proofs.PlaceLoops.{bundle_storage, Folding}
+use Rattle.region_graph.proofs.Views.{held}
 use Rattle.region_graph.proofs.Graph.holders.Given as goal
 
 abbrev pub invariant-loop-i : goal.invariant-loop-i

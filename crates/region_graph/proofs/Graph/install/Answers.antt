@@ -74,15 +74,14 @@ returns-then-number-eq-NOT_REFUSED-2 c =
     let b = new_bundle a.region a.location (packages a.numbers.now a.versions.now) a.services.now in
     let e = c.provided_number-number.ensures in
     let fits = c.type_inv in
-    follows a.self b _ _ _ c.requires
-    (
+    follows a.self b _ _ _ c.requires (
       c.ranges.location.fits,
       packages_fit a.numbers.now a.versions.now (λ i. (fits.numbers i).fits) (λ i. (fits.versions i).fits),
       all_of Word 0 a.services.now (λ i h. (fits.services i).fits),
     )
     (elim c.if-number-eq-NOT_REFUSED.branch [
-      then-number-eq-NOT_REFUSED w ↦ asked_on (meaning a.self) b e w.if-number-eq-NOT_REFUSED.true (w.number-is ∙ w.install_number-number.ensures)
-    | else-number-eq-NOT_REFUSED w ↦ asked_out (meaning a.self) b e w.if-number-eq-NOT_REFUSED.false w.number-is
+      | then-number-eq-NOT_REFUSED w ↦ asked_on (meaning a.self) b e w.if-number-eq-NOT_REFUSED.true (w.number-is ∙ w.install_number-number.ensures)
+      | else-number-eq-NOT_REFUSED w ↦ asked_out (meaning a.self) b e w.if-number-eq-NOT_REFUSED.false w.number-is
     ])
     c.if-number-eq-NOT_REFUSED-2.true (stores b c.packages_copied-exported.ensures c.provided_copied-published.ensures) c.with-more.ensures
 
@@ -94,7 +93,7 @@ returns-else-number-eq-NOT_REFUSED-2 c =
     let e = c.provided_number-number.ensures in
     refused a.self (Call.install b) c.requires
     (elim c.if-number-eq-NOT_REFUSED.branch [
-      then-number-eq-NOT_REFUSED w ↦ asked_on (meaning a.self) b e w.if-number-eq-NOT_REFUSED.true (w.number-is ∙ w.install_number-number.ensures)
-    | else-number-eq-NOT_REFUSED w ↦ asked_out (meaning a.self) b e w.if-number-eq-NOT_REFUSED.false w.number-is
+      | then-number-eq-NOT_REFUSED w ↦ asked_on (meaning a.self) b e w.if-number-eq-NOT_REFUSED.true (w.number-is ∙ w.install_number-number.ensures)
+      | else-number-eq-NOT_REFUSED w ↦ asked_out (meaning a.self) b e w.if-number-eq-NOT_REFUSED.false w.number-is
     ])
     c.if-number-eq-NOT_REFUSED-2.false refl

@@ -1,6 +1,4 @@
 use mathlib.Core.Bool.{◌&&◌}
-use borrow.Author.Rules.{rules}
-use borrow.Author.Tests.{not-true, not-false}
 use Rattle.region_graph.specs.Model.{Legal}
 use Rattle.region_graph.specs.Record.{store}
 use Rattle.region_graph.specs.Flat.{FlatModel}

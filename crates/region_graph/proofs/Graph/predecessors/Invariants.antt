@@ -1,12 +1,8 @@
 use Prim.Native.Nat.{◌-◌}
-use native.Mathlib.Omega.{arith}
-use borrow.Author.Rules.{rules}
 use Rattle.region_graph.specs.Items.{passes}
-use Rattle.region_graph.specs.Promise.{predecessor_sets}
-use Rattle.region_graph.specs.Record.{meaning, connections_of}
-use Rattle.region_graph.proofs.Storing.{connections_stored, connection_stored}
-use Rattle.region_graph.proofs.PlaceLoops.{connection_storage, connections_reading, Folding, folding_start, folding_end}
-use Rattle.region_graph.proofs.Views.{led, led_none, leading_took, leading_left, target_region}
+use Rattle.region_graph.specs.Record.{connections_of}
+use Rattle.region_graph.proofs.PlaceLoops.{connection_storage, Folding}
+use Rattle.region_graph.proofs.Views.{led}
 use Rattle.region_graph.proofs.Graph.predecessors.Given as goal
 
 abbrev pub invariant-loop-i : goal.invariant-loop-i

@@ -1,5 +1,4 @@
 use mathlib.Core.Path.{◌∙◌}
-use borrow.Author.Rules.{rules}
 use Rattle.region_graph.specs.Calls.{Call, accepted}
 use Rattle.region_graph.specs.Record.{meaning}
 use Rattle.region_graph.proofs.Legal.{remove_idle}

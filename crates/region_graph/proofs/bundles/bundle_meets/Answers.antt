@@ -1,4 +1,3 @@
-use borrow.Author.Rules.{rules}
 use Rattle.region_graph.proofs.bundles.bundle_meets.Goals as goal
 
 pub returns-in-At : goal.returns-in-At

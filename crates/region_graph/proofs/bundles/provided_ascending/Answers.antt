@@ -1,5 +1,4 @@
 use mathlib.Core.Path.{sym, ◌∙◌}
-use borrow.Author.Rules.{rules}
 use Rattle.region_graph.proofs.bundles.provided_ascending.Goals as goal
 
 pub returns-then-packages_ascending : goal.returns-then-packages_ascending

@@ -1,8 +1,6 @@
 use mathlib.Core.Path.{◌≡◌, refl, sym, ◌∙◌}
 use mathlib.Core.Bool.{true, ◌&&◌}
 use lib.ListN.{drop}
-use borrow.Author.Rules.{rules}
-use borrow.Author.Tests.{not-true, not-false}
 use Rattle.region_graph.specs.Size.{most_provided}
 use Rattle.region_graph.specs.Lists.{All}
 use Rattle.region_graph.specs.Sets.{members}

@@ -1,4 +1,3 @@
-use borrow.Author.Rules.{rules}
 use Rattle.region_graph.proofs.connections.package_part_ordered.Goals as goal
 
 pub returns-then-all : goal.returns-then-all

@@ -1,4 +1,3 @@
-use borrow.Author.Rules.{rules}
 use Rattle.region_graph.proofs.connections.part_within.Goals as goal
 
 pub returns : goal.returns

@@ -1,10 +1,7 @@
-use Prim.Native.Nat.{◌-◌}
 use native.Mathlib.Omega.{arith}
-use borrow.Author.Rules.{rules}
-use Rattle.region_graph.specs.Size.{most_bundles}
 use Rattle.region_graph.specs.Sets.{members}
 use Rattle.region_graph.proofs.Storing.{no_bundles, filled_bundles}
-use Rattle.region_graph.proofs.FlatLoops.{bundle_rows, Taken, taken_none, taken_more, taken_end, stuck_low, stuck_bad}
+use Rattle.region_graph.proofs.FlatLoops.{bundle_rows, taken_none, taken_more, taken_end, stuck_low, stuck_bad}
 use Rattle.region_graph.proofs.flat.bundle_list.Goals as goal
 use Rattle.region_graph.proofs.flat.bundle_list.Goals.{else-loop-i-test, then-loop-i-test+then-rows-at-lt-BUNDLE_WIDTH, then-loop-i-test+else-rows-at-lt-BUNDLE_WIDTH+then-not-next, then-loop-i-test+else-rows-at-lt-BUNDLE_WIDTH+else-not-next+then-location-least}
 
@@ -21,7 +18,7 @@ loop-i-preserved c =
 pub returns : goal.returns
 returns c = let t = c.loop-i.invariant in
     taken_end t (elim c.loop-i-test.branch [
-      else-loop-i-test w ↦ λ y g h room l few. omega (arith, w.loop-i-test.false)
+      | else-loop-i-test w ↦ λ y g h room l few. omega (arith, w.loop-i-test.false)
       | then-loop-i-test+then-rows-at-lt-BUNDLE_WIDTH w ↦ λ y g h room l few. omega (arith, w.if-rows-at-lt-BUNDLE_WIDTH.true)
       | then-loop-i-test+else-rows-at-lt-BUNDLE_WIDTH+then-not-next w ↦ stuck_bad t w.bundle_of-next.ensures w.if-not-next.true
       | then-loop-i-test+else-rows-at-lt-BUNDLE_WIDTH+else-not-next+then-location-least w ↦ stuck_low t w.bundle_of-next.ensures w.if-location-least.true w.if-not-next.false

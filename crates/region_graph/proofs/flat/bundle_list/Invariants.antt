@@ -1,10 +1,7 @@
 use Prim.Native.Nat.{◌-◌}
-use native.Mathlib.Omega.{arith}
-use borrow.Author.Rules.{rules}
 use Rattle.region_graph.specs.Size.{most_bundles}
 use Rattle.region_graph.specs.Sets.{members}
-use Rattle.region_graph.proofs.Storing.{no_bundles, filled_bundles}
-use Rattle.region_graph.proofs.FlatLoops.{bundle_rows, Taken, taken_none, taken_more, taken_end}
+use Rattle.region_graph.proofs.FlatLoops.{bundle_rows, Taken}
 use Rattle.region_graph.proofs.flat.bundle_list.Given as goal
 
 abbrev pub invariant-loop-i : goal.invariant-loop-i

@@ -1,4 +1,3 @@
-use borrow.Author.Rules.{rules}
 use Rattle.region_graph.proofs.FlatLaws.{provided_decoded, bundle_found}
 use Rattle.region_graph.proofs.flat.bundle_of.Goals as goal
 

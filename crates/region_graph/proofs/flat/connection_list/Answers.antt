@@ -1,13 +1,8 @@
-use Prim.Native.Nat.{ℕ, ◌-◌}
 use native.Mathlib.Omega.{arith}
-use borrow.Author.Rules.{rules}
-use Rattle.region_graph.specs.Size.{most_connections}
-use Rattle.region_graph.specs.Model.{Connection}
 use Rattle.region_graph.specs.Sets.{members}
-use Rattle.region_graph.specs.declared.connections.StoredConnection.{StoredConnection}
 use Rattle.region_graph.proofs.Storing.{no_connections, filled_connections}
 use Rattle.region_graph.proofs.FlatLaws.{members_small}
-use Rattle.region_graph.proofs.FlatLoops.{Rows, connection_rows, Taken, taken_none, taken_more, taken_end, stuck_low, stuck_bad}
+use Rattle.region_graph.proofs.FlatLoops.{connection_rows, taken_none, taken_more, taken_end, stuck_low, stuck_bad}
 use Rattle.region_graph.proofs.flat.connection_list.Goals as goal
 use Rattle.region_graph.proofs.flat.connection_list.Goals.{else-loop-i-test, then-loop-i-test+then-rows-at-lt-CONNECTION_WIDTH, then-loop-i-test+else-rows-at-lt-CONNECTION_WIDTH+then-not-next, then-loop-i-test+else-rows-at-lt-CONNECTION_WIDTH+else-not-next+then-order-least}
 
@@ -24,7 +19,7 @@ loop-i-preserved c =
 pub returns : goal.returns
 returns c = let t = c.loop-i.invariant in
     taken_end t (elim c.loop-i-test.branch [
-      else-loop-i-test w ↦ λ y g h room l few. omega (arith, w.loop-i-test.false)
+      | else-loop-i-test w ↦ λ y g h room l few. omega (arith, w.loop-i-test.false)
       | then-loop-i-test+then-rows-at-lt-CONNECTION_WIDTH w ↦ λ y g h room l few. omega (arith, w.if-rows-at-lt-CONNECTION_WIDTH.true)
       | then-loop-i-test+else-rows-at-lt-CONNECTION_WIDTH+then-not-next w ↦ stuck_bad t w.connection_of-next.ensures w.if-not-next.true
       | then-loop-i-test+else-rows-at-lt-CONNECTION_WIDTH+else-not-next+then-order-least w ↦ stuck_low t w.connection_of-next.ensures w.if-order-least.true w.if-not-next.false

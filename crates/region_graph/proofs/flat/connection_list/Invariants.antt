@@ -1,13 +1,8 @@
-use Prim.Native.Nat.{ℕ, ◌-◌}
-use native.Mathlib.Omega.{arith}
-use borrow.Author.Rules.{rules}
+use Prim.Native.Nat.{◌-◌}
 use Rattle.region_graph.specs.Size.{most_connections}
-use Rattle.region_graph.specs.Model.{Connection}
 use Rattle.region_graph.specs.Sets.{members}
-use Rattle.region_graph.specs.declared.connections.StoredConnection.{StoredConnection}
-use Rattle.region_graph.proofs.Storing.{no_connections, filled_connections}
 use Rattle.region_graph.proofs.FlatLaws.{members_small}
-use Rattle.region_graph.proofs.FlatLoops.{Rows, connection_rows, Taken, taken_none, taken_more, taken_end}
+use Rattle.region_graph.proofs.FlatLoops.{connection_rows, Taken}
 use Rattle.region_graph.proofs.flat.connection_list.Given as goal
 
 abbrev pub invariant-loop-i : goal.invariant-loop-i

@@ -1,4 +1,3 @@
-use borrow.Author.Rules.{rules}
 use Rattle.region_graph.proofs.FlatLaws.{numbers_decoded, part_decoded, connection_found}
 use Rattle.region_graph.proofs.flat.connection_of.Goals as goal
 

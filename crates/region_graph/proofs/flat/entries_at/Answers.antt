@@ -1,5 +1,4 @@
 use mathlib.Core.Path.{refl}
-use borrow.Author.Rules.{rules}
 use Rattle.region_graph.proofs.Arrays.{prefix_counted}
 use Rattle.region_graph.proofs.FlatLaws.{entries_long, entries_found}
 use Rattle.region_graph.proofs.flat.entries_at.Goals as goal

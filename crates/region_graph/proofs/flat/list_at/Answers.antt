@@ -1,6 +1,5 @@
 use mathlib.Core.Path.{refl, sym}
 use native.Mathlib.Omega.{arith}
-use borrow.Author.Rules.{rules}
 use lib.Seq.{length-take-le}
 use Rattle.region_graph.proofs.FlatLaws.{list_long, list_found}
 use Rattle.region_graph.proofs.flat.list_at.Goals as goal

@@ -1,4 +1,3 @@
-use borrow.Author.Rules.{rules}
 use Rattle.region_graph.specs.Model.{entry_before, LegalEntry}
 use Rattle.region_graph.specs.Flat.{entry_code, map_part, FlatPart}
 use Rattle.region_graph.proofs.FlatLaws.{part_all, part_listed}

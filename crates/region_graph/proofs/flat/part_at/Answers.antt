@@ -1,5 +1,4 @@
 use mathlib.Core.Path.{refl}
-use borrow.Author.Rules.{rules}
 use lib.Dec.{ltb}
 use Rattle.region_graph.specs.Model.{Word}
 use Rattle.region_graph.specs.Flat.{FlatPart}

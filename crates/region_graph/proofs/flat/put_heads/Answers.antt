@@ -1,8 +1,5 @@
-use Prim.Native.Nat.{◌-◌, ◌^◌}
 use native.Mathlib.Omega.{arith}
-use borrow.Author.Rules.{rules}
-use lib.ListN.{length}
-use Rattle.region_graph.proofs.FlatLaws.{HeadsTo, heads_none, heads_next, heads_end}
+use Rattle.region_graph.proofs.FlatLaws.{heads_none, heads_next, heads_end}
 use Rattle.region_graph.proofs.flat.put_heads.Goals as goal
 
 pub loop-i-preserved : goal.loop-i-preserved

@@ -1,8 +1,6 @@
 use Prim.Native.Nat.{◌-◌, ◌^◌}
-use native.Mathlib.Omega.{arith}
-use borrow.Author.Rules.{rules}
 use lib.ListN.{length}
-use Rattle.region_graph.proofs.FlatLaws.{HeadsTo, heads_none, heads_next, heads_end}
+use Rattle.region_graph.proofs.FlatLaws.{HeadsTo}
 use Rattle.region_graph.proofs.flat.put_heads.Given as goal
 
 abbrev pub invariant-loop-i : goal.invariant-loop-i

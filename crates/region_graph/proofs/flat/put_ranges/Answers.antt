@@ -1,8 +1,5 @@
-use Prim.Native.Nat.{◌-◌}
 use native.Mathlib.Omega.{arith}
-use borrow.Author.Rules.{rules}
-use lib.ListN.{length}
-use Rattle.region_graph.proofs.FlatLaws.{RangesTo, ranges_none, ranges_next, ranges_end}
+use Rattle.region_graph.proofs.FlatLaws.{ranges_none, ranges_next, ranges_end}
 use Rattle.region_graph.proofs.flat.put_ranges.Goals as goal
 
 pub loop-i-preserved : goal.loop-i-preserved

@@ -1,8 +1,6 @@
 use Prim.Native.Nat.{◌-◌}
-use native.Mathlib.Omega.{arith}
-use borrow.Author.Rules.{rules}
 use lib.ListN.{length}
-use Rattle.region_graph.proofs.FlatLaws.{RangesTo, ranges_none, ranges_next, ranges_end}
+use Rattle.region_graph.proofs.FlatLaws.{RangesTo}
 use Rattle.region_graph.proofs.flat.put_ranges.Given as goal
 
 abbrev pub invariant-loop-i : goal.invariant-loop-i

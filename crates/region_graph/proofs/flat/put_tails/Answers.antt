@@ -1,9 +1,5 @@
-use Prim.Native.Nat.{◌-◌}
 use native.Mathlib.Omega.{arith}
-use borrow.Author.Rules.{rules}
-use lib.ListN.{length}
-use Rattle.region_graph.specs.Decoded.{tail_from}
-use Rattle.region_graph.proofs.Arrays.{Making, making_none, making_next, making_end}
+use Rattle.region_graph.proofs.Arrays.{making_none, making_next, making_end}
 use Rattle.region_graph.proofs.flat.put_tails.Goals as goal
 
 pub loop-i-preserved : goal.loop-i-preserved

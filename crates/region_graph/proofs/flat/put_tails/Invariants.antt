@@ -1,9 +1,7 @@
 use Prim.Native.Nat.{◌-◌}
-use native.Mathlib.Omega.{arith}
-use borrow.Author.Rules.{rules}
 use lib.ListN.{length}
 use Rattle.region_graph.specs.Decoded.{tail_from}
-use Rattle.region_graph.proofs.Arrays.{Making, making_none, making_next, making_end}
+use Rattle.region_graph.proofs.Arrays.{Making}
 use Rattle.region_graph.proofs.flat.put_tails.Given as goal
 
 abbrev pub invariant-loop-i : goal.invariant-loop-i

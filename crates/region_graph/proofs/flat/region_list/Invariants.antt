@@ -1,9 +1,6 @@
 use Prim.Native.Nat.{◌-◌}
-use mathlib.Core.Path.{sym, ◌∙◌}
-use borrow.Author.Rules.{rules}
-use borrow.Author.Tests.{not-true, not-false}
 use lib.ListN.{length}
-use Rattle.region_graph.proofs.FlatLoops.{Regions, regions_none, regions_next, regions_stop, regions_end}
+use Rattle.region_graph.proofs.FlatLoops.{Regions}
 use Rattle.region_graph.proofs.flat.region_list.Given as goal
 
 abbrev pub invariant-loop-i : goal.invariant-loop-i

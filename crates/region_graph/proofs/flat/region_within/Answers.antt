@@ -1,4 +1,3 @@
-use borrow.Author.Rules.{rules}
 use Rattle.region_graph.proofs.FlatLaws.{region_decoded}
 use Rattle.region_graph.proofs.flat.region_within.Goals as goal
 

@@ -1,4 +1,3 @@
-use borrow.Author.Rules.{rules}
 use Rattle.region_graph.proofs.FlatLaws.{word_read, word_long}
 use Rattle.region_graph.proofs.flat.word_of.Goals as goal
 

@@ -1,10 +1,5 @@
-use mathlib.Core.Path.{◌≡◌, refl}
-use Prim.Native.Nat.{◌-◌, ◌≤◌}
+use mathlib.Core.Path.{refl}
 use native.Mathlib.Omega.{arith}
-use borrow.Author.Rules.{rules}
-use lib.Dec.{ltb}
-use lib.ListN.{length, drop}
-use Rattle.region_graph.specs.Lists.{ascends}
 use Rattle.region_graph.proofs.Ascending.{ascends_end, ascends_later, ascends_stop}
 use Rattle.region_graph.proofs.numbers.ascending.Goals as goal
 

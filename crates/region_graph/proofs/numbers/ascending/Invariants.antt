@@ -1,11 +1,8 @@
-use mathlib.Core.Path.{◌≡◌, refl}
+use mathlib.Core.Path.{◌≡◌}
 use Prim.Native.Nat.{◌-◌, ◌≤◌}
-use native.Mathlib.Omega.{arith}
-use borrow.Author.Rules.{rules}
 use lib.Dec.{ltb}
 use lib.ListN.{length, drop}
 use Rattle.region_graph.specs.Lists.{ascends}
-use Rattle.region_graph.proofs.Ascending.{ascends_end, ascends_later, ascends_stop}
 use Rattle.region_graph.proofs.numbers.ascending.Given as goal
 
 abbrev pub invariant-loop-i : goal.invariant-loop-i

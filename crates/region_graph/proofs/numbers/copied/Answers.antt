@@ -1,4 +1,3 @@
-use borrow.Author.Rules.{rules}
 use Rattle.region_graph.proofs.Storing.{filled_put, filled_numbers}
 use Rattle.region_graph.proofs.numbers.copied.Goals as goal
 

@@ -1,12 +1,8 @@
-use borrow.Author.Rules.{rules}
-use mathlib.Core.Path.{◌≡◌, refl, sym}
+use mathlib.Core.Path.{◌≡◌}
 use Prim.Native.Nat.{◌-◌, ◌≤◌}
-use native.Mathlib.Omega.{arith}
-use borrow.Author.Tests.{eq-eqb, ne_eqb}
 use lib.Dec.{eqb}
 use lib.ListN.{length, drop}
 use Rattle.region_graph.specs.Lists.{exists, member}
-use Rattle.region_graph.proofs.Lists.{exists_here, exists_later, exists_end}
 use Rattle.region_graph.proofs.numbers.has_number.Given as goal
 
 abbrev pub invariant-loop-i : goal.invariant-loop-i

@@ -1,4 +1,3 @@
-use borrow.Author.Rules.{rules}
 use Rattle.region_graph.proofs.Storing.{filled_put, filled_provided}
 use Rattle.region_graph.proofs.numbers.provided_copied.Goals as goal
 

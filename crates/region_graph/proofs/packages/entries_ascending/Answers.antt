@@ -1,5 +1,4 @@
 use mathlib.Core.Path.{◌∙◌}
-use borrow.Author.Rules.{rules}
 use Rattle.region_graph.proofs.Columns.{entries_taken, entries_ascend}
 use Rattle.region_graph.proofs.packages.entries_ascending.Goals as goal
 

@@ -1,5 +1,4 @@
 use native.Mathlib.Omega.{arith}
-use borrow.Author.Rules.{rules}
 use Rattle.region_graph.proofs.Columns.{entries_taken, entries_put}
 use Rattle.region_graph.proofs.packages.entries_copied.Goals as goal
 

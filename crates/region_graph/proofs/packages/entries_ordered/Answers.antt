@@ -1,10 +1,6 @@
-use mathlib.Core.Path.{◌≡◌, refl}
-use Prim.Native.Nat.{◌-◌, ◌≤◌}
+use mathlib.Core.Path.{refl}
 use native.Mathlib.Omega.{arith}
-use borrow.Author.Rules.{rules}
 use borrow.Author.Tests.{le-leb, lt-leb}
-use lib.ListN.{length, drop}
-use Rattle.region_graph.specs.Lists.{every}
 use Rattle.region_graph.specs.Model.{entries, ordered}
 use Rattle.region_graph.proofs.Lists.{every_stop, every_later, every_end}
 use Rattle.region_graph.proofs.Columns.{no_range, entries_within, entries_at}

@@ -1,12 +1,8 @@
 use mathlib.Core.Path.{◌≡◌, refl, sym, ◌∙◌}
 use mathlib.Core.Bool.{false}
-use mathlib.Core.Logic.{⊎_elim}
-use Prim.Native.Nat.{◌-◌, ◌≤◌}
 use native.Mathlib.Omega.{arith}
-use borrow.Author.Rules.{rules}
 use borrow.Author.Tests.{eq-eqb, ne_eqb}
-use lib.ListN.{length, get_or, drop}
-use Rattle.region_graph.specs.Lists.{exists}
+use lib.ListN.{get_or}
 use Rattle.region_graph.specs.Model.{PackageEntry, entries}
 use Rattle.region_graph.specs.Items.{entry_passes}
 use Rattle.region_graph.proofs.Lists.{and_yes, and_left, and_right, exists_here, exists_later, exists_end}
@@ -41,7 +37,7 @@ loop-i-preserved c =
       exists_later (entry_passes a.number a.version) es l.i no_range (omega arith) l.invariant.2
           (rw (entries_at a.numbers.now a.lowest.now a.highest.now l.i (omega arith))
           (elim c.if-numbers-i.branch as (λ w. entry_passes a.number a.version e ≡ false) [
-            then-numbers-i+else-lies_between w ↦ and_right (eq-eqb _ _ (sym w.if-numbers-i.true)) (sym w.lies_between.ensures ∙ w.if-lies_between.false)
+            | then-numbers-i+else-lies_between w ↦ and_right (eq-eqb _ _ (sym w.if-numbers-i.true)) (sym w.lies_between.ensures ∙ w.if-lies_between.false)
             | else-numbers-i w ↦ and_left _ (ne_eqb _ _ (λ f. w.if-numbers-i.false (sym f)))
           ])),
     )

@@ -1,16 +1,9 @@
-use mathlib.Core.Path.{◌≡◌, refl, sym, ◌∙◌}
-use mathlib.Core.Bool.{false}
-use mathlib.Core.Logic.{⊎_elim}
+use mathlib.Core.Path.{◌≡◌}
 use Prim.Native.Nat.{◌-◌, ◌≤◌}
-use native.Mathlib.Omega.{arith}
-use borrow.Author.Rules.{rules}
-use borrow.Author.Tests.{eq-eqb, ne_eqb}
-use lib.ListN.{length, get_or, drop}
+use lib.ListN.{length, drop}
 use Rattle.region_graph.specs.Lists.{exists}
-use Rattle.region_graph.specs.Model.{PackageEntry, entries}
+use Rattle.region_graph.specs.Model.{entries}
 use Rattle.region_graph.specs.Items.{entry_passes}
-use Rattle.region_graph.proofs.Lists.{and_yes, and_left, and_right, exists_here, exists_later, exists_end}
-use Rattle.region_graph.proofs.Columns.{no_range, entries_within, entries_at}
 use Rattle.region_graph.proofs.packages.entries_pass.Given as goal
 
 abbrev pub invariant-loop-i : goal.invariant-loop-i

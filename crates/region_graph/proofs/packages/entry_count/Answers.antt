@@ -1,5 +1,4 @@
 use native.Mathlib.Omega.{arith}
-use borrow.Author.Rules.{rules}
 use Rattle.region_graph.proofs.Columns.{packages_length, entries_length}
 use Rattle.region_graph.proofs.packages.entry_count.Goals as goal
 

@@ -1,12 +1,8 @@
 use mathlib.Core.Path.{◌≡◌, refl, sym}
 use mathlib.Core.Bool.{false}
-use mathlib.Core.Logic.{⊎_elim}
-use Prim.Native.Nat.{◌-◌, ◌≤◌}
 use native.Mathlib.Omega.{arith}
-use borrow.Author.Rules.{rules}
 use borrow.Author.Tests.{eq-eqb, ne_eqb}
-use lib.ListN.{length, get_or, drop}
-use Rattle.region_graph.specs.Lists.{exists}
+use lib.ListN.{get_or}
 use Rattle.region_graph.specs.Model.{Package, packages}
 use Rattle.region_graph.specs.Items.{is_package}
 use Rattle.region_graph.proofs.Lists.{and_yes, and_left, and_right, exists_here, exists_later, exists_end}
@@ -38,7 +34,7 @@ loop-i-preserved c =
       exists_later (is_package a.number a.version) ps l.i no_package (omega arith) l.invariant.2
           (rw (packages_at a.numbers.now a.versions.now l.i (omega arith))
           (elim c.if-numbers-i.branch as (λ w. is_package a.number a.version p ≡ false) [
-            then-numbers-i+else-versions-i w ↦ and_right (eq-eqb _ _ (sym w.if-numbers-i.true)) (ne_eqb _ _ (λ e. w.if-versions-i.false (sym e)))
+            | then-numbers-i+else-versions-i w ↦ and_right (eq-eqb _ _ (sym w.if-numbers-i.true)) (ne_eqb _ _ (λ e. w.if-versions-i.false (sym e)))
             | else-numbers-i w ↦ and_left _ (ne_eqb _ _ (λ e. w.if-numbers-i.false (sym e)))
           ])),
     )

@@ -1,16 +1,9 @@
-use mathlib.Core.Path.{◌≡◌, refl, sym}
-use mathlib.Core.Bool.{false}
-use mathlib.Core.Logic.{⊎_elim}
+use mathlib.Core.Path.{◌≡◌}
 use Prim.Native.Nat.{◌-◌, ◌≤◌}
-use native.Mathlib.Omega.{arith}
-use borrow.Author.Rules.{rules}
-use borrow.Author.Tests.{eq-eqb, ne_eqb}
-use lib.ListN.{length, get_or, drop}
+use lib.ListN.{length, drop}
 use Rattle.region_graph.specs.Lists.{exists}
-use Rattle.region_graph.specs.Model.{Package, packages}
+use Rattle.region_graph.specs.Model.{packages}
 use Rattle.region_graph.specs.Items.{is_package}
-use Rattle.region_graph.proofs.Lists.{and_yes, and_left, and_right, exists_here, exists_later, exists_end}
-use Rattle.region_graph.proofs.Columns.{no_package, packages_within, packages_at}
 use Rattle.region_graph.proofs.packages.has_package.Given as goal
 
 abbrev pub invariant-loop-i : goal.invariant-loop-i

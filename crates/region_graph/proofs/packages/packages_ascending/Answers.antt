@@ -1,10 +1,5 @@
-use mathlib.Core.Path.{◌≡◌, refl, sym, ◌∙◌}
-use Prim.Native.Nat.{◌-◌, ◌≤◌}
+use mathlib.Core.Path.{refl, sym, ◌∙◌}
 use native.Mathlib.Omega.{arith}
-use borrow.Author.Rules.{rules}
-use borrow.Author.Tests.{not-true, not-false}
-use lib.ListN.{length, drop}
-use Rattle.region_graph.specs.Lists.{ascends}
 use Rattle.region_graph.specs.Model.{packages, package_before}
 use Rattle.region_graph.proofs.Ascending.{steps_end, steps_later, steps_stop}
 use Rattle.region_graph.proofs.Columns.{no_package, packages_within, packages_step}

@@ -1,13 +1,8 @@
-use mathlib.Core.Path.{◌≡◌, refl, sym, ◌∙◌}
+use mathlib.Core.Path.{◌≡◌}
 use Prim.Native.Nat.{◌-◌, ◌≤◌}
-use native.Mathlib.Omega.{arith}
-use borrow.Author.Rules.{rules}
-use borrow.Author.Tests.{not-true, not-false}
 use lib.ListN.{length, drop}
 use Rattle.region_graph.specs.Lists.{ascends}
 use Rattle.region_graph.specs.Model.{packages, package_before}
-use Rattle.region_graph.proofs.Ascending.{steps_end, steps_later, steps_stop}
-use Rattle.region_graph.proofs.Columns.{no_package, packages_within, packages_step}
 use Rattle.region_graph.proofs.packages.packages_ascending.Given as goal
 
 abbrev pub invariant-loop-i : goal.invariant-loop-i

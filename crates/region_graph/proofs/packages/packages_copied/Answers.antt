@@ -1,5 +1,4 @@
 use native.Mathlib.Omega.{arith}
-use borrow.Author.Rules.{rules}
 use Rattle.region_graph.proofs.Columns.{packages_taken, packages_put}
 use Rattle.region_graph.proofs.packages.packages_copied.Goals as goal
 

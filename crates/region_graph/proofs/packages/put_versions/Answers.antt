@@ -1,8 +1,5 @@
-use Prim.Native.Nat.{◌-◌}
 use native.Mathlib.Omega.{arith}
-use borrow.Author.Rules.{rules}
-use lib.ListN.{length}
-use Rattle.region_graph.proofs.Arrays.{Putting, putting_none, putting_next, putting_end}
+use Rattle.region_graph.proofs.Arrays.{putting_none, putting_next, putting_end}
 use Rattle.region_graph.proofs.packages.put_versions.Goals as goal
 
 pub loop-i-init : goal.loop-i-init

@@ -1,8 +1,6 @@
 use Prim.Native.Nat.{◌-◌}
-use native.Mathlib.Omega.{arith}
-use borrow.Author.Rules.{rules}
 use lib.ListN.{length}
-use Rattle.region_graph.proofs.Arrays.{Putting, putting_none, putting_next, putting_end}
+use Rattle.region_graph.proofs.Arrays.{Putting}
 use Rattle.region_graph.proofs.packages.put_versions.Given as goal
 
 abbrev pub invariant-loop-i : goal.invariant-loop-i

@@ -3,8 +3,7 @@ use mathlib.Core.Bool.{true}
 use Prim.Native.Nat.{ℕ}
 use native.Mathlib.Omega.{arith}
 use lib.Dec.{eqb, ltb}
-use borrow.Author.Rules.{rules}
-use borrow.Author.Tests.{ltb-true, not-true, not-false}
+use borrow.Author.Tests.{ltb-true}
 use Rattle.region_graph.specs.Size.{regions}
 use Rattle.region_graph.specs.Sets.{bit}
 use Rattle.region_graph.proofs.Bits.{bit_shift}

@@ -39,7 +39,7 @@ pub slice_bounds-has_number-end : goal.slice_bounds-has_number-end
 slice_bounds-has_number-end c = let s = c in filled_part (provided_filled s.args.b.services (services_stored s.args.b s.requires))
 
 pub returns-in_default : goal.returns-in_default
-returns-in_default c = 
+returns-in_default c =
     let n0 : c.args.item.kind ≡ 0 → ⊥ = search rules in
     let n1 : c.args.item.kind ≡ 1 → ⊥ = search rules in
     let n2 : c.args.item.kind ≡ 2 → ⊥ = search rules in

@@ -29,7 +29,7 @@ pub returns-in-2 : goal.returns-in-2
 returns-in-2 c = rw c.in-2.is c.part_passes.ensures
 
 pub returns-in_default : goal.returns-in_default
-returns-in_default c = 
+returns-in_default c =
     let n0 : c.args.item.kind ≡ 0 → ⊥ = search rules in
     let n1 : c.args.item.kind ≡ 1 → ⊥ = search rules in
     let n2 : c.args.item.kind ≡ 2 → ⊥ = search rules in

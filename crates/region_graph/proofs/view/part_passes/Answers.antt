@@ -1,4 +1,3 @@
-use borrow.Author.Rules.{rules}
 use borrow.Author.Tests.{eq-eqb, ne_eqb}
 use Rattle.region_graph.specs.Record.{numbers_of}
 use Rattle.region_graph.proofs.Arrays.{filled_within, filled_part}

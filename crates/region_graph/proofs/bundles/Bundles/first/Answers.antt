@@ -1,10 +1,6 @@
-use Prim.Native.Nat.{◌-◌}
 use native.Mathlib.Omega.{arith}
-use borrow.Author.Rules.{rules}
-use Rattle.region_graph.specs.Record.{bundles_of}
-use Rattle.region_graph.specs.Places.{bundle_meets}
-use Rattle.region_graph.proofs.PlaceLoops.{bundle_storage, bundles_reading}
-use Rattle.region_graph.proofs.PlaceLoops.{Searching, searching_start, searching_here, searching_later, searching_end}
+use Rattle.region_graph.proofs.PlaceLoops.{bundles_reading}
+use Rattle.region_graph.proofs.PlaceLoops.{searching_start, searching_here, searching_later, searching_end}
 use Rattle.region_graph.proofs.bundles.Bundles.first.Goals as goal
 
 pub loop-i-init : goal.loop-i-init

@@ -1,10 +1,8 @@
 use Prim.Native.Nat.{◌-◌}
-use native.Mathlib.Omega.{arith}
-use borrow.Author.Rules.{rules}
 use Rattle.region_graph.specs.Record.{bundles_of}
 use Rattle.region_graph.specs.Places.{bundle_meets}
-use Rattle.region_graph.proofs.PlaceLoops.{bundle_storage, bundles_reading}
-use Rattle.region_graph.proofs.PlaceLoops.{Searching, searching_start, searching_here, searching_later, searching_end}
+use Rattle.region_graph.proofs.PlaceLoops.{bundle_storage}
+use Rattle.region_graph.proofs.PlaceLoops.{Searching}
 use Rattle.region_graph.proofs.bundles.Bundles.first.Given as goal
 
 abbrev pub invariant-loop-i : goal.invariant-loop-i

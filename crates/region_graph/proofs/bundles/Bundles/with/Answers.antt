@@ -1,13 +1,10 @@
 use mathlib.Core.Bool.{not}
 use mathlib.Core.Path.{ap}
 use native.Mathlib.Omega.{arith}
-use borrow.Author.Rules.{rules}
-use Rattle.region_graph.specs.Model.{bundle_before}
-use Rattle.region_graph.specs.Record.{bundles_of}
 use Rattle.region_graph.proofs.Ascending.{strict_bundles}
 use Rattle.region_graph.proofs.Storing.{filled_bundles}
-use Rattle.region_graph.proofs.PlaceLoops.{bundle_storage, bundles_reading}
-use Rattle.region_graph.proofs.PlaceLoops.{Moving, moving_start, moving_next, moving_none, moving_stop, moving_end}
+use Rattle.region_graph.proofs.PlaceLoops.{bundles_reading}
+use Rattle.region_graph.proofs.PlaceLoops.{moving_start, moving_next, moving_none, moving_stop, moving_end}
 use Rattle.region_graph.proofs.bundles.Bundles.with.Goals as goal
 use Rattle.region_graph.proofs.bundles.Bundles.with.Goals.{else-loop-i-test, then-loop-i-test+then-not-bundle_meets}
 
@@ -16,7 +13,7 @@ returns c =
     let m = c.loop-i.invariant in
     filled_bundles (moving_end m
     (elim c.loop-i-test.branch [
-      else-loop-i-test w ↦ moving_none m (omega arith)
+      | else-loop-i-test w ↦ moving_none m (omega arith)
       | then-loop-i-test+then-not-bundle_meets w ↦ moving_stop m w.loop-i-test.true _ w.bundle_meets.ensures (ap not w.if-not-bundle_meets.true)
     ]))
 

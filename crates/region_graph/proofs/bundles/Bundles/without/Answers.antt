@@ -1,11 +1,7 @@
-use Prim.Native.Nat.{◌-◌}
 use native.Mathlib.Omega.{arith}
-use borrow.Author.Rules.{rules}
-use Rattle.region_graph.specs.Record.{bundles_of}
-use Rattle.region_graph.specs.Places.{bundle_meets}
 use Rattle.region_graph.proofs.Storing.{filled_bundles}
-use Rattle.region_graph.proofs.PlaceLoops.{bundle_storage, bundles_reading}
-use Rattle.region_graph.proofs.PlaceLoops.{Leaving, leaving_start, leaving_out, leaving_stays, leaving_moves, leaving_end}
+use Rattle.region_graph.proofs.PlaceLoops.{bundles_reading}
+use Rattle.region_graph.proofs.PlaceLoops.{leaving_start, leaving_out, leaving_stays, leaving_moves, leaving_end}
 use Rattle.region_graph.proofs.bundles.Bundles.without.Goals as goal
 
 pub loop-i-init : goal.loop-i-init

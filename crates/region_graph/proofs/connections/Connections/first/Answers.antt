@@ -1,11 +1,7 @@
-use Prim.Native.Nat.{◌-◌}
 use native.Mathlib.Omega.{arith}
-use borrow.Author.Rules.{rules}
-use Rattle.region_graph.specs.Record.{connections_of}
-use Rattle.region_graph.specs.Places.{connection_meets}
 use Rattle.region_graph.proofs.Storing.{connection_stored}
-use Rattle.region_graph.proofs.PlaceLoops.{connection_storage, connections_reading}
-use Rattle.region_graph.proofs.PlaceLoops.{Searching, searching_start, searching_here, searching_later, searching_end}
+use Rattle.region_graph.proofs.PlaceLoops.{connections_reading}
+use Rattle.region_graph.proofs.PlaceLoops.{searching_start, searching_here, searching_later, searching_end}
 use Rattle.region_graph.proofs.connections.Connections.first.Goals as goal
 
 pub loop-i-init : goal.loop-i-init

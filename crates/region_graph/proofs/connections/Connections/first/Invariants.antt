@@ -1,11 +1,8 @@
 use Prim.Native.Nat.{◌-◌}
-use native.Mathlib.Omega.{arith}
-use borrow.Author.Rules.{rules}
 use Rattle.region_graph.specs.Record.{connections_of}
 use Rattle.region_graph.specs.Places.{connection_meets}
-use Rattle.region_graph.proofs.Storing.{connection_stored}
-use Rattle.region_graph.proofs.PlaceLoops.{connection_storage, connections_reading}
-use Rattle.region_graph.proofs.PlaceLoops.{Searching, searching_start, searching_here, searching_later, searching_end}
+use Rattle.region_graph.proofs.PlaceLoops.{connection_storage}
+use Rattle.region_graph.proofs.PlaceLoops.{Searching}
 use Rattle.region_graph.proofs.connections.Connections.first.Given as goal
 
 abbrev pub invariant-loop-i : goal.invariant-loop-i

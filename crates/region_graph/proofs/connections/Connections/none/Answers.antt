@@ -1,4 +1,3 @@
-use borrow.Author.Rules.{rules}
 use Rattle.region_graph.proofs.Arrays.{filled_none}
 use Rattle.region_graph.proofs.Storing.{filled_connections}
 use Rattle.region_graph.proofs.connections.Connections.none.Goals as goal

@@ -3,14 +3,11 @@ use Prim.Native.Nat.{◌-◌}
 use mathlib.Core.Bool.{not}
 use mathlib.Core.Path.{ap}
 use native.Mathlib.Omega.{arith}
-use borrow.Author.Rules.{rules}
-use Rattle.region_graph.specs.Model.{connection_before}
-use Rattle.region_graph.specs.Record.{connections_of}
 use Rattle.region_graph.specs.Places.{ConnectionStored}
 use Rattle.region_graph.proofs.Ascending.{strict_connections}
 use Rattle.region_graph.proofs.Storing.{filled_connections, connection_stored}
-use Rattle.region_graph.proofs.PlaceLoops.{connection_storage, connections_reading}
-use Rattle.region_graph.proofs.PlaceLoops.{Moving, moving_start, moving_same, moving_next, moving_none, moving_stop, moving_end}
+use Rattle.region_graph.proofs.PlaceLoops.{connections_reading}
+use Rattle.region_graph.proofs.PlaceLoops.{moving_start, moving_same, moving_next, moving_none, moving_stop, moving_end}
 use Rattle.region_graph.proofs.connections.Connections.with.Goals as goal
 use Rattle.region_graph.proofs.connections.Connections.with.Goals.{else-loop-i-test, then-loop-i-test+then-not-connection_meets}
 
@@ -25,7 +22,7 @@ returns c =
     let m = c.loop-i.invariant in
     filled_connections (moving_end m
     (elim c.loop-i-test.branch [
-      else-loop-i-test w ↦ moving_none m (omega arith)
+      | else-loop-i-test w ↦ moving_none m (omega arith)
       | then-loop-i-test+then-not-connection_meets w ↦ moving_stop m w.loop-i-test.true _ w.connection_meets.ensures (ap not w.if-not-connection_meets.true)
     ]))
 

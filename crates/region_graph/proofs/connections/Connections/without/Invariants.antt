@@ -1,12 +1,8 @@
-use mathlib.Core.Path.{sym, subst}
 use Prim.Native.Nat.{◌-◌}
-use native.Mathlib.Omega.{arith}
-use borrow.Author.Rules.{rules}
 use Rattle.region_graph.specs.Record.{connections_of}
-use Rattle.region_graph.specs.Places.{ConnectionStored, connection_meets}
-use Rattle.region_graph.proofs.Storing.{filled_connections, connection_stored}
-use Rattle.region_graph.proofs.PlaceLoops.{connection_storage, connections_reading}
-use Rattle.region_graph.proofs.PlaceLoops.{Leaving, leaving_start, leaving_same, leaving_out, leaving_stays, leaving_moves, leaving_end}
+use Rattle.region_graph.specs.Places.{connection_meets}
+use Rattle.region_graph.proofs.PlaceLoops.{connection_storage}
+use Rattle.region_graph.proofs.PlaceLoops.{Leaving}
 use Rattle.region_graph.proofs.connections.Connections.without.Given as goal
 
 abbrev pub invariant-loop-i : goal.invariant-loop-i

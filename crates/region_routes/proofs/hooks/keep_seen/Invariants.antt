@@ -1,0 +1,21 @@
+use mathlib.Core.Path.{◌≡◌}
+use mathlib.Core.Bool.{Bool, false}
+use Prim.Native.Nat.{ℕ, ◌-◌}
+use native.Mathlib.Omega.{arith}
+use borrow.Author.Rules.{rules}
+use lib.ListN.{length, get_or}
+use Rattle.region_graph.specs.Model.{Model}
+use Rattle.region_routes.specs.Chosen.{sees}
+use Rattle.region_routes.specs.Hooks.{item}
+use Rattle.region_routes.specs.Tables.{NumberTables}
+use Rattle.region_routes.proofs.TableLaws.{preceding_none}
+use Rattle.region_routes.proofs.Keeping.{Keeping, keeping_start, keeping_passed, keeping_failed, keeping_end, has_by}
+use Rattle.region_routes.proofs.hooks.keep_seen.Given as goal
+
+-- for each model and kind whose tables they are
+abbrev pub invariant-loop-i : goal.invariant-loop-i
+invariant-loop-i l =
+    Keeping (λ (t : (m : Model) × (k : ℕ) × NumberTables m k l.offered l.passing) x. sees t.0 (item t.1 x 0) l.region) l.candidates l.i l.n l.initial.out l.out
+
+abbrev pub decreases-loop-i : goal.decreases-loop-i
+decreases-loop-i l = length l.candidates - l.i

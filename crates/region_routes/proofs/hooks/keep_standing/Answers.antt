@@ -1,0 +1,26 @@
+use mathlib.Core.Path.{sym, ◌∙◌}
+use Prim.Native.Nat.{◌-◌}
+use native.Mathlib.Omega.{arith}
+use borrow.Author.Rules.{rules}
+use lib.ListN.{length}
+use Rattle.region_routes.specs.Tables.{place_at, stands_in}
+use Rattle.region_routes.proofs.Keeping.{Keeping, keeping_start, keeping_passed, keeping_failed, keeping_end}
+use Rattle.region_routes.proofs.hooks.keep_standing.Goals as goal
+
+pub loop-i-init : goal.loop-i-init
+loop-i-init c = keeping_start c.requires.listeners_in_bounds
+
+pub stands_in-requires : goal.stands_in-requires
+stands_in-requires c = c.requires.chained
+
+pub loop-i-preserved-then-stands_in : goal.loop-i-preserved-then-stands_in
+loop-i-preserved-then-stands_in c = keeping_passed c.loop-i.invariant (omega arith) (λ t. sym c.stands_in.ensures ∙ c.if-stands_in.true)
+
+pub loop-i-preserved : goal.loop-i-preserved
+loop-i-preserved c = keeping_failed c.loop-i.invariant (omega arith) (λ t. sym c.stands_in.ensures ∙ c.if-stands_in.false)
+
+pub shape_of-out : goal.shape_of-out
+shape_of-out c = c.loop-i.invariant.long
+
+pub returns : goal.returns
+returns c = keeping_end c.loop-i.invariant (omega arith) tt

@@ -1,0 +1,19 @@
+use mathlib.Core.Path.{sym, ◌∙◌}
+use Prim.Native.Nat.{◌-◌, ◌<◌}
+use native.Mathlib.Omega.{arith}
+use borrow.Author.Rules.{rules}
+use lib.ListN.{length}
+use Rattle.region_graph.specs.Record.{meaning}
+use Rattle.region_routes.specs.Resolve.{candidates, is_offered}
+use Rattle.region_routes.proofs.Resolving.{columns, Resolving, resolving_start, resolving_inside, resolving_places}
+use Rattle.region_routes.proofs.Resolving.{resolving_passed, resolving_failed, resolving_end}
+use Rattle.region_routes.proofs.resolver.resolve_few.Given as goal
+
+abbrev pub invariant-loop-i : goal.invariant-loop-i
+invariant-loop-i l =
+    Resolving (λ (t : Unit {0}) c. is_offered (meaning l.graph) c l.region) (columns l.exporters l.packages l.versions) l.i l.n
+    (columns l.initial.out_exporters l.initial.out_packages l.initial.out_versions) (columns l.out_exporters l.out_packages l.out_versions)
+
+abbrev pub decreases-loop-i : goal.decreases-loop-i
+decreases-loop-i l =
+    l.count - l.i

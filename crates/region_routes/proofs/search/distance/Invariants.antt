@@ -1,0 +1,14 @@
+use mathlib.Core.Path.{◌≡◌, sym, ◌∙◌}
+use Prim.Native.Nat.{ℕ, ◌≤◌, ◌-◌}
+use native.Mathlib.Omega.{arith}
+use borrow.Author.Rules.{rules}
+use Rattle.region_graph.specs.Size.{regions}
+use Rattle.region_routes.specs.Search.{At}
+use Rattle.region_routes.proofs.SetLaws.{has_in, has_not}
+use Rattle.region_routes.proofs.search.distance.Given as goal
+
+abbrev pub invariant-loop-d : goal.invariant-loop-d
+invariant-loop-d l = (j : ℕ) × (l.d ≤ j) × (j ≤ l.found.deep) × (At l.found.sets j l.region)
+
+abbrev pub decreases-loop-d : goal.decreases-loop-d
+decreases-loop-d l = regions - l.d

@@ -1,0 +1,14 @@
+use mathlib.Core.Path.{refl}
+use Prim.Native.Nat.{suc, ◌-◌, ◌<◌}
+use native.Mathlib.Numerals.{add-one}
+use native.Mathlib.Omega.{arith}
+use borrow.Author.Rules.{rules}
+use Rattle.region_graph.specs.Size.{regions}
+use Rattle.region_routes.proofs.SearchLoops.{SearchState, last_regions, search_start, search_end, search_room, search_next}
+use Rattle.region_routes.proofs.search.search.Given as goal
+
+abbrev pub invariant-loop-sets : goal.invariant-loop-sets
+invariant-loop-sets l = SearchState l.pred l.holders l.sets l.deep l.reached l.prev
+
+abbrev pub decreases-loop-sets : goal.decreases-loop-sets
+decreases-loop-sets l = regions - l.deep

@@ -1,0 +1,56 @@
+use borrow.Author.Rules.{rules}
+use native.Mathlib.Omega.{arith}
+use mathlib.Core.List.{map}
+use mathlib.Core.Path.{◌≡◌}
+use lib.ListN.{take}
+use Rattle.region_graph.specs.Record.{provided_of, bundle_in}
+use Rattle.region_graph.specs.Places.{BundleStored}
+use Rattle.region_graph.specs.declared.bundles.StoredBundle.{StoredBundle}
+use Rattle.region_graph.proofs.Arrays.{filled_within, filled_part, filled_taken}
+use Rattle.region_graph.proofs.Storing.{packages_stored, services_stored, numbers_column, provided_filled}
+use Rattle.region_routes.proofs.tables.append_offer.Goals as goal
+
+pub append_one-requires : goal.append_one-requires
+append_one-requires c =
+    (omega (arith, rw c.in-Bundle.is at c.requires.b_in_bounds), omega (arith, c.wide.ensures.1))
+
+-- the numbers of the packages stand in the first places of their column
+taken : (b : StoredBundle) → BundleStored b → take b.packages.count b.packages.numbers ≡ map (λ p. p.number) (bundle_in b).packages
+taken b s = filled_taken (numbers_column b.packages (packages_stored b s))
+
+pub append-requires : goal.append-requires
+append-requires c =
+    let s = c in
+    rw (taken s.args.b s.requires.bundle_stored) (rw c.in-Package.is at s.requires.b_in_bounds)
+
+pub returns-in-Bundle : goal.returns-in-Bundle
+returns-in-Bundle c =
+    rw c.in-Bundle.is
+    (rw c.wide.ensures.0 at c.append_one.ensures)
+
+pub returns-in-Package : goal.returns-in-Package
+returns-in-Package c =
+    let s = c in
+    rw c.in-Package.is
+    (rw (taken s.args.b s.requires.bundle_stored) at c.append.ensures)
+
+pub slice_bounds-numbers-end : goal.slice_bounds-numbers-end
+slice_bounds-numbers-end c = let s = c in filled_within (numbers_column s.args.b.packages (packages_stored s.args.b s.requires.bundle_stored))
+
+pub slice_bounds-append-end : goal.slice_bounds-append-end
+slice_bounds-append-end c = let s = c in
+    filled_part (numbers_column s.args.b.packages (packages_stored s.args.b s.requires.bundle_stored))
+
+pub slice_bounds-items-end : goal.slice_bounds-items-end
+slice_bounds-items-end c = let s = c in
+    filled_within (provided_filled s.args.b.services (services_stored s.args.b s.requires.bundle_stored))
+
+pub slice_bounds-append-end-in-Service : goal.slice_bounds-append-end-in-Service
+slice_bounds-append-end-in-Service c = let s = c in
+    filled_part (provided_filled s.args.b.services (services_stored s.args.b s.requires.bundle_stored))
+
+pub append-requires-in-Service : goal.append-requires-in-Service
+append-requires-in-Service c = rw c.in-Service.is at c.requires.b_in_bounds
+
+pub returns-in-Service : goal.returns-in-Service
+returns-in-Service c = rw c.in-Service.is c.append-in-Service.ensures

@@ -1,0 +1,14 @@
+use mathlib.Core.Path.{refl}
+use Prim.Native.Nat.{◌-◌, ◌<◌}
+use native.Mathlib.Omega.{arith}
+use borrow.Author.Rules.{rules}
+use lib.ListN.{length}
+use Rattle.region_routes.specs.Tables.{packed}
+use Rattle.region_routes.proofs.TableLoops.{Appending, appended_one, appending_start, appending_room, appending_next, appending_end}
+use Rattle.region_routes.proofs.tables.append_owner.Given as goal
+
+abbrev pub invariant-loop-i : goal.invariant-loop-i
+invariant-loop-i l = Appending (λ v. packed l.location v) l.versions l.initial.out l.at l.i l.out l.n
+
+abbrev pub decreases-loop-i : goal.decreases-loop-i
+decreases-loop-i l = length l.versions - l.i

@@ -1,0 +1,23 @@
+use mathlib.Core.Path.{◌≡◌, refl, ◌∙◌}
+use mathlib.Core.List.{List}
+use Prim.Native.Nat.{◌-◌, ◌<◌}
+use native.Mathlib.Omega.{arith}
+use borrow.Author.Rules.{rules}
+use borrow.Author.Tests.{eq-eqb, ne_eqb}
+use lib.ListN.{length, length-set}
+use Rattle.region_graph.specs.Size.{most_listed}
+use Rattle.region_graph.specs.Model.{PackageEntry}
+use Rattle.region_graph.specs.Record.{entries_of}
+use Rattle.region_graph.proofs.Columns.{no_range}
+use Rattle.region_routes.specs.Tables.{version_span}
+use Rattle.region_routes.proofs.TableLoops.{Appending, appended_one, appending_start, appending_room, appending_next, appending_end}
+use Rattle.region_routes.proofs.TableLoops.{SpanColumns, span_columns, span_at}
+use Rattle.region_routes.proofs.tables.append_spans.Given as goal
+
+-- for all entries whose versions the columns hold
+abbrev pub invariant-loop-i : goal.invariant-loop-i
+invariant-loop-i l =
+    (es : List PackageEntry) → SpanColumns l.count l.lowest l.highest es → Appending version_span es l.initial.out l.at l.i l.out l.n
+
+abbrev pub decreases-loop-i : goal.decreases-loop-i
+decreases-loop-i l = l.count - l.i

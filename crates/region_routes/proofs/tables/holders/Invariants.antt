@@ -1,0 +1,13 @@
+use Prim.Native.Nat.{◌-◌}
+use native.Mathlib.Omega.{arith}
+use borrow.Author.Rules.{rules}
+use lib.ListN.{length}
+use Rattle.region_routes.proofs.Chaining.{Along, along_inside, along_less, along_past, starts_inside}
+use Rattle.region_routes.proofs.Lookups.{Named, named_start, named_next, named_end}
+use Rattle.region_routes.proofs.tables.holders.Given as goal
+
+abbrev pub invariant-loop-i : goal.invariant-loop-i
+invariant-loop-i l = Along (Named l.table l.number) l.table l.links l.number l.set l.i
+
+abbrev pub decreases-loop-i : goal.decreases-loop-i
+decreases-loop-i l = length l.table - l.i

@@ -1,0 +1,17 @@
+use mathlib.Core.Path.{sym, ◌∙◌}
+use Prim.Native.Nat.{◌-◌}
+use native.Mathlib.Omega.{arith}
+use borrow.Author.Rules.{rules}
+use Rattle.region_graph.specs.Record.{meaning, connection_in, no_connection}
+use Rattle.region_routes.specs.Hooks.{kind_number}
+use Rattle.region_routes.specs.Tables.{passage}
+use Rattle.region_routes.proofs.TableLoops.{Gathering, gathering_start, gathering_next, gathering_end}
+use Rattle.region_routes.proofs.TableLaws.{ConnectionsFrom, connections_from, connections_asked, passages_few}
+use Rattle.region_routes.proofs.tables.passages.Given as goal
+
+abbrev pub invariant-loop-i : goal.invariant-loop-i
+invariant-loop-i l =
+    Gathering connection_in (passage (kind_number l.kind)) l.connections l.count l.initial.items l.i l.items l.n
+
+abbrev pub decreases-loop-i : goal.decreases-loop-i
+decreases-loop-i l = l.count - l.i

@@ -74,9 +74,9 @@ not_everything s at u r e =
 
 -- a part that stands at a place, by its first byte
 module _ (f : Form) {most : ℕ} (few : most ≤ most_listed) (all : Bool) {s : List ℕ} {at : ℕ} where
-  pub part_sign : drop at s ≡ 255 ∷ drop (at + 1) s → at < length s → {row : List ℕ} → get_or row 0 0 ≡ everything_sign
+  pub part_sign : drop at s ≡ 255 ∷ drop (at + 1) s → at < length s → (row : List ℕ) → get_or row 0 0 ≡ everything_sign
       → AnswerInto (PartGood f most all) (part_bytes (element_bytes f)) s at all (FlatPart row 0) (at + 1)
-  part_sign e h {row} i = record {
+  part_sign e h row i = record {
     found = λ b. record { value = Part.everything; parsed = record { is_good = b; shape = e; ends = refl; room = omega arith }; put = i };
     missing = other;
   }
@@ -85,10 +85,10 @@ module _ (f : Form) {most : ℕ} (few : most ≤ most_listed) (all : Bool) {s : 
       other b (Part.listed xs) r g k = omega (arith, g.few, head_same (sym e ∙ k))
       other b Part.everything r g k = false_true (sym b ∙ g)
 
-  pub part_from_list : ((r : List ℕ) → drop at s ≡ 255 ∷ r → ⊥) → {row : List ℕ} {ok : Bool} {next : ℕ}
+  pub part_from_list : ((r : List ℕ) → drop at s ≡ 255 ∷ r → ⊥) → (row : List ℕ) {ok : Bool} {next : ℕ}
       → AnswerInto (Coded f most) (counted (element_bytes f)) s at ok (λ xs. FlatPart row 0 (Part.listed xs)) next
       → AnswerInto (PartGood f most all) (part_bytes (element_bytes f)) s at ok (FlatPart row 0) next
-  part_from_list u {row} {ok} {next} a = record {
+  part_from_list u row {ok} {next} a = record {
     found = λ e.
         let v = a.found e in
         let p = v.parsed in

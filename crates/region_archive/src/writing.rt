@@ -3,7 +3,7 @@ ghost use Rattle.std.specs.Prelude.{◌≡◌, ◌+◌, ◌≤◌, ◌<◌, leng
 ghost use Rattle.region_graph.specs.Size.{regions};
 ghost use Rattle.region_graph.specs.Record.{Valid, meaning};
 ghost use Rattle.text_lines.specs.Written.{WrittenAt};
-ghost use Rattle.region_archive.specs.Bounds.{«field-bound», fields_bound, section_bound, body_bound};
+ghost use Rattle.region_archive.specs.Bounds.{field_bound, fields_bound, section_bound, body_bound};
 ghost use Rattle.big_endian.specs.Bytes.{big, counted, sized};
 ghost use Rattle.region_archive.specs.Image.{«part_bytes», body_in, image_in, image};
 ghost use Rattle.region_archive.specs.Forms.{element_bytes, FormFits};
@@ -27,7 +27,7 @@ use region_graph::size::{EVERYTHING, REGIONS};
 // How many bytes a part takes.
 fn part_size(form: Form, part: Codes) -> usize
     requires { FormFits form × CodePartFits part }
-    ensures { (result ≡ length (part_bytes (element_bytes form) (part_of part))) × (result ≤ field-bound) }
+    ensures { (result ≡ length (part_bytes (element_bytes form) (part_of part))) × (result ≤ field_bound) }
 {
     if part.count == EVERYTHING {
         return 1;
@@ -38,8 +38,8 @@ fn part_size(form: Form, part: Codes) -> usize
 // How many bytes a field of a record takes.
 fn field_size(section: Section, field: usize, values: FieldValues) -> usize
     requires values_fit { ValuesFit values }
-    requires field_bound { field + 1 ≤ field_count section }
-    ensures { (result ≡ length (field_bytes section field (fields_in values))) × (result ≤ field-bound) }
+    requires field_within { field + 1 ≤ field_count section }
+    ensures { (result ≡ length (field_bytes section field (fields_in values))) × (result ≤ field_bound) }
 {
     match field {
         0 => first_width(section),
@@ -150,7 +150,7 @@ fn put_field(
     values: FieldValues,
 ) -> usize
     requires values_fit { ValuesFit values }
-    requires field_bound { (field + 1 ≤ field_count section) × (at + length (field_bytes section field (fields_in values)) ≤ length buffer.old) }
+    requires field_within { (field + 1 ≤ field_count section) × (at + length (field_bytes section field (fields_in values)) ≤ length buffer.old) }
     ensures { WrittenAt buffer.old buffer.new at (field_bytes section field (fields_in values)) result }
 {
     match field {

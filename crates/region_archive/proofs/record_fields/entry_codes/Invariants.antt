@@ -1,0 +1,21 @@
+use mathlib.Core.Path.{◌≡◌, refl, sym, ap}
+use Prim.Native.Nat.{◌+◌, ◌*◌, ◌-◌, ◌^◌, ◌≤◌, ◌<◌}
+use native.Mathlib.Omega.{arith}
+use borrow.Author.Rules.{rules}
+use lib.Arith.{digits_lt}
+use lib.ListN.{length, take, get_or}
+use Rattle.region_graph.specs.Size.{most_listed}
+use Rattle.region_graph.specs.Model.{entries}
+use Rattle.region_graph.specs.Flat.{entry_code}
+use Rattle.region_graph.proofs.Arrays.{Filled, filled_none}
+use Rattle.region_graph.proofs.Columns.{no_range, entries_length, entries_at}
+use Rattle.region_archive.proofs.Fits.{code_above, code_whole, coded_next, coded_all}
+use Rattle.region_archive.proofs.record_fields.entry_codes.Given as goal
+
+abbrev pub invariant-loop-i : goal.invariant-loop-i
+invariant-loop-i l =
+    (l.i ≤ length l.numbers) × (length (entries l.numbers l.lowest l.highest) ≡ length l.numbers)
+    × Filled entry_code 0 most_listed l.codes l.i (take l.i (entries l.numbers l.lowest l.highest))
+
+abbrev pub decreases-loop-i : goal.decreases-loop-i
+decreases-loop-i l = length l.numbers - l.i

@@ -1,10 +1,6 @@
 use mathlib.Core.Path.{sym, ◌∙◌}
-use Prim.Native.Nat.{◌-◌}
 use native.Mathlib.Omega.{arith}
-use borrow.Author.Rules.{rules}
-use lib.ListN.{length}
-use Rattle.region_routes.specs.Tables.{place_at, stands_in}
-use Rattle.region_routes.proofs.Keeping.{Keeping, keeping_start, keeping_passed, keeping_failed, keeping_end}
+use Rattle.region_routes.proofs.Keeping.{keeping_start, keeping_passed, keeping_failed, keeping_end}
 use Rattle.region_routes.proofs.hooks.keep_standing.Goals as goal
 
 pub loop-i-init : goal.loop-i-init

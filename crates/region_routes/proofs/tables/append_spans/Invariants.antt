@@ -1,17 +1,8 @@
-use mathlib.Core.Path.{◌≡◌, refl, ◌∙◌}
 use mathlib.Core.List.{List}
-use Prim.Native.Nat.{◌-◌, ◌<◌}
-use native.Mathlib.Omega.{arith}
-use borrow.Author.Rules.{rules}
-use borrow.Author.Tests.{eq-eqb, ne_eqb}
-use lib.ListN.{length, length-set}
-use Rattle.region_graph.specs.Size.{most_listed}
+use Prim.Native.Nat.{◌-◌}
 use Rattle.region_graph.specs.Model.{PackageEntry}
-use Rattle.region_graph.specs.Record.{entries_of}
-use Rattle.region_graph.proofs.Columns.{no_range}
 use Rattle.region_routes.specs.Tables.{version_span}
-use Rattle.region_routes.proofs.TableLoops.{Appending, appended_one, appending_start, appending_room, appending_next, appending_end}
-use Rattle.region_routes.proofs.TableLoops.{SpanColumns, span_columns, span_at}
+use Rattle.region_routes.proofs.TableLoops.{Appending, SpanColumns}
 use Rattle.region_routes.proofs.tables.append_spans.Given as goal
 
 -- for all entries whose versions the columns hold

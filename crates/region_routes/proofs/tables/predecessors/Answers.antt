@@ -1,14 +1,8 @@
-use Prim.Native.Nat.{◌-◌}
 use native.Mathlib.Omega.{arith}
-use borrow.Author.Rules.{rules}
-use lib.ListN.{length}
 use borrow.Author.Tests.{eq-eqb}
-use Rattle.region_routes.proofs.Chaining.{Along, along_inside, along_less, along_past, starts_inside}
-use Rattle.region_routes.proofs.Stepping.{Preceding, preceding_start, preceding_next, number_steps, stepping_number, number_end}
+use Rattle.region_routes.proofs.Chaining.{along_inside, along_less, along_past, starts_inside}
+use Rattle.region_routes.proofs.Stepping.{preceding_start, preceding_next, stepping_number, number_end}
 use Rattle.region_routes.proofs.tables.predecessors.Goals as goal
-
-pub bounds-sets-target : goal.bounds-sets-target
-bounds-sets-target c = omega arith
 
 pub first_of-i-requires : goal.first_of-i-requires
 first_of-i-requires c = starts_inside c.requires
@@ -19,24 +13,12 @@ loop-i-init c = preceding_start stepping_number c.requires c.first_of-i.ensures
 pub next_of-i-requires : goal.next_of-i-requires
 next_of-i-requires c = along_inside c.loop-i.invariant c.loop-i-test.true
 
-pub offset_bounds-sets-target : goal.offset_bounds-sets-target
-offset_bounds-sets-target c = omega (arith, bounds-sets-target c)
-
-pub overflow_cast-source : goal.overflow_cast-source
-overflow_cast-source c = omega arith
-
-pub offset_bounds-sets-target-then-e-number : goal.offset_bounds-sets-target-then-e-number
-offset_bounds-sets-target-then-e-number c = omega (arith, bounds-sets-target c.before)
-
-pub bounds-sets-target-then-e-number : goal.bounds-sets-target-then-e-number
-bounds-sets-target-then-e-number c = bounds-sets-target c.before
-
 pub loop-i-smaller-then-e-number : goal.loop-i-smaller-then-e-number
-loop-i-smaller-then-e-number c = let t = c in along_less t.loop-i.invariant t.loop-i-test.true c.next_of-i.ensures
+loop-i-smaller-then-e-number c = along_less c.loop-i.invariant c.loop-i-test.true c.next_of-i.ensures
 
 pub loop-i-preserved-then-e-number : goal.loop-i-preserved-then-e-number
-loop-i-preserved-then-e-number c = let t = c in
-    preceding_next stepping_number t.loop-i.invariant t.loop-i-test.true (eq-eqb _ _ c.if-e-number.true) c.singleton.ensures
+loop-i-preserved-then-e-number c =
+    preceding_next stepping_number c.loop-i.invariant c.loop-i-test.true (eq-eqb _ _ c.if-e-number.true) c.singleton.ensures
     c.next_of-i.ensures
 
 pub loop-i-smaller : goal.loop-i-smaller
@@ -46,4 +28,4 @@ pub loop-i-preserved : goal.loop-i-preserved
 loop-i-preserved c = along_past c.loop-i.invariant c.loop-i-test.true c.if-e-number.false c.next_of-i.ensures
 
 pub returns : goal.returns
-returns c = number_end (omega arith) step e c.loop-i.invariant
+returns c step e = number_end (omega arith) step e c.loop-i.invariant

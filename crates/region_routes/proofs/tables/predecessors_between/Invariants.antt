@@ -1,14 +1,7 @@
-use Prim.Native.Nat.{◌-◌, ◌<◌}
-use mathlib.Core.Path.{◌≡◌, sym, ◌∙◌}
-use mathlib.Core.Bool.{Bool, ◌&&◌}
-use native.Mathlib.Omega.{arith}
-use borrow.Author.Rules.{rules}
-use borrow.Author.Tests.{eq-eqb}
-use lib.Dec.{eqb}
-use lib.ListN.{length, get_or}
-use Rattle.region_routes.specs.Tables.{number_in, span_has}
-use Rattle.region_routes.proofs.Chaining.{Along, along_inside, along_less, along_past, starts_inside}
-use Rattle.region_routes.proofs.Stepping.{Preceding, preceding_start, preceding_next, preceding_past, span_steps, stepping_span, span_end}
+use Prim.Native.Nat.{◌-◌}
+use lib.ListN.{length}
+use Rattle.region_routes.proofs.Chaining.{Along}
+use Rattle.region_routes.proofs.Stepping.{Preceding, span_steps}
 use Rattle.region_routes.proofs.tables.predecessors_between.Given as goal
 
 abbrev pub invariant-loop-i : goal.invariant-loop-i

@@ -1,15 +1,10 @@
-use mathlib.Core.Path.{◌≡◌}
-use mathlib.Core.Bool.{Bool, false}
 use Prim.Native.Nat.{ℕ, ◌-◌}
-use native.Mathlib.Omega.{arith}
-use borrow.Author.Rules.{rules}
-use lib.ListN.{length, get_or}
+use lib.ListN.{length}
 use Rattle.region_graph.specs.Model.{Model}
 use Rattle.region_routes.specs.Chosen.{sees}
 use Rattle.region_routes.specs.Hooks.{item}
 use Rattle.region_routes.specs.Tables.{NumberTables}
-use Rattle.region_routes.proofs.TableLaws.{preceding_none}
-use Rattle.region_routes.proofs.Keeping.{Keeping, keeping_start, keeping_passed, keeping_failed, keeping_end, has_by}
+use Rattle.region_routes.proofs.Keeping.{Keeping}
 use Rattle.region_routes.proofs.hooks.keep_seen.Given as goal
 
 -- for each model and kind whose tables they are

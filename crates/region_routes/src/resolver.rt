@@ -187,6 +187,7 @@ fn resolve_many(
 }
 
 // Writes the candidates that a region is offered: asks the graph about each, and makes no tables.
+#[tactic(auto, using(crate::proofs::Resolving::candidates_length))]
 fn resolve_few(
     graph: Graph,
     region: u32,

@@ -28,18 +28,12 @@ module _ {m : Model} {exported owned passing spanned : List ℕ} (t : ExportTabl
 abbrev steps : List ℕ → List ℕ → ℕ → ℕ → ℕ → ℕ → Bool
 steps passing spanned version n = step_or_between (step_in passing everything_number) passing spanned n version
 
-pub place_beside-place-requires : goal.place_beside-place-requires
-place_beside-place-requires c = record { chained = c.requires.chained; owned_len = c.requires.owned_len }
-
 pub returns-in_default : goal.returns-in_default
 returns-in_default c m t =
     let a = c.args in
     ap (offered_at m (candidate a.exporter a.number a.version) a.region)
     (sym (provided t a.exporter a.number a.version c.place_beside-place.ensures (omega arith) c.owner_number-owner.ensures c.wide-sought.ensures.0
     c.in_default.is))
-
-pub predecessors_between-pred-requires : goal.predecessors_between-pred-requires
-predecessors_between-pred-requires c = record { chained = c.requires.chained_2; spans_len = c.requires.spans_len }
 
 pub search-layers-requires : goal.search-layers-requires
 search-layers-requires c =

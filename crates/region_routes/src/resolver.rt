@@ -96,6 +96,7 @@ fn is_offered_by(
 }
 
 // Writes the candidates that a region is offered, by the tables of the packages, which are chained first.
+#[tactic(auto, using(crate::proofs::Resolving::candidates_length))]
 fn resolve_by(
     exported: &[u64],
     owned: &[u64],

@@ -221,6 +221,7 @@ fn resolve_few(
 }
 
 // The candidates, exporters with packages, that a bundle is offered.
+#[tactic(auto, using(crate::proofs::Judging::region_inside, crate::proofs::Answering::resolve_not_installed, crate::proofs::Answering::resolve_no_exporter_place, crate::proofs::Answering::resolve_no_number_place, crate::proofs::Answering::resolve_no_version_place, crate::proofs::Answering::resolve_answers))]
 pub fn resolve(
     graph: Graph,
     location: u32,

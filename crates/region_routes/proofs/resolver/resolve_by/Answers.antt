@@ -9,16 +9,8 @@ use Rattle.region_routes.proofs.resolver.resolve_by.Goals as goal
 pub loop-i-init : goal.loop-i-init
 loop-i-init c = resolving_start c.requires.region_lt_regions.1
 
-pub is_offered_by-requires : goal.is_offered_by-requires
-is_offered_by-requires c =
-    let r = c.requires in record {
-      chained = c.chained-export_links.ensures;
-      owned_len = r.owned_len.0;
-      chained_2 = c.chained-pass_links.ensures;
-      spans_len = r.owned_len.1;
-      always_value = c.predecessors-always.ensures (λ r s. false) preceding_none;
-      region_lt_regions = r.region_lt_regions.0;
-    }
+pub is_offered_by-requires-clause-always_value : goal.is_offered_by-requires-clause-always_value
+is_offered_by-requires-clause-always_value c = c.predecessors-always.ensures (λ r s. false) preceding_none
 
 -- each part is written to its own list
 pub loop-i-preserved-then-is_offered_by : goal.loop-i-preserved-then-is_offered_by

@@ -96,6 +96,7 @@ fn is_offered_by(
 }
 
 // Writes the candidates that a region is offered, by the tables of the packages, which are chained first.
+#[tactic(auto, using(crate::proofs::Resolving::candidates_length))]
 fn resolve_by(
     exported: &[u64],
     owned: &[u64],
@@ -187,6 +188,7 @@ fn resolve_many(
 }
 
 // Writes the candidates that a region is offered: asks the graph about each, and makes no tables.
+#[tactic(auto, using(crate::proofs::Resolving::candidates_length))]
 fn resolve_few(
     graph: Graph,
     region: u32,
@@ -219,6 +221,7 @@ fn resolve_few(
 }
 
 // The candidates, exporters with packages, that a bundle is offered.
+#[tactic(auto, using(crate::proofs::Judging::region_inside, crate::proofs::Answering::resolve_not_installed, crate::proofs::Answering::resolve_no_exporter_place, crate::proofs::Answering::resolve_no_number_place, crate::proofs::Answering::resolve_no_version_place, crate::proofs::Answering::resolve_answers))]
 pub fn resolve(
     graph: Graph,
     location: u32,

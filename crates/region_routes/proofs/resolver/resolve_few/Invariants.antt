@@ -1,12 +1,7 @@
-use mathlib.Core.Path.{sym, ◌∙◌}
-use Prim.Native.Nat.{◌-◌, ◌<◌}
-use native.Mathlib.Omega.{arith}
-use borrow.Author.Rules.{rules}
-use lib.ListN.{length}
+use Prim.Native.Nat.{◌-◌}
 use Rattle.region_graph.specs.Record.{meaning}
-use Rattle.region_routes.specs.Resolve.{candidates, is_offered}
-use Rattle.region_routes.proofs.Resolving.{columns, Resolving, resolving_start, resolving_inside, resolving_places}
-use Rattle.region_routes.proofs.Resolving.{resolving_passed, resolving_failed, resolving_end}
+use Rattle.region_routes.specs.Resolve.{is_offered}
+use Rattle.region_routes.proofs.Resolving.{columns, Resolving}
 use Rattle.region_routes.proofs.resolver.resolve_few.Given as goal
 
 abbrev pub invariant-loop-i : goal.invariant-loop-i
@@ -15,5 +10,4 @@ invariant-loop-i l =
     (columns l.initial.out_exporters l.initial.out_packages l.initial.out_versions) (columns l.out_exporters l.out_packages l.out_versions)
 
 abbrev pub decreases-loop-i : goal.decreases-loop-i
-decreases-loop-i l =
-    l.count - l.i
+decreases-loop-i l = l.count - l.i

@@ -18,9 +18,7 @@ use Rattle.region_routes.specs.Resolve.{Candidate, is_offered, resolved, resolve
 use Rattle.region_routes.specs.Tables.{Room}
 use Rattle.region_routes.specs.declared.Kind.{Kind}
 use Rattle.region_routes.specs.declared.Routed.{Routed}
-use Rattle.region_routes.specs.declared.Routed.TheVariants as Routed
 use Rattle.region_routes.specs.declared.Kept.{Kept}
-use Rattle.region_routes.specs.declared.Kept.TheVariants as Kept
 
 module _ (m : Model) (l kind number version : ℕ) (entry : List ℕ) where
   pub route_not_installed : place_of m.bundles l ≡ Nowhere

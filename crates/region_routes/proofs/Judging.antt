@@ -29,7 +29,6 @@ use Rattle.region_routes.specs.Resolve.{reaches}
 use Rattle.region_routes.specs.Tables.{stands_in}
 use Rattle.region_routes.specs.Search.{In, RegionSets, Conn, Searched, Reached, InLayer, Walkable, Walked, end_set}
 use Rattle.region_routes.specs.declared.search.Ends.{Ends}
-use Rattle.region_routes.specs.declared.search.Ends.TheVariants as Ends
 use Rattle.region_routes.specs.declared.Routed.{Routed}
 use Rattle.region_routes.specs.declared.Routed.TheVariants.{Count}
 use Rattle.region_routes.proofs.Choosing.{crosses_inside, by_best, by_none, found_is}

@@ -13,11 +13,8 @@ use Rattle.region_graph.specs.declared.Place.{Place}
 use Rattle.region_graph.specs.declared.Place.TheVariants.{Within, Nowhere}
 use Rattle.region_routes.specs.Chosen.{chosen, sees}
 use Rattle.region_routes.specs.declared.Kind.{Kind}
-use Rattle.region_routes.specs.declared.Kind.TheVariants as Kind
 use Rattle.region_routes.specs.declared.Routed.{Routed}
-use Rattle.region_routes.specs.declared.Routed.TheVariants as Routed
 use Rattle.region_routes.specs.declared.Kept.{Kept}
-use Rattle.region_routes.specs.declared.Kept.TheVariants as Kept
 
 -- the numbers of the kinds
 abbrev pub kind_number : Kind → ℕ

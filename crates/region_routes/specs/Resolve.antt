@@ -13,7 +13,6 @@ use Rattle.region_routes.specs.Chosen.{chosen_by, found}
 use Rattle.region_routes.specs.Hooks.{kind_number, item, written, Outcome, kept, is_installed, judged}
 use Rattle.region_routes.specs.declared.Kind.TheVariants as Kind
 use Rattle.region_routes.specs.declared.Kept.{Kept}
-use Rattle.region_routes.specs.declared.Kept.TheVariants as Kept
 
 -- an exporter's location with a package
 pub record Candidate : Type 0 where

@@ -7,7 +7,6 @@ use Rattle.region_graph.specs.Promise.{holder_set}
 use Rattle.region_graph.specs.declared.Item.{Item}
 use Rattle.region_routes.specs.Route.{Best}
 use Rattle.region_routes.specs.declared.search.Ends.{Ends}
-use Rattle.region_routes.specs.declared.search.Ends.TheVariants as Ends
 
 -- n is a member of the set x
 abbrev pub In : ℕ → ℕ → Type 0

@@ -1,11 +1,9 @@
 use mathlib.Core.Path.{◌≡◌, sym, ap, ◌∙◌}
-use Prim.Native.Nat.{◌-◌}
 use native.Mathlib.Omega.{arith}
-use borrow.Author.Rules.{rules}
-use lib.ListN.{length, get_or}
+use lib.ListN.{get_or}
 use Rattle.region_routes.specs.Hooks.{is_installed}
 use Rattle.region_routes.specs.Tables.{place_at}
-use Rattle.region_routes.proofs.Keeping.{Placing, placing_start, placing_stop, placing_next, placing_end}
+use Rattle.region_routes.proofs.Keeping.{placing_start, placing_stop, placing_next, placing_end}
 use Rattle.region_routes.proofs.hooks.all_installed.Goals as goal
 
 pub loop-i-init : goal.loop-i-init
@@ -15,7 +13,7 @@ pub place_of-place-requires : goal.place_of-place-requires
 place_of-place-requires c = c.requires
 
 pub returns-in-Nowhere : goal.returns-in-Nowhere
-returns-in-Nowhere c = 
+returns-in-Nowhere c =
     let place : (let s = c.args in place_at s.bundles.now (get_or s.listeners.now c.loop-i.i 0) ≡ c.place_of-place.result) =
     sym (c.place_of-place.ensures ∙ ap (place_at c.args.bundles.now)
     c.wide.ensures.0) in
@@ -23,7 +21,7 @@ returns-in-Nowhere c =
     (ap is_installed (place ∙ c.in-Nowhere.is))
 
 pub loop-i-preserved : goal.loop-i-preserved
-loop-i-preserved c = 
+loop-i-preserved c =
     let place : (let s = c.args in place_at s.bundles.now (get_or s.listeners.now c.loop-i.i 0) ≡ c.place_of-place.result) =
     sym (c.place_of-place.ensures ∙ ap (place_at c.args.bundles.now)
     c.wide.ensures.0) in

@@ -1,4 +1,3 @@
-use borrow.Author.Rules.{rules}
 use mathlib.Core.Path.{◌≡◌, sym, ap, ◌∙◌}
 use Rattle.region_routes.specs.Tables.{place_at, stands_in}
 use Rattle.region_routes.proofs.hooks.stands_in.Goals as goal

@@ -1,5 +1,4 @@
 use native.Mathlib.Omega.{arith}
-use borrow.Author.Rules.{rules}
 use Rattle.region_routes.proofs.Resolving.{candidates_length}
 use Rattle.region_routes.proofs.resolver.counted.Goals as goal
 

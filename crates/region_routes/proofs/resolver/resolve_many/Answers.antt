@@ -4,9 +4,10 @@ use Rattle.region_routes.proofs.resolver.resolve_many.Goals as goal
 
 pub resolve_by-requires-clause-owned_len : goal.resolve_by-requires-clause-owned_len
 resolve_by-requires-clause-owned_len c =
-    let m = meaning c.args.graph in
-    (owned_long m.bundles c.owners-located.ensures.table c.offers-given.ensures.table,
-    spanned_long m.connections c.spans-spanned.ensures.table c.passages-passed.ensures.table)
+    let m = meaning c.args.graph in (
+      owned_long m.bundles c.owners-located.ensures.table c.offers-given.ensures.table,
+      spanned_long m.connections c.spans-spanned.ensures.table c.passages-passed.ensures.table,
+    )
 
 pub returns : goal.returns
 returns c =

@@ -6,7 +6,7 @@ use Rattle.region_graph.specs.Size.{regions}
 use Rattle.region_routes.specs.Search.{In}
 use Rattle.region_routes.proofs.SetLaws.{has_in, has_not}
 use Rattle.region_routes.proofs.SearchLoops.{above_none, lowest_in, Taken, taken}
-use Rattle.region_routes.proofs.Walking.{Looking, looking_start, next_here, next_later, next_found}
+use Rattle.region_routes.proofs.Walking.{looking_start, next_here, next_later, next_found}
 use Rattle.region_routes.proofs.routes.next_to.Goals as goal
 
 pub returns-then-has : goal.returns-then-has
@@ -33,7 +33,7 @@ pub lowest-n-requires : goal.lowest-n-requires
 lowest-n-requires c = tt
 
 pub overflow_cast-at : goal.overflow_cast-at
-overflow_cast-at c = 
+overflow_cast-at c =
     let inside : In c.loop-left.left c.lowest-n.result =
     lowest_in c.loop-left.invariant.word (above_none _ c.loop-left-test.true) c.lowest-n.ensures in
     let low : c.lowest-n.result < regions =
@@ -41,7 +41,7 @@ overflow_cast-at c =
     omega (arith, low)
 
 pub offset_bounds-pred-at : goal.offset_bounds-pred-at
-offset_bounds-pred-at c = 
+offset_bounds-pred-at c =
     let inside : In c.loop-left.left c.lowest-n.result =
     lowest_in c.loop-left.invariant.word (above_none _ c.loop-left-test.true) c.lowest-n.ensures in
     let low : c.lowest-n.result < regions =
@@ -49,7 +49,7 @@ offset_bounds-pred-at c =
     omega (arith, low)
 
 pub bounds-pred-at : goal.bounds-pred-at
-bounds-pred-at c = 
+bounds-pred-at c =
     let inside : In c.loop-left.left c.lowest-n.result =
     lowest_in c.loop-left.invariant.word (above_none _ c.loop-left-test.true) c.lowest-n.ensures in
     let low : c.lowest-n.result < regions =
@@ -63,7 +63,7 @@ pub without_lowest-left-requires : goal.without_lowest-left-requires
 without_lowest-left-requires c = tt
 
 pub loop-left-smaller : goal.loop-left-smaller
-loop-left-smaller c = 
+loop-left-smaller c =
     let turn : Taken c.loop-left.left c.lowest-n.result c.without_lowest-left.result =
     let a = c in
     taken (λ n h. a.requires.1.small n (a.loop-left.invariant.within n h)) a.loop-left.invariant.word

@@ -3,7 +3,7 @@ use native.Mathlib.Omega.{arith}
 use lib.ListN.{length-set}
 use borrow.Author.Rules.{rules}
 use Rattle.region_graph.specs.Size.{regions}
-use Rattle.region_routes.proofs.Walking.{Walk, walk_start, leading, next_low, walk_next, walk_end}
+use Rattle.region_routes.proofs.Walking.{walk_start, leading, next_low, walk_next, walk_end}
 use Rattle.region_routes.proofs.routes.walk.Goals as goal
 
 pub overflow_cast-out : goal.overflow_cast-out

@@ -1,9 +1,4 @@
-use Prim.Native.Nat.{◌<◌}
-use native.Mathlib.Omega.{arith}
-use lib.ListN.{length-set}
-use borrow.Author.Rules.{rules}
-use Rattle.region_graph.specs.Size.{regions}
-use Rattle.region_routes.proofs.Walking.{Walk, walk_start, leading, next_low, walk_next, walk_end}
+use Rattle.region_routes.proofs.Walking.{Walk}
 use Rattle.region_routes.proofs.routes.walk.Given as goal
 
 abbrev pub invariant-loop-d : goal.invariant-loop-d

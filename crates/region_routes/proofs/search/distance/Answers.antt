@@ -1,9 +1,6 @@
 use mathlib.Core.Path.{◌≡◌, sym, ◌∙◌}
-use Prim.Native.Nat.{ℕ, ◌≤◌, ◌-◌}
 use native.Mathlib.Omega.{arith}
 use borrow.Author.Rules.{rules}
-use Rattle.region_graph.specs.Size.{regions}
-use Rattle.region_routes.specs.Search.{At}
 use Rattle.region_routes.proofs.SetLaws.{has_in, has_not}
 use Rattle.region_routes.proofs.search.distance.Goals as goal
 

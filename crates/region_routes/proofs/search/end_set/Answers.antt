@@ -1,5 +1,4 @@
 use mathlib.Core.Path.{sym, ap, ◌∙◌}
-use borrow.Author.Rules.{rules}
 use Rattle.region_graph.specs.Record.{meaning}
 use Rattle.region_routes.specs.Search.{end_set}
 use Rattle.region_routes.proofs.search.end_set.Goals as goal

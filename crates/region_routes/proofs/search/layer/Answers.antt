@@ -1,6 +1,6 @@
 use native.Mathlib.Omega.{arith}
 use borrow.Author.Rules.{rules}
-use Rattle.region_routes.proofs.SearchLoops.{above_none, Taken, taken, LayerState, layer_start, layer_next, layer_end}
+use Rattle.region_routes.proofs.SearchLoops.{above_none, Taken, taken, layer_start, layer_next, layer_end}
 use Rattle.region_routes.proofs.search.layer.Goals as goal
 
 pub loop-left-init : goal.loop-left-init
@@ -13,7 +13,7 @@ pub without_lowest-left-requires : goal.without_lowest-left-requires
 without_lowest-left-requires c = tt
 
 pub overflow_cast-at : goal.overflow_cast-at
-overflow_cast-at c = 
+overflow_cast-at c =
     let turn : Taken c.loop-left.left c.lowest-n.result c.without_lowest-left.result =
     let a = c in
     taken (λ n h. a.requires.1 n (a.loop-left.invariant.within n h)) a.loop-left.invariant.word (above_none _ c.loop-left-test.true)
@@ -21,7 +21,7 @@ overflow_cast-at c =
     omega (arith, turn.low)
 
 pub offset_bounds-pred-at : goal.offset_bounds-pred-at
-offset_bounds-pred-at c = 
+offset_bounds-pred-at c =
     let turn : Taken c.loop-left.left c.lowest-n.result c.without_lowest-left.result =
     let a = c in
     taken (λ n h. a.requires.1 n (a.loop-left.invariant.within n h)) a.loop-left.invariant.word (above_none _ c.loop-left-test.true)
@@ -29,7 +29,7 @@ offset_bounds-pred-at c =
     omega (arith, turn.low)
 
 pub bounds-pred-at : goal.bounds-pred-at
-bounds-pred-at c = 
+bounds-pred-at c =
     let turn : Taken c.loop-left.left c.lowest-n.result c.without_lowest-left.result =
     let a = c in
     taken (λ n h. a.requires.1 n (a.loop-left.invariant.within n h)) a.loop-left.invariant.word (above_none _ c.loop-left-test.true)
@@ -37,7 +37,7 @@ bounds-pred-at c =
     omega (arith, turn.low, c.requires.0.long)
 
 pub loop-left-smaller : goal.loop-left-smaller
-loop-left-smaller c = 
+loop-left-smaller c =
     let turn : Taken c.loop-left.left c.lowest-n.result c.without_lowest-left.result =
     let a = c in
     taken (λ n h. a.requires.1 n (a.loop-left.invariant.within n h)) a.loop-left.invariant.word (above_none _ c.loop-left-test.true)
@@ -45,7 +45,7 @@ loop-left-smaller c =
     turn.less
 
 pub loop-left-preserved : goal.loop-left-preserved
-loop-left-preserved c = 
+loop-left-preserved c =
     let turn : Taken c.loop-left.left c.lowest-n.result c.without_lowest-left.result =
     let a = c in
     taken (λ n h. a.requires.1 n (a.loop-left.invariant.within n h)) a.loop-left.invariant.word (above_none _ c.loop-left-test.true)

@@ -1,6 +1,4 @@
-use native.Mathlib.Omega.{arith}
-use borrow.Author.Rules.{rules}
-use Rattle.region_routes.proofs.SearchLoops.{above_none, Taken, taken, LayerState, layer_start, layer_next, layer_end}
+use Rattle.region_routes.proofs.SearchLoops.{LayerState}
 use Rattle.region_routes.proofs.search.layer.Given as goal
 
 abbrev pub invariant-loop-left : goal.invariant-loop-left

@@ -1,4 +1,3 @@
-use borrow.Author.Rules.{rules}
 use Rattle.region_graph.specs.Record.{meaning}
 use Rattle.region_routes.proofs.Judging.{reached_sees}
 use Rattle.region_routes.proofs.search.regions_seeing.Goals as goal

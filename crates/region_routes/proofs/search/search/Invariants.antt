@@ -1,10 +1,6 @@
-use mathlib.Core.Path.{refl}
-use Prim.Native.Nat.{suc, ◌-◌, ◌<◌}
-use native.Mathlib.Numerals.{add-one}
-use native.Mathlib.Omega.{arith}
-use borrow.Author.Rules.{rules}
+use Prim.Native.Nat.{◌-◌}
 use Rattle.region_graph.specs.Size.{regions}
-use Rattle.region_routes.proofs.SearchLoops.{SearchState, last_regions, search_start, search_end, search_room, search_next}
+use Rattle.region_routes.proofs.SearchLoops.{SearchState}
 use Rattle.region_routes.proofs.search.search.Given as goal
 
 abbrev pub invariant-loop-sets : goal.invariant-loop-sets

@@ -1,4 +1,3 @@
-use borrow.Author.Rules.{rules}
 use Rattle.region_graph.specs.Record.{meaning}
 use Rattle.region_routes.proofs.Judging.{predecessors_sets, end_set_small}
 use Rattle.region_routes.proofs.search.search_for.Goals as goal

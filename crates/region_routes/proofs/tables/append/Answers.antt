@@ -1,10 +1,9 @@
 use mathlib.Core.Path.{ap}
-use Prim.Native.Nat.{ℕ, ◌-◌}
+use Prim.Native.Nat.{ℕ}
 use native.Mathlib.Omega.{arith}
 use borrow.Author.Rules.{rules}
-use lib.ListN.{length}
 use Rattle.region_routes.specs.Tables.{packed}
-use Rattle.region_routes.proofs.TableLoops.{Appending, appending_start, appending_room, appending_next, appending_end}
+use Rattle.region_routes.proofs.TableLoops.{appending_start, appending_room, appending_next, appending_end}
 use Rattle.region_routes.proofs.tables.append.Goals as goal
 
 pub append_one-n-requires : goal.append_one-n-requires

@@ -1,10 +1,7 @@
-use mathlib.Core.Path.{ap}
-use Prim.Native.Nat.{ℕ, ◌-◌}
-use native.Mathlib.Omega.{arith}
-use borrow.Author.Rules.{rules}
+use Prim.Native.Nat.{◌-◌}
 use lib.ListN.{length}
 use Rattle.region_routes.specs.Tables.{packed}
-use Rattle.region_routes.proofs.TableLoops.{Appending, appending_start, appending_room, appending_next, appending_end}
+use Rattle.region_routes.proofs.TableLoops.{Appending}
 use Rattle.region_routes.proofs.tables.append.Given as goal
 
 abbrev pub invariant-loop-i : goal.invariant-loop-i

@@ -1,8 +1,4 @@
-use mathlib.Core.Path.{◌≡◌, sym, subst}
-use Prim.Native.Nat.{◌+◌, ◌-◌}
-use native.Mathlib.Omega.{arith}
-use borrow.Author.Rules.{rules}
-use Rattle.region_routes.proofs.Chaining.{Linking, linking_start, linking_more, linking_end}
+use Rattle.region_routes.proofs.Chaining.{Linking}
 use Rattle.region_routes.proofs.tables.chained.Given as goal
 
 abbrev pub invariant-loop-i : goal.invariant-loop-i

@@ -1,9 +1,6 @@
-use Prim.Native.Nat.{◌-◌}
 use native.Mathlib.Omega.{arith}
-use borrow.Author.Rules.{rules}
-use lib.ListN.{length}
-use Rattle.region_routes.proofs.Chaining.{Along, along_inside, along_less, along_past, starts_inside}
-use Rattle.region_routes.proofs.Lookups.{Named, named_start, named_next, named_end}
+use Rattle.region_routes.proofs.Chaining.{along_inside, along_less, along_past, starts_inside}
+use Rattle.region_routes.proofs.Lookups.{named_start, named_next, named_end}
 use Rattle.region_routes.proofs.tables.holders.Goals as goal
 
 pub first_of-i-requires : goal.first_of-i-requires

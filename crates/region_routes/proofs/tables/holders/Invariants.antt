@@ -1,9 +1,7 @@
 use Prim.Native.Nat.{◌-◌}
-use native.Mathlib.Omega.{arith}
-use borrow.Author.Rules.{rules}
 use lib.ListN.{length}
-use Rattle.region_routes.proofs.Chaining.{Along, along_inside, along_less, along_past, starts_inside}
-use Rattle.region_routes.proofs.Lookups.{Named, named_start, named_next, named_end}
+use Rattle.region_routes.proofs.Chaining.{Along}
+use Rattle.region_routes.proofs.Lookups.{Named}
 use Rattle.region_routes.proofs.tables.holders.Given as goal
 
 abbrev pub invariant-loop-i : goal.invariant-loop-i

@@ -1,11 +1,10 @@
 use mathlib.Core.Path.{sym, ◌∙◌}
-use Prim.Native.Nat.{◌-◌}
 use native.Mathlib.Omega.{arith}
 use borrow.Author.Rules.{rules}
-use Rattle.region_graph.specs.Record.{meaning, bundle_in, no_bundle}
+use Rattle.region_graph.specs.Record.{meaning, no_bundle}
 use Rattle.region_routes.specs.Hooks.{kind_number}
 use Rattle.region_routes.specs.Tables.{offer}
-use Rattle.region_routes.proofs.TableLoops.{Gathering, gathering_start, gathering_next, gathering_end}
+use Rattle.region_routes.proofs.TableLoops.{gathering_start, gathering_next, gathering_end}
 use Rattle.region_routes.proofs.TableLaws.{BundlesFrom, bundles_from, bundles_asked, offers_few}
 use Rattle.region_routes.proofs.tables.offers.Goals as goal
 
@@ -43,7 +42,7 @@ pub shape_of-items : goal.shape_of-items
 shape_of-items c = c.loop-i.invariant.long ∙ sym c.requires.len
 
 pub returns : goal.returns
-returns c = 
+returns c =
     let from : (let s = c in BundlesFrom (meaning s.args.graph) s.requires.valid.good (offer (kind_number s.args.kind)) c.bundle_places-bundles.result c.bundle_count-count.result) =
     let s = c in
     let m = meaning s.args.graph in

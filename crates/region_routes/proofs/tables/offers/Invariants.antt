@@ -1,12 +1,8 @@
-use mathlib.Core.Path.{sym, ◌∙◌}
 use Prim.Native.Nat.{◌-◌}
-use native.Mathlib.Omega.{arith}
-use borrow.Author.Rules.{rules}
-use Rattle.region_graph.specs.Record.{meaning, bundle_in, no_bundle}
+use Rattle.region_graph.specs.Record.{bundle_in}
 use Rattle.region_routes.specs.Hooks.{kind_number}
 use Rattle.region_routes.specs.Tables.{offer}
-use Rattle.region_routes.proofs.TableLoops.{Gathering, gathering_start, gathering_next, gathering_end}
-use Rattle.region_routes.proofs.TableLaws.{BundlesFrom, bundles_from, bundles_asked, offers_few}
+use Rattle.region_routes.proofs.TableLoops.{Gathering}
 use Rattle.region_routes.proofs.tables.offers.Given as goal
 
 abbrev pub invariant-loop-i : goal.invariant-loop-i

@@ -1,5 +1,5 @@
 use mathlib.Core.Path.{sym, ◌∙◌}
-use Prim.Native.Nat.{◌+◌, ◌-◌, ◌≤◌}
+use Prim.Native.Nat.{◌+◌, ◌≤◌}
 use native.Mathlib.Omega.{arith}
 use borrow.Author.Rules.{rules}
 use lib.ListN.{length, get_or}
@@ -9,7 +9,7 @@ use Rattle.region_graph.specs.declared.bundles.StoredBundle.{StoredBundle}
 use Rattle.region_graph.proofs.Arrays.{filled_within, filled_part}
 use Rattle.region_graph.proofs.Storing.{packages_stored, versions_column}
 use Rattle.region_routes.specs.Tables.{owner}
-use Rattle.region_routes.proofs.TableLoops.{Gathering, gathering_start, gathering_next, gathering_end}
+use Rattle.region_routes.proofs.TableLoops.{gathering_start, gathering_next, gathering_end}
 use Rattle.region_routes.proofs.TableLaws.{BundlesFrom, bundles_from, bundles_asked}
 use Rattle.region_routes.proofs.PackageTables.{owner_room, owner_put, owners_few}
 use Rattle.region_routes.proofs.tables.owners.Goals as goal
@@ -47,7 +47,7 @@ pub loop-i-init : goal.loop-i-init
 loop-i-init c = gathering_start c.requires.len
 
 pub slice_bounds-versions-end : goal.slice_bounds-versions-end
-slice_bounds-versions-end c = 
+slice_bounds-versions-end c =
     let from : (let s = c in BundlesFrom (meaning s.args.graph) s.requires.valid.good owner c.bundle_places-bundles.result c.bundle_count-count.result) =
     let s = c in
     bundles_from _ s.requires.valid.good owner (owners_few s.requires.valid.good) c.bundle_places-bundles.ensures c.bundle_count-count.ensures in
@@ -57,7 +57,7 @@ slice_bounds-versions-end c =
     filled_within (versions_column _ (packages_stored _ (asked _).0))
 
 pub slice_bounds-append_owner-end : goal.slice_bounds-append_owner-end
-slice_bounds-append_owner-end c = 
+slice_bounds-append_owner-end c =
     let from : (let s = c in BundlesFrom (meaning s.args.graph) s.requires.valid.good owner c.bundle_places-bundles.result c.bundle_count-count.result) =
     let s = c in
     bundles_from _ s.requires.valid.good owner (owners_few s.requires.valid.good) c.bundle_places-bundles.ensures c.bundle_count-count.ensures in
@@ -70,7 +70,7 @@ pub shape_of-items : goal.shape_of-items
 shape_of-items c = c.loop-i.invariant.long ∙ sym c.requires.len
 
 pub returns : goal.returns
-returns c = 
+returns c =
     let from : (let s = c in BundlesFrom (meaning s.args.graph) s.requires.valid.good owner c.bundle_places-bundles.result c.bundle_count-count.result) =
     let s = c in
     bundles_from _ s.requires.valid.good owner (owners_few s.requires.valid.good) c.bundle_places-bundles.ensures c.bundle_count-count.ensures in

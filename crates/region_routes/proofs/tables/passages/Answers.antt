@@ -1,11 +1,10 @@
 use mathlib.Core.Path.{sym, ◌∙◌}
-use Prim.Native.Nat.{◌-◌}
 use native.Mathlib.Omega.{arith}
 use borrow.Author.Rules.{rules}
-use Rattle.region_graph.specs.Record.{meaning, connection_in, no_connection}
+use Rattle.region_graph.specs.Record.{meaning, no_connection}
 use Rattle.region_routes.specs.Hooks.{kind_number}
 use Rattle.region_routes.specs.Tables.{passage}
-use Rattle.region_routes.proofs.TableLoops.{Gathering, gathering_start, gathering_next, gathering_end}
+use Rattle.region_routes.proofs.TableLoops.{gathering_start, gathering_next, gathering_end}
 use Rattle.region_routes.proofs.TableLaws.{ConnectionsFrom, connections_from, connections_asked, passages_few}
 use Rattle.region_routes.proofs.tables.passages.Goals as goal
 
@@ -31,7 +30,7 @@ pub loop-i-init : goal.loop-i-init
 loop-i-init c = gathering_start c.requires.len
 
 pub loop-i-preserved : goal.loop-i-preserved
-loop-i-preserved c = 
+loop-i-preserved c =
     let from : (let s = c in ConnectionsFrom (meaning s.args.graph) s.requires.valid.good (passage (kind_number s.args.kind)) c.connection_places-connections.result c.connection_count-count.result) =
     let s = c in
     let m = meaning s.args.graph in
@@ -46,7 +45,7 @@ pub shape_of-items : goal.shape_of-items
 shape_of-items c = c.loop-i.invariant.long ∙ sym c.requires.len
 
 pub returns : goal.returns
-returns c = 
+returns c =
     let from : (let s = c in ConnectionsFrom (meaning s.args.graph) s.requires.valid.good (passage (kind_number s.args.kind)) c.connection_places-connections.result c.connection_count-count.result) =
     let s = c in
     let m = meaning s.args.graph in

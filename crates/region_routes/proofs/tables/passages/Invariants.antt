@@ -1,12 +1,8 @@
-use mathlib.Core.Path.{sym, ◌∙◌}
 use Prim.Native.Nat.{◌-◌}
-use native.Mathlib.Omega.{arith}
-use borrow.Author.Rules.{rules}
-use Rattle.region_graph.specs.Record.{meaning, connection_in, no_connection}
+use Rattle.region_graph.specs.Record.{connection_in}
 use Rattle.region_routes.specs.Hooks.{kind_number}
 use Rattle.region_routes.specs.Tables.{passage}
-use Rattle.region_routes.proofs.TableLoops.{Gathering, gathering_start, gathering_next, gathering_end}
-use Rattle.region_routes.proofs.TableLaws.{ConnectionsFrom, connections_from, connections_asked, passages_few}
+use Rattle.region_routes.proofs.TableLoops.{Gathering}
 use Rattle.region_routes.proofs.tables.passages.Given as goal
 
 abbrev pub invariant-loop-i : goal.invariant-loop-i

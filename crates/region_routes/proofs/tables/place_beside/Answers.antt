@@ -1,9 +1,6 @@
-use Prim.Native.Nat.{◌-◌}
 use native.Mathlib.Omega.{arith}
-use borrow.Author.Rules.{rules}
-use lib.ListN.{length}
-use Rattle.region_routes.proofs.Chaining.{Along, along_inside, along_less, along_past, starts_inside}
-use Rattle.region_routes.proofs.Lookups.{Beside, beside_start, beside_inside, beside_here, beside_other, beside_end}
+use Rattle.region_routes.proofs.Chaining.{along_inside, along_less, along_past, starts_inside}
+use Rattle.region_routes.proofs.Lookups.{beside_start, beside_inside, beside_here, beside_other, beside_end}
 use Rattle.region_routes.proofs.tables.place_beside.Goals as goal
 
 -- the entry at the walk's place has the number, and the location beside it

@@ -1,9 +1,6 @@
-use Prim.Native.Nat.{◌-◌}
 use native.Mathlib.Omega.{arith}
-use borrow.Author.Rules.{rules}
-use lib.ListN.{length}
-use Rattle.region_routes.proofs.Chaining.{Along, along_inside, along_less, along_past, starts_inside}
-use Rattle.region_routes.proofs.Lookups.{Later, later_start, later_here, later_end}
+use Rattle.region_routes.proofs.Chaining.{along_inside, along_less, along_past, starts_inside}
+use Rattle.region_routes.proofs.Lookups.{later_start, later_here, later_end}
 use Rattle.region_routes.proofs.tables.place_of.Goals as goal
 
 pub first_of-i-requires : goal.first_of-i-requires

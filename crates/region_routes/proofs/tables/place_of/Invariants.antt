@@ -1,9 +1,7 @@
 use Prim.Native.Nat.{◌-◌}
-use native.Mathlib.Omega.{arith}
-use borrow.Author.Rules.{rules}
 use lib.ListN.{length}
-use Rattle.region_routes.proofs.Chaining.{Along, along_inside, along_less, along_past, starts_inside}
-use Rattle.region_routes.proofs.Lookups.{Later, later_start, later_here, later_end}
+use Rattle.region_routes.proofs.Chaining.{Along}
+use Rattle.region_routes.proofs.Lookups.{Later}
 use Rattle.region_routes.proofs.tables.place_of.Given as goal
 
 abbrev pub invariant-loop-i : goal.invariant-loop-i

@@ -1,11 +1,10 @@
 use mathlib.Core.Path.{sym, ◌∙◌}
-use Prim.Native.Nat.{◌-◌}
 use native.Mathlib.Omega.{arith}
 use borrow.Author.Rules.{rules}
-use Rattle.region_graph.specs.Record.{meaning, connection_in, no_connection}
+use Rattle.region_graph.specs.Record.{meaning, no_connection}
 use Rattle.region_graph.proofs.Storing.{package_part_stored}
 use Rattle.region_routes.specs.Tables.{passage_spans}
-use Rattle.region_routes.proofs.TableLoops.{Gathering, gathering_start, gathering_next, gathering_end}
+use Rattle.region_routes.proofs.TableLoops.{gathering_start, gathering_next, gathering_end}
 use Rattle.region_routes.proofs.TableLaws.{ConnectionsFrom, connections_from, connections_asked}
 use Rattle.region_routes.proofs.PackageTables.{spans_few}
 use Rattle.region_routes.proofs.tables.spans.Goals as goal
@@ -43,7 +42,7 @@ pub shape_of-items : goal.shape_of-items
 shape_of-items c = c.loop-i.invariant.long ∙ sym c.requires.len
 
 pub returns : goal.returns
-returns c = 
+returns c =
     let from : (let s = c in ConnectionsFrom (meaning s.args.graph) s.requires.valid.good passage_spans c.connection_places-connections.result c.connection_count-count.result) =
     let s = c in
     connections_from _ s.requires.valid.good passage_spans (spans_few s.requires.valid.good) c.connection_places-connections.ensures c.connection_count-count.ensures in

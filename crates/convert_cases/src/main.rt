@@ -7,6 +7,11 @@ ghost use Rattle.std.specs.Prelude.{◌≤◌, length};
 use region_archive::Written;
 use region_convert::{back, forward};
 use script_text::{first_line, is, put_hex, show_bytes, value, word};
+use std::io;
+use std::io::{BufWriter, Read, Write};
+
+// Room for the script. A longer one is obeyed as far as its first 65,536 bytes go.
+const SCRIPT: u64 = 65536;
 
 // Room for the bytes of an archive, and for those of a buffer.
 const ROOM: usize = 1024;
@@ -15,23 +20,16 @@ const ROOM: usize = 1024;
 const BEFORE: u8 = 0xA5;
 
 // The number and the length of a conversion.
-fn show_written(written: Written) {
+fn show_written<W: Write>(out: &mut W, written: Written) -> io::Result<()> {
     match written {
-        Written::Bytes(length) => {
-            io::write_all(1, b"0 ");
-            io::print_decimal(1, length as u64);
-            io::write_all(1, b" ");
-        }
-        Written::Refused(number) => {
-            io::print_decimal(1, number as u64);
-            io::write_all(1, b" - ");
-        }
+        Written::Bytes(length) => write!(out, "0 {length} "),
+        Written::Refused(number) => write!(out, "{number} - "),
     }
 }
 
 // The first bytes of a buffer, so many or all.
-fn show_room(room: &[u8; ROOM], count: usize) {
-    show_bytes(room, count);
+fn show_room<W: Write>(out: &mut W, room: &[u8; ROOM], count: usize) -> io::Result<()> {
+    show_bytes(out, room, count)
 }
 
 // What a line makes of an archive.
@@ -43,30 +41,26 @@ fn converted(archive: &[u8], out: &mut [u8], line: &[u8]) -> Written {
 }
 
 // Answers a line about an archive: its number, the length of the new archive, and what the buffer holds.
-fn convert(archive: &[u8], line: &[u8]) {
+fn convert<W: Write>(out: &mut W, archive: &[u8], line: &[u8]) -> io::Result<()> {
     let mut room = [BEFORE; ROOM];
-    let n = io::count(value(line, 1) as isize, &room);
+    let n = ROOM.min(value(line, 1) as usize);
     let written = converted(archive, &mut room[..n], line);
-    show_written(written);
-    show_room(&room, n);
+    show_written(out, written)?;
+    show_room(out, &room, n)
 }
 
 fn is_conversion(line: &[u8]) -> bool {
-    if is(line, b"forward") {
-        return true;
-    }
-    is(line, b"back")
+    is(line, b"forward") || is(line, b"back")
 }
 
 // Obeys a line, where another one has the archive that stands.
-fn obey(kept: &[u8], line: &[u8]) {
+fn obey<W: Write>(out: &mut W, kept: &[u8], line: &[u8]) -> io::Result<()> {
     let mut room = [0u8; ROOM];
-    let bytes: &mut [u8] = &mut room;
-    let n = put_hex(bytes, word(kept, 1));
-    let read = &bytes[..];
+    let n = put_hex(&mut room, word(kept, 1));
     if is_conversion(line) {
-        convert(&read[0..n], line);
+        convert(out, &room[0..n], line)?;
     }
+    Ok(())
 }
 
 // Where the line that has the archive starts, after the line at a place.
@@ -80,19 +74,22 @@ fn kept_after(script: &[u8], kept: usize, at: usize) -> usize
     kept
 }
 
-fn run(script: &[u8]) {
+fn run<W: Write>(out: &mut W, script: &[u8]) -> io::Result<()> {
     let mut kept = script.len();
     let mut at: usize = 0;
     while at < script.len() {
         let line = first_line(&script[at..]);
         kept = kept_after(script, kept, at);
-        obey(first_line(&script[kept..]), line);
+        obey(out, first_line(&script[kept..]), line)?;
         at += line.len() + 1;
     }
+    Ok(())
 }
 
-fn main() {
-    let mut text = io::large_buffer();
-    let n = io::read_full(0, &mut text);
-    run(&text[..n]);
+fn main(rt: HostRuntime) -> io::Result<()> {
+    let mut script = Vec::new(rt.alloc());
+    rt.reader().take(SCRIPT).read_to_end(&mut script)?;
+    let mut out = BufWriter::new(rt.alloc(), io::writer(&rt))?;
+    run(&mut out, script.as_slice())?;
+    out.flush()
 }

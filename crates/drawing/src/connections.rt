@@ -7,33 +7,36 @@ use crate::text::{
 };
 use region_graph::size::{EVERYTHING, MOST_CONNECTIONS};
 use region_graph::{Graph, Numbers, StoredConnection};
+use std::io;
+use std::io::Write;
 
 // A part that is everything.
-fn show_all(kind: u32) {
-    io::write_all(1, b"all ");
-    show_word(kind);
-    io::write_all(1, b"s\\l");
+fn show_all<W: Write>(out: &mut W, kind: u32) -> io::Result<()> {
+    out.write_all(b"all ")?;
+    show_word(out, kind)?;
+    out.write_all(b"s\\l")
 }
 
 // The bundle part or the service part of a filter.
-fn show_part(part: Numbers, sheet: &[u8], kind: u32) {
+fn show_part<W: Write>(out: &mut W, part: Numbers, sheet: &[u8], kind: u32) -> io::Result<()> {
     let items = part.items;
     if part.count == EVERYTHING {
-        show_all(kind);
+        show_all(out, kind)
     } else {
-        show_numbers(sheet, kind, &items, part.count, b"");
+        show_numbers(out, sheet, kind, &items, part.count, b"")
     }
 }
 
 // The package part.
-fn show_packages(c: StoredConnection, sheet: &[u8]) {
+fn show_packages<W: Write>(out: &mut W, c: StoredConnection, sheet: &[u8]) -> io::Result<()> {
     let numbers = c.packages.numbers;
     let lowest = c.packages.lowest;
     let highest = c.packages.highest;
     if c.packages.count == EVERYTHING {
-        show_all(PACKAGE);
+        show_all(out, PACKAGE)
     } else {
         show_list(
+            out,
             sheet,
             PACKAGE,
             &numbers,
@@ -41,88 +44,79 @@ fn show_packages(c: StoredConnection, sheet: &[u8]) {
             &highest,
             c.packages.count,
             b"",
-        );
+        )
     }
 }
 
 fn passes_nothing(c: StoredConnection) -> bool {
-    if c.bundles.count != 0 {
-        return false;
-    }
-    if c.packages.count != 0 {
-        return false;
-    }
-    c.services.count == 0
+    c.bundles.count == 0 && c.packages.count == 0 && c.services.count == 0
 }
 
-fn show_filter(c: StoredConnection, sheet: &[u8]) {
-    let bundles = c.bundles;
-    let services = c.services;
+fn show_filter<W: Write>(out: &mut W, c: StoredConnection, sheet: &[u8]) -> io::Result<()> {
     if passes_nothing(c) {
-        io::write_all(1, b"nothing\\l");
+        out.write_all(b"nothing\\l")?;
     }
-    show_part(bundles, sheet, BUNDLE);
-    show_packages(c, sheet);
-    show_part(services, sheet, SERVICE);
+    show_part(out, c.bundles, sheet, BUNDLE)?;
+    show_packages(out, c, sheet)?;
+    show_part(out, c.services, sheet, SERVICE)
 }
 
 // The two ends of a connection, with a text between them.
-fn show_ends(c: StoredConnection, between: &[u8]) {
-    show_number(c.source);
-    io::write_all(1, between);
-    show_number(c.target);
+fn show_ends<W: Write>(out: &mut W, c: StoredConnection, between: &[u8]) -> io::Result<()> {
+    show_number(out, c.source)?;
+    out.write_all(between)?;
+    show_number(out, c.target)
 }
 
 // The name of the box.
-fn show_box(c: StoredConnection) {
-    io::write_all(1, b"\"");
-    show_ends(c, b"-");
-    io::write_all(1, b"\"");
+fn show_box<W: Write>(out: &mut W, c: StoredConnection) -> io::Result<()> {
+    out.write_all(b"\"")?;
+    show_ends(out, c, b"-")?;
+    out.write_all(b"\"")
 }
 
 // The box, with the two ends and what passes.
-fn show_label(c: StoredConnection, sheet: &[u8]) {
-    io::write_all(1, b"  ");
-    show_box(c);
-    io::write_all(1, b" [");
-    show_colour(c.source);
-    io::write_all(1, b", label=\"");
-    show_ends(c, b" -> ");
-    io::write_all(1, b"\\l");
-    show_filter(c, sheet);
-    io::write_all(1, b"\"];\n");
+fn show_label<W: Write>(out: &mut W, c: StoredConnection, sheet: &[u8]) -> io::Result<()> {
+    out.write_all(b"  ")?;
+    show_box(out, c)?;
+    out.write_all(b" [")?;
+    show_colour(out, c.source)?;
+    out.write_all(b", label=\"")?;
+    show_ends(out, c, b" -> ")?;
+    out.write_all(b"\\l")?;
+    show_filter(out, c, sheet)?;
+    out.write_all(b"\"];\n")
 }
 
 // The line from the source to the box, and the arrow from there to the target.
-fn show_arrow(c: StoredConnection) {
-    io::write_all(1, b"  ");
-    show_number(c.source);
-    io::write_all(1, b" -> ");
-    show_box(c);
-    io::write_all(1, b" [");
-    show_colour(c.source);
-    io::write_all(1, b", arrowhead=none];\n  ");
-    show_box(c);
-    io::write_all(1, b" -> ");
-    show_number(c.target);
-    io::write_all(1, b" [");
-    show_colour(c.source);
-    io::write_all(1, b"];\n");
+fn show_arrow<W: Write>(out: &mut W, c: StoredConnection) -> io::Result<()> {
+    out.write_all(b"  ")?;
+    show_number(out, c.source)?;
+    out.write_all(b" -> ")?;
+    show_box(out, c)?;
+    out.write_all(b" [")?;
+    show_colour(out, c.source)?;
+    out.write_all(b", arrowhead=none];\n  ")?;
+    show_box(out, c)?;
+    out.write_all(b" -> ")?;
+    show_number(out, c.target)?;
+    out.write_all(b" [")?;
+    show_colour(out, c.source)?;
+    out.write_all(b"];\n")
 }
 
-pub fn show_connections(graph: Graph, sheet: &[u8])
+pub fn show_connections<W: Write>(out: &mut W, graph: Graph, sheet: &[u8]) -> io::Result<()>
     requires { Valid graph }
 {
     let places = graph.connection_places();
     let count = graph.connection_count();
-    let mut i: usize = 0;
-    while i < MOST_CONNECTIONS {
+    for i in 0..MOST_CONNECTIONS {
         if i == count {
             break;
         }
         let c = places[i];
-        show_label(c, sheet);
-        show_arrow(c);
-        i += 1;
+        show_label(out, c, sheet)?;
+        show_arrow(out, c)?;
     }
+    Ok(())
 }

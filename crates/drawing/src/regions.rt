@@ -2,103 +2,102 @@
 ghost use Rattle.region_graph.specs.Record.{Valid};
 
 use crate::text::{
-    BUNDLE, PACKAGE, REGION, SERVICE, show_colour, show_item, show_list, show_number, show_numbers,
+    BUNDLE, PACKAGE, REGION, SERVICE, show_colour, show_item, show_list, show_numbers,
 };
 use region_graph::region_set::has;
 use region_graph::size::{MOST_BUNDLES, REGIONS};
 use region_graph::{Graph, StoredBundle};
+use std::io;
+use std::io::Write;
 
 // How many bundles of a region are shown.
 const MOST_SHOWN: usize = 12;
 
-fn show_bundle(b: StoredBundle, sheet: &[u8]) {
+fn show_bundle<W: Write>(out: &mut W, b: StoredBundle, sheet: &[u8]) -> io::Result<()> {
     let packages = b.packages.numbers;
     let versions = b.packages.versions;
-    let highest = [0u16; 0];
     let services = b.services.items;
-    io::write_all(1, b"bundle ");
-    show_item(sheet, BUNDLE, b.location);
-    io::write_all(1, b"\\l");
+    out.write_all(b"bundle ")?;
+    show_item(out, sheet, BUNDLE, b.location)?;
+    out.write_all(b"\\l")?;
     show_list(
+        out,
         sheet,
         PACKAGE,
         &packages,
         &versions,
-        &highest,
+        &[],
         b.packages.count,
         b"- ",
-    );
-    show_numbers(sheet, SERVICE, &services, b.services.count, b"- ");
+    )?;
+    show_numbers(out, sheet, SERVICE, &services, b.services.count, b"- ")
 }
 
 // A bundle of a region, unless as many as are shown come before it.
-fn show_one(b: StoredBundle, sheet: &[u8], before: usize) {
+fn show_one<W: Write>(out: &mut W, b: StoredBundle, sheet: &[u8], before: usize) -> io::Result<()> {
     if before < MOST_SHOWN {
-        show_bundle(b, sheet);
+        show_bundle(out, b, sheet)?;
     }
+    Ok(())
 }
 
 // The bundles of a region, and how many they are.
-fn show_bundles(
+fn show_bundles<W: Write>(
+    out: &mut W,
     places: [StoredBundle; MOST_BUNDLES],
     count: usize,
     sheet: &[u8],
     region: u32,
-) -> usize {
+) -> io::Result<usize> {
     let mut n: usize = 0;
-    let mut i: usize = 0;
-    while i < MOST_BUNDLES {
+    for i in 0..MOST_BUNDLES {
         if i == count {
             break;
         }
         let b = places[i];
-        i += 1;
         if b.region == region {
-            show_one(b, sheet, n);
+            show_one(out, b, sheet, n)?;
             n += 1;
         }
     }
-    n
+    Ok(n)
 }
 
 // What is to be said after the bundles of a region that has so many.
-fn show_rest(count: usize) {
+fn show_rest<W: Write>(out: &mut W, count: usize) -> io::Result<()> {
     if count == 0 {
-        io::write_all(1, b"no bundles\\l");
+        out.write_all(b"no bundles\\l")?;
     }
     if MOST_SHOWN < count {
-        io::write_all(1, b"and ");
-        io::print_decimal(1, (count - MOST_SHOWN) as u64);
-        io::write_all(1, b" bundles more\\l");
+        let more = count - MOST_SHOWN;
+        write!(out, "and {more} bundles more\\l")?;
     }
+    Ok(())
 }
 
-fn show_region(graph: Graph, sheet: &[u8], region: u32)
+fn show_region<W: Write>(out: &mut W, graph: Graph, sheet: &[u8], region: u32) -> io::Result<()>
     requires { Valid graph }
 {
     let places = graph.bundle_places();
-    io::write_all(1, b"  ");
-    show_number(region);
-    io::write_all(1, b" [");
-    show_colour(region);
-    io::write_all(1, b", label=\"region ");
-    show_item(sheet, REGION, region);
-    io::write_all(1, b"\\l\\l");
-    let n = show_bundles(places, graph.bundle_count(), sheet, region);
-    show_rest(n);
-    io::write_all(1, b"\"];\n");
+    write!(out, "  {region} [")?;
+    show_colour(out, region)?;
+    out.write_all(b", label=\"region ")?;
+    show_item(out, sheet, REGION, region)?;
+    out.write_all(b"\\l\\l")?;
+    let n = show_bundles(out, places, graph.bundle_count(), sheet, region)?;
+    show_rest(out, n)?;
+    out.write_all(b"\"];\n")
 }
 
-pub fn show_regions(graph: Graph, sheet: &[u8])
+pub fn show_regions<W: Write>(out: &mut W, graph: Graph, sheet: &[u8]) -> io::Result<()>
     requires { Valid graph }
 {
     let set = graph.region_set();
-    let mut i: usize = 0;
-    while i < REGIONS {
+    for i in 0..REGIONS {
         let region = i as u32;
-        i += 1;
         if has(set, region) {
-            show_region(graph, sheet, region);
+            show_region(out, graph, sheet, region)?;
         }
     }
+    Ok(())
 }

@@ -1,6 +1,8 @@
 // What regions and connections share: colours, and in labels numbers with their names and lists of them. `\l` ends a line of a label,
 // which is aligned to the left. No line starts with spaces: some programs that show SVG leave them out.
 use name_sheet::lookup;
+use std::io;
+use std::io::Write;
 
 // The kinds of the name sheet.
 pub const BUNDLE: u32 = 0;
@@ -22,139 +24,129 @@ const COLOURS: [u64; 8] = [
 ];
 
 // The attribute with the colour of a region and of the arrows that leave it.
-pub fn show_colour(region: u32) {
-    let at = (region % 8) as usize;
-    io::write_all(1, b"color=\"#");
-    io::print_hex(1, COLOURS[at], 6);
-    io::write_all(1, b"\"");
+pub fn show_colour<W: Write>(out: &mut W, region: u32) -> io::Result<()> {
+    let colour = COLOURS[(region % 8) as usize];
+    write!(out, "color=\"#{colour:06x}\"")
 }
 
 // A byte of a name, as a label writes it. There `&` starts the name of a sign, as in `&lt;`.
-fn show_byte(byte: u8) {
-    let own = [byte];
+fn show_byte<W: Write>(out: &mut W, byte: u8) -> io::Result<()> {
     match byte {
-        b'"' => {
-            io::write_all(1, b"\\\"");
-        }
-        b'\\' => {
-            io::write_all(1, b"\\\\");
-        }
-        b'&' => {
-            io::write_all(1, b"&amp;");
-        }
-        _ => {
-            io::write_all(1, &own);
-        }
+        b'"' => out.write_all(b"\\\""),
+        b'\\' => out.write_all(b"\\\\"),
+        b'&' => out.write_all(b"&amp;"),
+        _ => out.write_all(&[byte]),
     }
 }
 
-fn show_name(name: &[u8]) {
-    let mut i: usize = 0;
-    while i < name.len() {
-        show_byte(name[i]);
-        i += 1;
+fn show_name<W: Write>(out: &mut W, name: &[u8]) -> io::Result<()> {
+    for byte in name {
+        show_byte(out, *byte)?;
     }
+    Ok(())
 }
 
-pub fn show_number(number: u32) {
-    io::print_decimal(1, number as u64);
+pub fn show_number<W: Write>(out: &mut W, number: u32) -> io::Result<()> {
+    write!(out, "{number}")
 }
 
 // What follows a number: its name, unless that is empty.
-fn show_its_name(name: &[u8]) {
-    if 0 < name.len() {
-        io::write_all(1, b" ");
-        show_name(name);
+fn show_its_name<W: Write>(out: &mut W, name: &[u8]) -> io::Result<()> {
+    if name.is_empty() {
+        return Ok(());
     }
+    out.write_all(b" ")?;
+    show_name(out, name)
 }
 
 // A number, and its name where the sheet has one.
-pub fn show_item(sheet: &[u8], kind: u32, number: u32) {
+pub fn show_item<W: Write>(out: &mut W, sheet: &[u8], kind: u32, number: u32) -> io::Result<()> {
     let mut refusal: u32 = 0;
     let name = lookup(sheet, kind, number, &mut refusal);
-    show_number(number);
-    show_its_name(name);
+    show_number(out, number)?;
+    show_its_name(out, name)
 }
 
 // What follows the number of a package: its version, unless that is 0.
-fn show_version(version: u16) {
-    if version != 0 {
-        io::write_all(1, b":");
-        show_number(version as u32);
+fn show_version<W: Write>(out: &mut W, version: u16) -> io::Result<()> {
+    if version == 0 {
+        return Ok(());
     }
+    write!(out, ":{version}")
 }
 
 fn is_any(lowest: u16, highest: u16) -> bool {
-    if lowest != 0 {
-        return false;
-    }
-    highest == HIGHEST_VERSION
+    lowest == 0 && highest == HIGHEST_VERSION
 }
 
 // What follows the number of a package entry: its lowest and its highest version, unless it passes any.
-fn show_range(lowest: u16, highest: u16) {
+fn show_range<W: Write>(out: &mut W, lowest: u16, highest: u16) -> io::Result<()> {
     if is_any(lowest, highest) {
-        return;
+        return Ok(());
     }
-    io::write_all(1, b":");
-    show_number(lowest as u32);
-    io::write_all(1, b"-");
-    show_number(highest as u32);
+    write!(out, ":{lowest}-{highest}")
 }
 
 // What follows the number at a place of a list. Where a list has no highest versions, the lowest are those of packages; where it has
 // neither, nothing follows.
-fn show_versions(lowest: &[u16], highest: &[u16], place: usize) {
+fn show_versions<W: Write>(
+    out: &mut W,
+    lowest: &[u16],
+    highest: &[u16],
+    place: usize,
+) -> io::Result<()> {
     if lowest.len() <= place {
-        return;
+        return Ok(());
     }
     if place < highest.len() {
-        show_range(lowest[place], highest[place]);
+        show_range(out, lowest[place], highest[place])
     } else {
-        show_version(lowest[place]);
+        show_version(out, lowest[place])
     }
 }
 
 // The word for an item of a kind.
-pub fn show_word(kind: u32) {
+pub fn show_word<W: Write>(out: &mut W, kind: u32) -> io::Result<()> {
     match kind {
-        BUNDLE => {
-            io::write_all(1, b"bundle");
-        }
-        PACKAGE => {
-            io::write_all(1, b"package");
-        }
-        _ => {
-            io::write_all(1, b"service");
-        }
+        BUNDLE => out.write_all(b"bundle"),
+        PACKAGE => out.write_all(b"package"),
+        _ => out.write_all(b"service"),
     }
 }
 
 // Goes to a line of a list; `first` says whether it is the first one.
-fn start_line(margin: &[u8], first: bool) {
+fn start_line<W: Write>(out: &mut W, margin: &[u8], first: bool) -> io::Result<()> {
     if !first {
-        io::write_all(1, b"\\l");
+        out.write_all(b"\\l")?;
     }
-    io::write_all(1, margin);
+    out.write_all(margin)
 }
 
 // What stands before an item of a list: one with a name has a line of its own, others share a line.
-fn show_gap(kind: u32, margin: &[u8], first: bool, after_name: bool, named: bool) {
+fn show_gap<W: Write>(
+    out: &mut W,
+    kind: u32,
+    margin: &[u8],
+    first: bool,
+    after_name: bool,
+    named: bool,
+) -> io::Result<()> {
     if first | after_name | named {
-        start_line(margin, first);
-        show_word(kind);
+        start_line(out, margin, first)?;
+        show_word(out, kind)?;
         if named {
-            io::write_all(1, b" ");
+            out.write_all(b" ")
         } else {
-            io::write_all(1, b"s: ");
+            out.write_all(b"s: ")
         }
     } else {
-        io::write_all(1, b", ");
+        out.write_all(b", ")
     }
 }
 
 // The item at a place of a list, and whether it has a name; `after_name` says whether the item before it has one.
-fn show_next(
+fn show_next<W: Write>(
+    out: &mut W,
     sheet: &[u8],
     kind: u32,
     number: u32,
@@ -163,19 +155,20 @@ fn show_next(
     place: usize,
     margin: &[u8],
     after_name: bool,
-) -> bool {
+) -> io::Result<bool> {
     let mut refusal: u32 = 0;
     let name = lookup(sheet, kind, number, &mut refusal);
     let named = 0 < name.len();
-    show_gap(kind, margin, place == 0, after_name, named);
-    show_number(number);
-    show_versions(lowest, highest, place);
-    show_its_name(name);
-    named
+    show_gap(out, kind, margin, place == 0, after_name, named)?;
+    show_number(out, number)?;
+    show_versions(out, lowest, highest, place)?;
+    show_its_name(out, name)?;
+    Ok(named)
 }
 
 // The first items of a list of so many, and whether the last of these has a name.
-fn show_first(
+fn show_first<W: Write>(
+    out: &mut W,
     sheet: &[u8],
     kind: u32,
     items: &[u32],
@@ -183,36 +176,37 @@ fn show_first(
     highest: &[u16],
     count: usize,
     margin: &[u8],
-) -> bool {
+) -> io::Result<bool> {
     let mut named = false;
-    let mut i: usize = 0;
-    while i < items.len() {
-        if i == count {
+    for i in 0..items.len() {
+        if i == count || i == MOST_SHOWN {
             break;
         }
-        if i == MOST_SHOWN {
-            break;
-        }
-        named = show_next(sheet, kind, items[i], lowest, highest, i, margin, named);
-        i += 1;
+        named = show_next(
+            out, sheet, kind, items[i], lowest, highest, i, margin, named,
+        )?;
     }
-    named
+    Ok(named)
 }
 
 // How many items are left out.
-fn show_more(count: usize, margin: &[u8], after_name: bool) {
+fn show_more<W: Write>(
+    out: &mut W,
+    count: usize,
+    margin: &[u8],
+    after_name: bool,
+) -> io::Result<()> {
     if after_name {
-        start_line(margin, false);
+        start_line(out, margin, false)?;
     } else {
-        io::write_all(1, b" ");
+        out.write_all(b" ")?;
     }
-    io::write_all(1, b"and ");
-    io::print_decimal(1, count as u64);
-    io::write_all(1, b" more");
+    write!(out, "and {count} more")
 }
 
 // A list of so many items, on lines with a margin; one with no items is left out. What `lowest` and `highest` have, show_versions tells.
-pub fn show_list(
+pub fn show_list<W: Write>(
+    out: &mut W,
     sheet: &[u8],
     kind: u32,
     items: &[u32],
@@ -220,20 +214,25 @@ pub fn show_list(
     highest: &[u16],
     count: usize,
     margin: &[u8],
-) {
+) -> io::Result<()> {
     if count == 0 {
-        return;
+        return Ok(());
     }
-    let named = show_first(sheet, kind, items, lowest, highest, count, margin);
+    let named = show_first(out, sheet, kind, items, lowest, highest, count, margin)?;
     if MOST_SHOWN < count {
-        show_more(count - MOST_SHOWN, margin, named);
+        show_more(out, count - MOST_SHOWN, margin, named)?;
     }
-    io::write_all(1, b"\\l");
+    out.write_all(b"\\l")
 }
 
 // A list of items that have no versions.
-pub fn show_numbers(sheet: &[u8], kind: u32, items: &[u32], count: usize, margin: &[u8]) {
-    let lowest = [0u16; 0];
-    let highest = [0u16; 0];
-    show_list(sheet, kind, items, &lowest, &highest, count, margin);
+pub fn show_numbers<W: Write>(
+    out: &mut W,
+    sheet: &[u8],
+    kind: u32,
+    items: &[u32],
+    count: usize,
+    margin: &[u8],
+) -> io::Result<()> {
+    show_list(out, sheet, kind, items, &[], &[], count, margin)
 }

@@ -2,17 +2,21 @@
 // to write one. The file `stdout` has the answers.
 #![tactic(auto)]
 
-ghost use Rattle.std.specs.Prelude.{◌≤◌, length};
+ghost use Rattle.std.specs.Prelude.{◌≤◌, length, IfOk};
 
 use name_sheet::{locate, lookup};
 use script_text::{first_line, has_bytes, is, put_hex, show_bytes, value};
+use std::io;
+use std::io::{BufWriter, Read, Write};
+
+// Room for the script. A longer one is obeyed as far as its first 65,536 bytes go.
+const SCRIPT: u64 = 65536;
 
 // Room for the bytes of a sheet.
 const ROOM: usize = 4096;
 
-fn show_word(number: u64) {
-    io::print_decimal(1, number);
-    io::write_all(1, b" ");
+fn show_word<W: Write>(out: &mut W, number: u64) -> io::Result<()> {
+    write!(out, "{number} ")
 }
 
 // Where the part that a lookup hands back starts in the sheet.
@@ -22,13 +26,13 @@ fn start(sheet: &[u8], kind: u32, number: u32) -> usize {
 }
 
 // The answer to a lookup: its number, and of the part where it starts, its length and its bytes.
-fn answer(sheet: &[u8], kind: u32, number: u32) {
+fn answer<W: Write>(out: &mut W, sheet: &[u8], kind: u32, number: u32) -> io::Result<()> {
     let mut refusal: u32 = 0;
     let name = lookup(sheet, kind, number, &mut refusal);
-    show_word(refusal as u64);
-    show_word(start(sheet, kind, number) as u64);
-    show_word(name.len() as u64);
-    show_bytes(name, name.len());
+    show_word(out, refusal as u64)?;
+    show_word(out, start(sheet, kind, number) as u64)?;
+    show_word(out, name.len() as u64)?;
+    show_bytes(out, name, name.len())
 }
 
 // The length of the sheet after a line: `sheet` starts one with no bytes, a line that has bytes adds them.
@@ -46,30 +50,33 @@ fn next_length(bytes: &mut [u8], count: usize, line: &[u8]) -> usize
 }
 
 // Obeys a line on the sheet, and hands back its length.
-fn obey(bytes: &mut [u8], count: usize, line: &[u8]) -> usize
+fn obey<W: Write>(out: &mut W, bytes: &mut [u8], count: usize, line: &[u8]) -> io::Result<usize>
     requires { count ≤ length bytes.old }
-    ensures { result ≤ length bytes.old }
+    ensures { IfOk result (λ next. next ≤ length bytes.old) }
 {
     if is(line, b"lookup") {
-        answer(&bytes[0..count], value(line, 1), value(line, 2));
+        answer(out, &bytes[0..count], value(line, 1), value(line, 2))?;
     }
-    next_length(bytes, count, line)
+    Ok(next_length(bytes, count, line))
 }
 
-fn run(script: &[u8]) {
+fn run<W: Write>(out: &mut W, script: &[u8]) -> io::Result<()> {
     let mut room = [0u8; ROOM];
     let bytes: &mut [u8] = &mut room;
     let mut count: usize = 0;
     let mut at: usize = 0;
     while at < script.len() {
         let line = first_line(&script[at..]);
-        count = obey(bytes, count, line);
+        count = obey(out, bytes, count, line)?;
         at += line.len() + 1;
     }
+    Ok(())
 }
 
-fn main() {
-    let mut text = io::large_buffer();
-    let n = io::read_full(0, &mut text);
-    run(&text[..n]);
+fn main(rt: HostRuntime) -> io::Result<()> {
+    let mut script = Vec::new(rt.alloc());
+    rt.reader().take(SCRIPT).read_to_end(&mut script)?;
+    let mut out = BufWriter::new(rt.alloc(), io::writer(&rt))?;
+    run(&mut out, script.as_slice())?;
+    out.flush()
 }

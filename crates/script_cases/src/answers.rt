@@ -4,83 +4,82 @@ use crate::buffers::{PLACES, ROOM};
 use region_archive::Written;
 use region_routes::{Kept, Routed};
 use script_text::{show_bytes, show_end};
+use std::io;
+use std::io::Write;
 
-fn show_count(count: usize) {
-    io::write_all(1, b"0 ");
-    io::print_decimal(1, count as u64);
-    io::write_all(1, b" ");
+fn show_count<W: Write>(out: &mut W, count: usize) -> io::Result<()> {
+    write!(out, "0 {count} ")
 }
 
-fn show_refusal(number: u32) {
-    io::print_decimal(1, number as u64);
-    io::write_all(1, b" - ");
+fn show_refusal<W: Write>(out: &mut W, number: u32) -> io::Result<()> {
+    write!(out, "{number} - ")
 }
 
 // The number and the count of a route call.
-pub fn show_routed(answer: Routed) {
+pub fn show_routed<W: Write>(out: &mut W, answer: Routed) -> io::Result<()> {
     match answer {
-        Routed::Hidden => {
-            io::write_all(1, b"0 hidden ");
-        }
-        Routed::Count(count) => show_count(count),
-        Routed::Refused(number) => show_refusal(number),
+        Routed::Hidden => out.write_all(b"0 hidden "),
+        Routed::Count(count) => show_count(out, count),
+        Routed::Refused(number) => show_refusal(out, number),
     }
 }
 
 // The number and the count of a hook.
-pub fn show_kept(answer: Kept) {
+pub fn show_kept<W: Write>(out: &mut W, answer: Kept) -> io::Result<()> {
     match answer {
-        Kept::Wrote(count) => show_count(count),
-        Kept::Refused(number) => show_refusal(number),
+        Kept::Wrote(count) => show_count(out, count),
+        Kept::Refused(number) => show_refusal(out, number),
     }
 }
 
 // The number and the length of a write.
-pub fn show_written(answer: Written) {
+pub fn show_written<W: Write>(out: &mut W, answer: Written) -> io::Result<()> {
     match answer {
-        Written::Bytes(length) => show_count(length),
-        Written::Refused(number) => show_refusal(number),
+        Written::Bytes(length) => show_count(out, length),
+        Written::Refused(number) => show_refusal(out, number),
     }
 }
 
 // The first bytes of a buffer in hex: so many, or all; and the end of the line.
-pub fn show_room(room: &[u8; ROOM], count: usize) {
-    show_bytes(room, count);
+pub fn show_room<W: Write>(out: &mut W, room: &[u8; ROOM], count: usize) -> io::Result<()> {
+    show_bytes(out, room, count)
 }
 
-fn show_place(i: usize, number: u32) {
+fn show_place<W: Write>(out: &mut W, i: usize, number: u32) -> io::Result<()> {
     if 0 < i {
-        io::write_all(1, b",");
+        out.write_all(b",")?;
     }
-    io::print_decimal(1, number as u64);
+    write!(out, "{number}")
 }
 
 // The first places, with a comma between two: so many, or all; and what follows them.
-pub fn show_places(places: &[u32; PLACES], count: usize, after: &[u8]) {
-    let mut i: usize = 0;
-    while i < PLACES {
-        if i == count {
-            break;
-        }
-        show_place(i, places[i]);
-        i += 1;
+pub fn show_places<W: Write>(
+    out: &mut W,
+    places: &[u32; PLACES],
+    count: usize,
+    after: &[u8],
+) -> io::Result<()> {
+    let shown = count.min(PLACES);
+    for i in 0..shown {
+        show_place(out, i, places[i])?;
     }
-    show_end(i, after);
+    show_end(out, shown, after)
 }
 
-fn show_version(i: usize, version: u16) {
-    show_place(i, version as u32);
+fn show_version<W: Write>(out: &mut W, i: usize, version: u16) -> io::Result<()> {
+    show_place(out, i, version as u32)
 }
 
 // The same of places for versions.
-pub fn show_versions(places: &[u16; PLACES], count: usize, after: &[u8]) {
-    let mut i: usize = 0;
-    while i < PLACES {
-        if i == count {
-            break;
-        }
-        show_version(i, places[i]);
-        i += 1;
+pub fn show_versions<W: Write>(
+    out: &mut W,
+    places: &[u16; PLACES],
+    count: usize,
+    after: &[u8],
+) -> io::Result<()> {
+    let shown = count.min(PLACES);
+    for i in 0..shown {
+        show_version(out, i, places[i])?;
     }
-    show_end(i, after);
+    show_end(out, shown, after)
 }

@@ -1,5 +1,5 @@
 // The buffers that a call is lent, with their values before it.
-ghost use Rattle.io.specs.Counts.{IsPrefixLen};
+ghost use Rattle.script_text.specs.Counts.{IsPrefixLen};
 
 // Room for the bytes of a call: more than the longest image has.
 pub const ROOM: usize = 18432;
@@ -20,16 +20,14 @@ pub fn fill(places: &mut [u32], count: u32) -> usize
     ensures { IsPrefixLen result places.new }
 {
     let mut next = FIRST;
-    let mut n: usize = 0;
-    while n < places.len() {
+    for n in 0..places.len() {
         if count as usize <= n {
             return n;
         }
         places[n] = next;
-        next = std::num::wrapping_add_u32(next, 1);
-        n += 1;
+        next = next.wrapping_add(1);
     }
-    n
+    places.len()
 }
 
 // The same of places for versions.
@@ -37,14 +35,12 @@ pub fn fill_versions(places: &mut [u16], count: u32) -> usize
     ensures { IsPrefixLen result places.new }
 {
     let mut next = FIRST_VERSION;
-    let mut n: usize = 0;
-    while n < places.len() {
+    for n in 0..places.len() {
         if count as usize <= n {
             return n;
         }
         places[n] = next;
-        next = std::num::wrapping_add_u16(next, 1);
-        n += 1;
+        next = next.wrapping_add(1);
     }
-    n
+    places.len()
 }

@@ -10,27 +10,29 @@ use crate::buffers::{PLACES, fill, fill_versions};
 use region_graph::Graph;
 use region_routes::{Kept, bundle_event, bundle_find, service_event, service_find};
 use script_text::{is, list, value, versions, word};
+use std::io;
+use std::io::Write;
 
 // The hook of a line but resolve, with its candidates or listeners.
-fn kept(g: Graph, line: &[u8], numbers: &[u32], out: &mut [u32]) -> Kept
+fn kept(g: Graph, line: &[u8], numbers: &[u32], places: &mut [u32]) -> Kept
     requires { Valid g }
 {
     let location = value(line, 1);
     let item = value(line, 2);
     if is(line, b"bfind") {
-        return bundle_find(g, location, numbers, out);
+        return bundle_find(g, location, numbers, places);
     }
     if is(line, b"sfind") {
-        return service_find(g, location, numbers, out);
+        return service_find(g, location, numbers, places);
     }
     if is(line, b"bevent") {
-        return bundle_event(g, numbers, item, out);
+        return bundle_event(g, numbers, item, places);
     }
-    service_event(g, numbers, item, out)
+    service_event(g, numbers, item, places)
 }
 
 // The hook of a line on a buffer of so many places, with its answer.
-pub fn hook(g: Graph, line: &[u8], count: u32)
+pub fn hook<W: Write>(out: &mut W, g: Graph, line: &[u8], count: u32) -> io::Result<()>
     requires { Valid g }
 {
     let mut numbers = [0u32; PLACES];
@@ -38,12 +40,19 @@ pub fn hook(g: Graph, line: &[u8], count: u32)
     let mut places = [0u32; PLACES];
     let m = fill(&mut places, count);
     let answer = kept(g, line, &numbers[..n], &mut places[..m]);
-    show_kept(answer);
-    show_places(&places, m, b"\n");
+    show_kept(out, answer)?;
+    show_places(out, &places, m, b"\n")
 }
 
 // Resolve with its candidates, and with its answer. The answer has the places of all buffers.
-fn offered(g: Graph, line: &[u8], exporters: &[u32], packages: &[u32], of: &[u16])
+fn offered<W: Write>(
+    out: &mut W,
+    g: Graph,
+    line: &[u8],
+    exporters: &[u32],
+    packages: &[u32],
+    of: &[u16],
+) -> io::Result<()>
     requires { Valid g }
 {
     let mut counts = [0u32; 3];
@@ -64,14 +73,14 @@ fn offered(g: Graph, line: &[u8], exporters: &[u32], packages: &[u32], of: &[u16
         &mut out_packages[..n],
         &mut out_versions[..k],
     );
-    show_kept(answer);
-    show_places(&out_exporters, m, b" ");
-    show_places(&out_packages, n, b" ");
-    show_versions(&out_versions, k, b"\n");
+    show_kept(out, answer)?;
+    show_places(out, &out_exporters, m, b" ")?;
+    show_places(out, &out_packages, n, b" ")?;
+    show_versions(out, &out_versions, k, b"\n")
 }
 
 // Resolve, with its answer.
-pub fn resolve(g: Graph, line: &[u8])
+pub fn resolve<W: Write>(out: &mut W, g: Graph, line: &[u8]) -> io::Result<()>
     requires { Valid g }
 {
     let mut exporters = [0u32; PLACES];
@@ -80,5 +89,5 @@ pub fn resolve(g: Graph, line: &[u8])
     let p = list(word(line, 4), &mut packages);
     let mut of = [0u16; PLACES];
     let v = versions(word(line, 5), &mut of);
-    offered(g, line, &exporters[..e], &packages[..p], &of[..v]);
+    offered(out, g, line, &exporters[..e], &packages[..p], &of[..v])
 }

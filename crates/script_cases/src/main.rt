@@ -12,11 +12,16 @@ mod hooks;
 mod script;
 mod words;
 
-// Room for the script.
+use std::io;
+use std::io::{BufWriter, Read, Write};
+
+// Room for the script. A longer one is obeyed as far as its first 131,072 bytes go.
 const ROOM: usize = 131072;
 
-fn main() {
-    let mut text = [0u8; ROOM];
-    let n = io::read_full(0, &mut text);
-    script::run(&text[..n]);
+fn main(rt: HostRuntime) -> io::Result<()> {
+    let mut script = Vec::new(rt.alloc());
+    rt.reader().take(ROOM as u64).read_to_end(&mut script)?;
+    let mut out = BufWriter::new(rt.alloc(), io::writer(&rt))?;
+    script::run(&mut out, script.as_slice())?;
+    out.flush()
 }

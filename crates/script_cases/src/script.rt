@@ -1,5 +1,5 @@
 // The script, line by line.
-ghost use Rattle.std.specs.Prelude.{◌≤◌, length};
+ghost use Rattle.std.specs.Prelude.{◌≤◌, length, IfOk};
 ghost use Rattle.region_graph.specs.Record.{Valid};
 
 use crate::asks::{image, query, route, write};
@@ -12,47 +12,49 @@ use region_archive::{read, read_over};
 use region_graph::refusals::NOT_REFUSED;
 use region_graph::{Changed, Graph};
 use script_text::{first_line, is, show_number, value};
+use std::io;
+use std::io::Write;
 
 // Answers a line that asks something of the graph or of the file, and hands back whether it does.
-fn asked(g: Graph, file: &[u8], line: &[u8]) -> bool
+fn asked<W: Write>(out: &mut W, g: Graph, file: &[u8], line: &[u8]) -> io::Result<bool>
     requires { Valid g }
 {
     if is(line, b"route") {
-        route(g, line);
-        return true;
+        route(out, g, line)?;
+        return Ok(true);
     }
     if is(line, b"write") {
-        write(g, line);
-        return true;
+        write(out, g, line)?;
+        return Ok(true);
     }
     if is(line, b"image") {
-        image(g);
-        return true;
+        image(out, g)?;
+        return Ok(true);
     }
     if is(line, b"query") {
-        query(file, line);
-        return true;
+        query(out, file, line)?;
+        return Ok(true);
     }
-    asked_hook(g, line)
+    asked_hook(out, g, line)
 }
 
 // The same, of a hook.
-fn asked_hook(g: Graph, line: &[u8]) -> bool
+fn asked_hook<W: Write>(out: &mut W, g: Graph, line: &[u8]) -> io::Result<bool>
     requires { Valid g }
 {
     if is_find(line) {
-        hook(g, line, value(line, 2));
-        return true;
+        hook(out, g, line, value(line, 2))?;
+        return Ok(true);
     }
     if is_event(line) {
-        hook(g, line, value(line, 1));
-        return true;
+        hook(out, g, line, value(line, 1))?;
+        return Ok(true);
     }
     if is(line, b"resolve") {
-        resolve(g, line);
-        return true;
+        resolve(out, g, line)?;
+        return Ok(true);
     }
-    false
+    Ok(false)
 }
 
 // The file, read over the graph of the base.
@@ -88,25 +90,32 @@ fn changed(g: Graph, base: &[u8], file: &[u8], line: &[u8]) -> Changed
 }
 
 // Obeys a line on the base and the file, which stand in a buffer one after the other, and hands back the next graph.
-fn obey(g: Graph, bytes: &[u8], start: usize, end: usize, line: &[u8]) -> Graph
+fn obey<W: Write>(
+    out: &mut W,
+    g: Graph,
+    bytes: &[u8],
+    start: usize,
+    end: usize,
+    line: &[u8],
+) -> io::Result<Graph>
     requires valid { Valid g }
     requires start_le_end { (start ≤ end) × (end ≤ length bytes.now) }
-    ensures { Valid result }
+    ensures { IfOk result (λ next. Valid next) }
 {
     let base = &bytes[0..start];
     let file = &bytes[start..end];
     if is_silent(line) {
-        return g;
+        return Ok(g);
     }
-    if asked(g, file, line) {
-        return g;
+    if asked(out, g, file, line)? {
+        return Ok(g);
     }
     let next = changed(g, base, file, line);
-    show_number(next.number);
-    next.graph
+    show_number(out, next.number)?;
+    Ok(next.graph)
 }
 
-pub fn run(script: &[u8]) {
+pub fn run<W: Write>(out: &mut W, script: &[u8]) -> io::Result<()> {
     let mut room = [0u8; ROOM];
     let bytes: &mut [u8] = &mut room;
     let mut file = File { start: 0, end: 0 };
@@ -114,8 +123,9 @@ pub fn run(script: &[u8]) {
     let mut at: usize = 0;
     while at < script.len() {
         let line = first_line(&script[at..]);
-        g = obey(g, bytes, file.start, file.end, line);
+        g = obey(out, g, bytes, file.start, file.end, line)?;
         file = next_file(bytes, file, line);
         at += line.len() + 1;
     }
+    Ok(())
 }

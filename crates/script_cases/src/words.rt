@@ -2,17 +2,11 @@
 use script_text::{first, has_bytes, is};
 
 pub fn is_find(line: &[u8]) -> bool {
-    if is(line, b"bfind") {
-        return true;
-    }
-    is(line, b"sfind")
+    is(line, b"bfind") || is(line, b"sfind")
 }
 
 pub fn is_event(line: &[u8]) -> bool {
-    if is(line, b"bevent") {
-        return true;
-    }
-    is(line, b"sevent")
+    is(line, b"bevent") || is(line, b"sevent")
 }
 
 // Whether a line has no answer: it is empty or a comment, or says what the file is.

@@ -35,10 +35,8 @@ pub fn put_hex(bytes: &mut [u8], text: &[u8]) -> usize
     ensures { result ≤ length bytes.old }
 {
     let mut count: usize = 0;
-    let mut i: usize = 0;
-    while i < text.len() {
-        count = put(bytes, count, text[i]);
-        i += 1;
+    for byte in text {
+        count = put(bytes, count, *byte);
     }
     count / 2
 }

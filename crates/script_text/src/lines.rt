@@ -1,18 +1,13 @@
 // The lines of a script. A line has words with a space between two, and a word may have numbers with a comma between two. A word is told
 // by how many words are before it.
 ghost use Rattle.std.specs.Prelude.{◌≤◌, length};
-ghost use Rattle.io.specs.Counts.{IsPrefixLen};
-
-use check::same;
+ghost use Rattle.script_text.specs.Counts.{IsPrefixLen};
 
 // How many marks a byte is: one or none.
 fn marks(byte: u8, mark: u8) -> usize
     ensures { result ≤ 1 }
 {
-    if byte == mark {
-        return 1;
-    }
-    0
+    if byte == mark { 1 } else { 0 }
 }
 
 // Where the part after so many marks starts.
@@ -20,29 +15,25 @@ fn start_of(text: &[u8], mark: u8, before: usize) -> usize
     ensures { result ≤ length text.now }
 {
     let mut left = before;
-    let mut i: usize = 0;
-    while i < text.len() {
+    for (i, byte) in text.iter().enumerate() {
         if left == 0 {
             return i;
         }
-        left -= marks(text[i], mark);
-        i += 1;
+        left -= marks(*byte, mark);
     }
-    i
+    text.len()
 }
 
 // Where the first mark stands, or the end of the text.
 fn end_of(text: &[u8], mark: u8) -> usize
     ensures { result ≤ length text.now }
 {
-    let mut i: usize = 0;
-    while i < text.len() {
-        if text[i] == mark {
+    for (i, byte) in text.iter().enumerate() {
+        if *byte == mark {
             return i;
         }
-        i += 1;
     }
-    i
+    text.len()
 }
 
 // The part of a text after so many marks and before the next one.
@@ -67,20 +58,15 @@ pub fn word(line: &[u8], before: usize) -> &[u8] {
 }
 
 fn is_digit(byte: u8) -> bool {
-    if b'0' <= byte {
-        return byte <= b'9';
-    }
-    false
+    byte.is_ascii_digit()
 }
 
 // The number with one digit more; a byte that is no digit, and a digit past 32 bits, leave it.
 fn with_digit(number: u32, byte: u8) -> u32 {
-    if b'0' <= byte {
-        if byte <= b'9' {
-            let longer = number as u64 * 10 + (byte - b'0') as u64;
-            if longer <= 4294967295 {
-                return longer as u32;
-            }
+    if b'0' <= byte && byte <= b'9' {
+        let longer = number as u64 * 10 + (byte - b'0') as u64;
+        if longer <= 4294967295 {
+            return longer as u32;
         }
     }
     number
@@ -88,10 +74,8 @@ fn with_digit(number: u32, byte: u8) -> u32 {
 
 fn number(text: &[u8]) -> u32 {
     let mut n: u32 = 0;
-    let mut i: usize = 0;
-    while i < text.len() {
-        n = with_digit(n, text[i]);
-        i += 1;
+    for byte in text {
+        n = with_digit(n, *byte);
     }
     n
 }
@@ -103,10 +87,7 @@ pub fn value(line: &[u8], before: usize) -> u32 {
 
 // The first byte of a text; 0 where it has none.
 pub fn first(text: &[u8]) -> u8 {
-    if text.len() == 0 {
-        return 0;
-    }
-    text[0]
+    if text.is_empty() { 0 } else { text[0] }
 }
 
 fn ends_in_digit(text: &[u8]) -> bool {
@@ -121,16 +102,14 @@ fn ends_in_digit(text: &[u8]) -> bool {
 pub fn list(word: &[u8], numbers: &mut [u32]) -> usize
     ensures { IsPrefixLen result numbers.new }
 {
-    let mut n: usize = 0;
-    while n < numbers.len() {
+    for n in 0..numbers.len() {
         let numeral = part(word, b',', n);
         if !ends_in_digit(numeral) {
             return n;
         }
         numbers[n] = number(numeral);
-        n += 1;
     }
-    n
+    numbers.len()
 }
 
 // Whether a word comes with the flag "all".
@@ -140,14 +119,10 @@ pub fn is_all(word: &[u8]) -> bool {
 
 // Whether a line has a name as its first word.
 pub fn is(line: &[u8], name: &[u8]) -> bool {
-    same(word(line, 0), name)
+    word(line, 0) == name
 }
 
 // Whether a line has bytes: it starts with a digit of base 16, 0 to 9 or A to F.
 pub fn has_bytes(line: &[u8]) -> bool {
-    let byte = first(line);
-    match byte {
-        b'0'..=b'9' | b'A'..=b'F' => true,
-        _ => false,
-    }
+    matches!(first(line), b'0'..=b'9' | b'A'..=b'F')
 }

@@ -1,5 +1,5 @@
 // The versions of a line: a word that is one, and a word that is a list of them.
-ghost use Rattle.io.specs.Counts.{IsPrefixLen};
+ghost use Rattle.script_text.specs.Counts.{IsPrefixLen};
 
 use crate::lines::{list, value};
 
@@ -22,13 +22,11 @@ pub fn versions(word: &[u8], places: &mut [u16]) -> usize
 {
     let mut numbers = [0u32; PLACES];
     let count = list(word, &mut numbers);
-    let mut n: usize = 0;
-    while n < places.len() {
+    for n in 0..places.len() {
         if count <= n {
             return n;
         }
         places[n] = cut(numbers[n]);
-        n += 1;
     }
-    n
+    places.len()
 }

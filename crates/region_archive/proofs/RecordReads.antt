@@ -8,8 +8,10 @@ use native.Mathlib.Omega.{arith}
 use lib.ListN.{length, take, drop, length-append, length-drop, take-append-drop, drop_of_length-le}
 use lib.Seq.{length-take-le, take_at, drop-append-le}
 use Rattle.region_graph.specs.Size.{regions}
+use Rattle.region_graph.specs.Sets.{members}
 use Rattle.region_graph.specs.Lists.{All}
 use Rattle.region_graph.specs.Flat.{Fields}
+use Rattle.region_graph.proofs.FlatLaws.{members_small}
 use Rattle.big_endian.specs.Bytes.{big}
 use Rattle.big_endian.specs.Parsing.{Parsed}
 use Rattle.big_endian.proofs.Digits.{big_length}
@@ -31,6 +33,10 @@ pub record Source : Type 0 where
   pub rs : List ℕ
   pub small : All (λ r. r < regions) rs
   pub bytes : List ℕ
+
+-- with the regions of a set
+abbrev pub from_bytes : Section → ℕ → List ℕ → Source
+from_bytes section set bytes = record { section = section; rs = members set; small = members_small set; bytes = bytes }
 
 abbrev pub elements_of : (q : Source) → Elements (Elem q.section)
 elements_of q = section_elements q.rs q.small q.section

@@ -96,7 +96,7 @@ returns c =
     let all : a.loop-n.n ≡ a.count_at-count.result.number = omega (arith, a.loop-n.invariant.0, c.loop-n-test.false) in
     record {
       size = kept;
-      answer = found_into (list_end a.loop-n.invariant.1.1 few a.count_at-count.ensures counts inside);
+      answer = found_into (list_end a.loop-n.invariant.1.1 few a.count_at-count.ensures counts inside all);
     }
 
 pub count_at-count-requires : goal.count_at-count-requires

@@ -4,7 +4,7 @@ use mathlib.Core.List.{◌∷◌}
 use Prim.Native.Nat.{ℕ, ◌+◌}
 use native.Mathlib.Omega.{arith}
 use borrow.Author.Rules.{rules}
-use lib.ListN.{drop, length-set}
+use lib.ListN.{set, drop, length-set}
 use lib.Seq.{get_or-set_same}
 use Rattle.big_endian.proofs.Digits.{drop_byte}
 use Rattle.region_archive.specs.Forms.{form_of}
@@ -12,6 +12,7 @@ use Rattle.region_archive.specs.RecordFields.{part_open}
 use Rattle.region_archive.proofs.RecordLaws.{most_in_few}
 use Rattle.region_archive.proofs.ListReads.{part_sign, part_from_list, not_everything}
 use Rattle.region_archive.proofs.sections.part_at.Goals as goal
+use Rattle.region_archive.proofs.sections.part_at.Goals.{then-at-bytes+else-bytes-at, else-at-bytes}
 
 pub returns-then-bytes-at : goal.returns-then-bytes-at
 returns-then-bytes-at c =
@@ -23,7 +24,7 @@ returns-then-bytes-at c =
       answer =
           rw c.part_open-ok.ensures
           (part_sign (form_of a.section a.field) (most_in_few a.section) (part_open a.section a.field)
-          (drop_byte b a.at (omega arith) ∙ ap (λ (n : ℕ). n ∷ drop (a.at + 1) b) c.if-bytes-at.true) (omega arith)
+          (drop_byte b a.at (omega arith) ∙ ap (λ (n : ℕ). n ∷ drop (a.at + 1) b) c.if-bytes-at.true) (omega arith) (set a.row.now 0 255)
           (get_or-set_same a.row.now 0 255 0 (omega (arith, s.requires.1))));
     }
 
@@ -43,6 +44,6 @@ returns c =
       answer =
           part_from_list (form_of a.section a.field) (most_in_few a.section) (part_open a.section a.field)
           (not_everything a.bytes.now a.at
-          (⊎_elim (λ w h e. w.2.left e) (λ w h e. omega arith) f.if-at-bytes.branch))
+          (elim f.if-at-bytes.branch [ then-at-bytes+else-bytes-at w ↦ λ h e. w.if-bytes-at.false e | else-at-bytes w ↦ λ h e. omega (arith, w.if-at-bytes.false) ])) f.listed_at.new.row
           r.answer;
     }

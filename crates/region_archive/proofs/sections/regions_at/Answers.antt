@@ -11,6 +11,7 @@ use Rattle.big_endian.specs.Parsing.{Parsed}
 use Rattle.big_endian.proofs.NumberReads.{no_number}
 use Rattle.region_archive.proofs.RegionReads.{Regions, regions_start, regions_missing, regions_end, regions_more, no_byte, no_region}
 use Rattle.region_archive.proofs.sections.regions_at.Goals as goal
+use Rattle.region_archive.proofs.sections.regions_at.Goals.{else-loop-n-test, then-loop-n-test+then-not-read, then-loop-n-test+else-not-read+then-region-least, then-loop-n-test+else-not-read+else-region-least+then-not-is_region}
 
 pub loop-n-init : goal.loop-n-init
 loop-n-init c =
@@ -26,13 +27,13 @@ loop-n-preserved c =
     omega (arith, l.1.0, l.1.1.0, c.loop-n-test.true, c.requires.1) in
     let l = c.loop-n in
     let t = c.is_region in
-    let inside = ltb-true c.number_at-read.result.number regions (sym t.ensures ∙ not-false t.result c.if-not-is_region.false-raw) in (
+    let inside = ltb-true c.number_at-read.result.number regions (sym t.ensures ∙ c.if-not-is_region.false) in (
       omega (arith, c.loop-n-test.true),
       (
         l.invariant.1.0,
         (
           length-set l.list l.n c.number_at-read.result.number ∙ l.invariant.1.1.0,
-          regions_more l.invariant.1.1.1 room c.if-region-least.false inside c.singleton-set.ensures,
+          regions_more l.invariant.1.1.1 room byte c.if-region-least.false inside c.singleton-set.ensures,
         ),
       ),
     )
@@ -46,13 +47,16 @@ returns c =
     regions_end e.count_at-count.ensures (not-false _ e.if-not-count.false) l.invariant.1.1.1 l.invariant.0
     (omega (arith, l.invariant.0, l.invariant.1.0, l.invariant.1.1.0, s.requires.1))
     (λ h.
-    ⊎_elim (λ w. absurd (omega (arith, h, w.left)))
-    (⊎_elim (λ w. no_byte b l.at l.least (no_number (omega arith) w.1.ensures l.invariant.1.1.1.going.room (not-true _ w.3.taken)))
-    (⊎_elim (λ w. no_region (w.1.ensures.found (not-false _ w.3.left)) (λ i. w.4.taken))
-    (λ w.
-    no_region (w.1.ensures.found (not-false _ w.3.left))
-    (λ i. absurd (omega (arith, i, ltb-false w.1.result.number regions (sym w.5.ensures ∙ not-true w.5.result w.6.taken)))))))
-    c.loop-n-test.branch)
+    elim c.loop-n-test.branch [
+      else-loop-n-test w ↦ absurd (omega (arith, h, w.loop-n-test.false))
+      | then-loop-n-test+then-not-read w ↦
+      no_byte b l.at l.least (no_number (omega arith) w.number_at-read.ensures l.invariant.1.1.1.going.room (not-true _ w.if-not-read.true))
+      | then-loop-n-test+else-not-read+then-region-least w ↦
+      no_region (w.number_at-read.ensures.found (not-false _ w.if-not-read.false)) (λ i. w.if-region-least.true)
+      | then-loop-n-test+else-not-read+else-region-least+then-not-is_region w ↦
+      no_region (w.number_at-read.ensures.found (not-false _ w.if-not-read.false))
+      (λ i. absurd (omega (arith, i, ltb-false w.number_at-read.result.number regions (sym w.is_region.ensures ∙ w.if-not-is_region.true))))
+    ])
 
 pub count_at-count-requires : goal.count_at-count-requires
 count_at-count-requires c = (c.requires.0, omega arith)

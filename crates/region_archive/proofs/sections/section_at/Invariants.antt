@@ -18,7 +18,7 @@ use Rattle.region_archive.specs.Sections.{LengthStands}
 use Rattle.region_archive.specs.declared.record_fields.Section.{Section}
 use Rattle.region_archive.proofs.RecordLaws.{wide, most_small}
 use Rattle.region_archive.proofs.Fits.{few_fields}
-use Rattle.region_archive.proofs.RecordReads.{Source, FieldsRead, fields_start, fields_more, lengthless, no_field, misfit}
+use Rattle.region_archive.proofs.RecordReads.{Source, from_bytes, FieldsRead, fields_start, fields_more, lengthless, no_field, misfit}
 use Rattle.region_archive.proofs.SectionReads.{Recording, RecordRead, recording_start, recording_more, read_element, order_is, key_small}
 use Rattle.region_archive.proofs.SectionReads.{rows_small, row_room, mid_put, section_missing, section_end}
 use Rattle.region_archive.proofs.sections.section_at.Given as goal

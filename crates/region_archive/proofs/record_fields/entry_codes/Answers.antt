@@ -24,11 +24,8 @@ overflow_add-from c =
 
 pub overflow_add-codes : goal.overflow_add-codes
 overflow_add-codes c =
-    let from-small : (let l = c in let a = l.args in get_or a.numbers.now l.loop-i.i 0 * 65536 + get_or a.lowest.now l.loop-i.i 0 < 2 ^ 48) =
     let i = c.loop-i.i in
-    digits_lt (c.type_inv.numbers i).fits (c.type_inv.lowest i).fits in
-    let i = c.loop-i.i in
-    record { fits = code_whole from-small (c.type_inv.highest i).fits refl }
+    record { fits = code_whole (digits_lt (c.type_inv.numbers i).fits (c.type_inv.lowest i).fits) (c.type_inv.highest i).fits refl }
 
 pub loop-i-preserved : goal.loop-i-preserved
 loop-i-preserved c =
@@ -63,11 +60,9 @@ pub overflow_cast-from-in-loop-i : goal.overflow_cast-from-in-loop-i
 overflow_cast-from-in-loop-i c = omega (arith, c.type_inv.lowest c.loop-i.i)
 
 pub overflow_mul-codes : goal.overflow_mul-codes
-overflow_mul-codes c = 
-    let from-small : (let l = c in let a = l.args in get_or a.numbers.now l.loop-i.i 0 * 65536 + get_or a.lowest.now l.loop-i.i 0 < 2 ^ 48) =
+overflow_mul-codes c =
     let i = c.loop-i.i in
-    digits_lt (c.type_inv.numbers i).fits (c.type_inv.lowest i).fits in
-    record { fits = code_above from-small }
+    record { fits = code_above (digits_lt (c.type_inv.numbers i).fits (c.type_inv.lowest i).fits) refl }
 
 pub bounds-highest-i : goal.bounds-highest-i
 bounds-highest-i c = omega (arith, c.requires.1.1)

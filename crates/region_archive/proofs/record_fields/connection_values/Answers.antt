@@ -32,14 +32,3 @@ returns c =
         numbers_part x.services h.services c.widened-offered.ensures,
       );
     }
-
-pub entry_codes-passed-requires : goal.entry_codes-passed-requires
-entry_codes-passed-requires c =
-    let h = c.requires.packages in
-    (omega (arith, h.numbers.size), (h.lowest.size ∙ sym h.numbers.size, h.highest.size ∙ sym h.numbers.size))
-
-pub widened-named-requires : goal.widened-named-requires
-widened-named-requires c = omega (arith, c.requires.bundles.size)
-
-pub widened-offered-requires : goal.widened-offered-requires
-widened-offered-requires c = omega (arith, c.requires.services.size)

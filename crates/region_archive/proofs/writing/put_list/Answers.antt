@@ -45,21 +45,3 @@ returns c =
     let e : a.loop-i.i ≡ n.count = omega arith in
     wrote_counted (element_bytes f) (codes_of n) (list_counted s.requires.form_fits.1) (omega (arith, s.requires.form_fits.1.count))
     (ap (λ (k : ℕ). concat_map (element_bytes f) (take k n.items)) e) a.put_number-to.ensures a.loop-i.invariant.1
-
-pub loop-i-init : goal.loop-i-init
-loop-i-init c = (omega arith, wrote_start c.put_number-to.ensures)
-
-pub offset_bounds-list-i : goal.offset_bounds-list-i
-offset_bounds-list-i c = omega (arith, c.requires.form_fits.1.count)
-
-pub bounds-list-i : goal.bounds-list-i
-bounds-list-i c = omega (arith, c.requires.form_fits.1.count)
-
-pub overflow_cast-written : goal.overflow_cast-written
-overflow_cast-written c = omega (arith, c.requires.form_fits.0.skips)
-
-pub overflow_shr-written : goal.overflow_shr-written
-overflow_shr-written c = c.requires.form_fits.0.skips
-
-pub shape_of-buffer : goal.shape_of-buffer
-shape_of-buffer c = wrote_length c.loop-i.invariant.1 ∙ wrote_length c.put_number-to.ensures

@@ -11,18 +11,6 @@ use Rattle.region_archive.specs.RecordFields.{bytes_to, field_bytes, fields_byte
 use Rattle.region_archive.proofs.Pieces.{bytes_next, bytes_within}
 use Rattle.region_archive.proofs.writing.put_record.Goals as goal
 
-pub put_field-to-requires : goal.put_field-to-requires
-put_field-to-requires c =
-    let a = c in
-    let s = a in
-    let k = s.args.section in
-    let x = fields_in s.args.values in
-    let e : a.loop-field.field + 1 ≤ field_count k = omega (arith, a.field_count-total.ensures) in record { values_fit = s.requires.values_fit; field_within = (
-        e,
-        wrote_room (length (sized 2 (fields_bytes k) x)) (length (field_bytes k a.loop-field.field x)) a.put_number-to.ensures a.loop-field.invariant.1
-            s.requires.values_in_bounds (omega (arith, bytes_within (field_bytes k) (field_count k) a.loop-field.field x (omega arith))),
-      ) }
-
 pub loop-field-preserved : goal.loop-field-preserved
 loop-field-preserved c =
     let a = c in
@@ -39,12 +27,3 @@ returns c =
     let e : a.loop-field.field ≡ field_count s.section = omega (arith, a.field_count-total.ensures) in
     let size = a.fields_size-size.ensures.0 in
     wrote_is (λ i. big 2 (size i) ++ bytes_to f (e i) x) (wrote_then a.put_number-to.ensures a.loop-field.invariant.1)
-
-pub fields_size-size-requires : goal.fields_size-size-requires
-fields_size-size-requires c = c.requires.values_fit
-
-pub loop-field-init : goal.loop-field-init
-loop-field-init c = (omega arith, wrote_start c.put_number-to.ensures)
-
-pub shape_of-buffer : goal.shape_of-buffer
-shape_of-buffer c = wrote_length c.loop-field.invariant.1 ∙ wrote_length c.put_number-to.ensures

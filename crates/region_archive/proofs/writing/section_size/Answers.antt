@@ -40,10 +40,11 @@ connection_values-values-requires c =
     connection_fit p c.in-Connections.is _
 
 pub fields_size-requires : goal.fields_size-requires
-fields_size-requires c = elim c.match-section.branch [
-  in-Bundles w ↦ rw w.values-is (w.bundle_values-values.ensures 0).fits
-| in-Connections w ↦ rw w.values-is (w.connection_values-values.ensures 0).fits
-]
+fields_size-requires c =
+    elim c.match-section.branch [
+      in-Bundles w ↦ rw w.values-is (w.bundle_values-values.ensures 0).fits
+    | in-Connections w ↦ rw w.values-is (w.connection_values-values.ensures 0).fits
+    ]
 
 pub overflow_add-size-in-loop-i : goal.overflow_add-size-in-loop-i
 overflow_add-size-in-loop-i c = omega (arith, few_elements c.args.graph c.requires c.args.section, c.fields_size.ensures.1)

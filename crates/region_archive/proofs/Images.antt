@@ -67,3 +67,9 @@ module _ (m : Model) (old : List ℕ) where
 
   pub older_placed : unversioned m ≡ true → placed_outcome (older_image m) old ≡ older_outcome m old
   older_placed e = rw e
+
+-- a body has the bytes of its three pieces
+pub body_parts : (v : ℕ) (m : Model) → Legal m
+    → length (body_in v m)
+      ≡ length (counted (big 1) m.regions) + (length (section_bytes (Section.Bundles v) m) + length (section_bytes (Section.Connections v) m))
+body_parts v m h = omega (arith, body_size v m h, regions_size m.regions)

@@ -140,3 +140,8 @@ module _ {g : Graph} {s : Section} {bs : List StoredBundle} {cs : List StoredCon
         subst (λ (u : Section). ValuesAre u t (element_at u (placed_model bs cs n) i)) (sym k)
         (subst (ValuesAre (Section.Connections v) t) x
         (subst (λ (u : FieldValues). ValuesAre (Section.Connections v) u (connection_in (get_or cs i e))) (sym d) h))
+
+-- a place of a section, by what the calls that hand out the places promise
+pub place_here : {g : Graph} (s : Section) {bs : List StoredBundle} {cs : List StoredConnection} {n i : ℕ} → Valid g
+    → bs ≡ bundle_places (meaning g) → cs ≡ connection_places (meaning g) → n ≡ length (elements s (meaning g)) → i < n → Place g s bs cs n i
+place_here s v b c n h = record { placed = record { valid = v; bundles = b; connections = c; counted = n }; below = h }

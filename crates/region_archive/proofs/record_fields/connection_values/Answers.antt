@@ -1,45 +1,23 @@
-use borrow.Author.Rules.{rules}
-use native.Mathlib.Omega.{arith}
-use mathlib.Core.Path.{refl, sym, ◌∙◌}
+use mathlib.Core.Path.{refl, ◌∙◌}
 use Rattle.region_archive.proofs.Fits.{list_part, list_in, numbers_fits, numbers_part, entries_fits, entries_part}
 use Rattle.region_archive.proofs.record_fields.connection_values.Goals as goal
 
 pub returns : goal.returns
 returns c =
-    let q = c in
-    let p = q in
-    let s = p in
-    let x = s.args.c in
-    let h = s.requires in
+    let x = c.args.c in
+    let h = c.requires in
     let bundles = list_part h.bundles in
+    let named = c.widened-named.ensures in
+    let passed = c.entry_codes-passed.ensures in
+    let offered = c.widened-offered.ensures in
     λ v. record {
       fits =
           record {
             size = refl;
-            each = (
-              numbers_fits x.bundles bundles p.widened-named.ensures,
-              (
-                entries_fits x.packages h.packages q.entry_codes-passed.ensures,
-                (numbers_fits x.services h.services c.widened-offered.ensures, tt),
-              ),
-            );
+            each = (numbers_fits x.bundles bundles named, (entries_fits x.packages h.packages passed, (numbers_fits x.services h.services offered, tt)));
           };
       same = (
-        (
-          (((tt, refl), refl), numbers_part x.bundles bundles p.widened-named.ensures ∙ list_in x.bundles h.bundles),
-          entries_part x.packages h.packages q.entry_codes-passed.ensures,
-        ),
-        numbers_part x.services h.services c.widened-offered.ensures,
+        ((((tt, refl), refl), numbers_part x.bundles bundles named ∙ list_in x.bundles h.bundles), entries_part x.packages h.packages passed),
+        numbers_part x.services h.services offered,
       );
     }
-
-pub entry_codes-passed-requires : goal.entry_codes-passed-requires
-entry_codes-passed-requires c =
-    let h = c.requires.packages in
-    (omega (arith, h.numbers.size), (h.lowest.size ∙ sym h.numbers.size, h.highest.size ∙ sym h.numbers.size))
-
-pub widened-named-requires : goal.widened-named-requires
-widened-named-requires c = omega (arith, c.requires.bundles.size)
-
-pub widened-offered-requires : goal.widened-offered-requires
-widened-offered-requires c = omega (arith, c.requires.services.size)

@@ -1,15 +1,10 @@
-use mathlib.Core.Path.{◌≡◌, refl, sym, ap}
-use Prim.Native.Nat.{◌+◌, ◌*◌, ◌-◌, ◌^◌, ◌≤◌, ◌<◌}
-use native.Mathlib.Omega.{arith}
-use borrow.Author.Rules.{rules}
-use lib.Arith.{digits_lt}
-use lib.ListN.{length, take, get_or}
+use mathlib.Core.Path.{◌≡◌}
+use Prim.Native.Nat.{◌-◌, ◌≤◌}
+use lib.ListN.{length, take}
 use Rattle.region_graph.specs.Size.{most_listed}
 use Rattle.region_graph.specs.Model.{entries}
 use Rattle.region_graph.specs.Flat.{entry_code}
-use Rattle.region_graph.proofs.Arrays.{Filled, filled_none}
-use Rattle.region_graph.proofs.Columns.{no_range, entries_length, entries_at}
-use Rattle.region_archive.proofs.Fits.{code_above, code_whole, coded_next, coded_all}
+use Rattle.region_graph.proofs.Arrays.{Filled}
 use Rattle.region_archive.proofs.record_fields.entry_codes.Given as goal
 
 abbrev pub invariant-loop-i : goal.invariant-loop-i

@@ -1,12 +1,8 @@
-use mathlib.Core.Path.{◌≡◌, ap, ◌∙◌}
-use Prim.Native.Nat.{ℕ, ◌*◌, ◌-◌, ◌≤◌}
-use native.Mathlib.Omega.{arith}
-use borrow.Author.Rules.{rules}
-use lib.ListN.{length, length-append}
+use mathlib.Core.Path.{◌≡◌}
+use Prim.Native.Nat.{◌*◌, ◌-◌, ◌≤◌}
+use lib.ListN.{length}
 use Rattle.region_archive.specs.Bounds.{field_bound}
-use Rattle.region_archive.specs.RecordFields.{bytes_to, field_bytes, fields_in, field_count}
-use Rattle.region_archive.proofs.Pieces.{bytes_next}
-use Rattle.region_archive.proofs.Fits.{few_fields}
+use Rattle.region_archive.specs.RecordFields.{bytes_to, field_bytes, fields_in}
 use Rattle.region_archive.proofs.writing.fields_size.Given as goal
 
 abbrev pub invariant-loop-field : goal.invariant-loop-field

@@ -1,12 +1,8 @@
 use native.Mathlib.Omega.{arith}
-use borrow.Author.Rules.{rules}
 use Rattle.region_graph.specs.Record.{meaning}
 use Rattle.region_archive.specs.Image.{latest}
 use Rattle.region_archive.proofs.Images.{image_size}
 use Rattle.region_archive.proofs.writing.image_length.Goals as goal
-
-pub overflow_add-result : goal.overflow_add-result
-overflow_add-result c = omega (arith, c.body_size.ensures.1)
 
 pub returns : goal.returns
 returns c = omega (arith, image_size latest (meaning c.args.graph), c.body_size.ensures.0)

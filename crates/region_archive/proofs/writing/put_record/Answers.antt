@@ -1,50 +1,20 @@
-use mathlib.Core.Path.{◌≡◌, sym, ◌∙◌}
+use mathlib.Core.Path.{◌≡◌, sym}
 use mathlib.Core.List.{◌++◌}
-use Prim.Native.Nat.{◌+◌, ◌-◌, ◌≤◌}
 use native.Mathlib.Omega.{arith}
-use borrow.Author.Rules.{rules}
-use lib.ListN.{length}
-use Rattle.text_lines.specs.Written.{WrittenAt}
-use Rattle.text_lines.proofs.Writes.{wrote_start, wrote_then, wrote_is, wrote_length, wrote_room}
-use Rattle.big_endian.specs.Bytes.{big, sized}
-use Rattle.region_archive.specs.RecordFields.{bytes_to, field_bytes, fields_bytes, field_count, fields_in}
-use Rattle.region_archive.proofs.Pieces.{bytes_next, bytes_within}
+use Rattle.text_lines.proofs.Writes.{wrote_then, wrote_is}
+use Rattle.big_endian.specs.Bytes.{big}
+use Rattle.region_archive.specs.RecordFields.{bytes_to, field_bytes, field_count, fields_in}
+use Rattle.region_archive.proofs.Pieces.{bytes_next}
 use Rattle.region_archive.proofs.writing.put_record.Goals as goal
-
-pub put_field-to-requires : goal.put_field-to-requires
-put_field-to-requires c =
-    let a = c in
-    let s = a in
-    let k = s.args.section in
-    let x = fields_in s.args.values in
-    let e : a.loop-field.field + 1 ≤ field_count k = omega (arith, a.field_count-total.ensures) in record { values_fit = s.requires.values_fit; field_within = (
-        e,
-        wrote_room (length (sized 2 (fields_bytes k) x)) (length (field_bytes k a.loop-field.field x)) a.put_number-to.ensures a.loop-field.invariant.1
-            s.requires.values_in_bounds (omega (arith, bytes_within (field_bytes k) (field_count k) a.loop-field.field x (omega arith))),
-      ) }
 
 pub loop-field-preserved : goal.loop-field-preserved
 loop-field-preserved c =
-    let a = c in
-    let s = a.args in
-    let e = bytes_next (field_bytes s.section) a.loop-field.field (fields_in s.values) in
-    (omega arith, wrote_is (sym e) (wrote_then a.loop-field.invariant.1 c.put_field-to.ensures))
+    let e = bytes_next (field_bytes c.args.section) c.loop-field.field (fields_in c.args.values) in
+    (omega arith, wrote_is (sym e) (wrote_then c.loop-field.invariant.1 c.put_field-to.ensures))
 
 pub returns : goal.returns
 returns c =
-    let a = c in
-    let s = a.args in
-    let f = field_bytes s.section in
-    let x = fields_in s.values in
-    let e : a.loop-field.field ≡ field_count s.section = omega (arith, a.field_count-total.ensures) in
-    let size = a.fields_size-size.ensures.0 in
-    wrote_is (λ i. big 2 (size i) ++ bytes_to f (e i) x) (wrote_then a.put_number-to.ensures a.loop-field.invariant.1)
-
-pub fields_size-size-requires : goal.fields_size-size-requires
-fields_size-size-requires c = c.requires.values_fit
-
-pub loop-field-init : goal.loop-field-init
-loop-field-init c = (omega arith, wrote_start c.put_number-to.ensures)
-
-pub shape_of-buffer : goal.shape_of-buffer
-shape_of-buffer c = wrote_length c.loop-field.invariant.1 ∙ wrote_length c.put_number-to.ensures
+    let k = c.args.section in
+    let e : c.loop-field.field ≡ field_count k = omega (arith, c.field_count-total.ensures) in
+    let size = c.fields_size-size.ensures.0 in
+    wrote_is (λ i. big 2 (size i) ++ bytes_to (field_bytes k) (e i) (fields_in c.args.values)) (wrote_then c.put_number-to.ensures c.loop-field.invariant.1)

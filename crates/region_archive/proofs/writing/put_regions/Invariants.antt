@@ -1,17 +1,9 @@
-use mathlib.Core.Path.{sym, ap, ◌∙◌}
 use Prim.Native.Nat.{◌-◌, ◌≤◌}
-use native.Mathlib.Omega.{arith}
-use borrow.Author.Rules.{rules}
-use lib.ListN.{length}
 use Rattle.region_graph.specs.Lists.{concat_map}
 use Rattle.region_graph.specs.Size.{regions}
-use Rattle.region_graph.specs.Record.{meaning}
-use Rattle.region_graph.proofs.Lists.{concat_snoc}
 use Rattle.text_lines.specs.Written.{WrittenAt}
-use Rattle.text_lines.proofs.Writes.{wrote_start, wrote_then, wrote_is, wrote_length, wrote_room}
-use Rattle.big_endian.specs.Bytes.{big, counted}
-use Rattle.region_archive.proofs.Members.{met, met_took, met_left, met_all, met_byte}
-use Rattle.region_archive.proofs.Writes.{wrote_counted}
+use Rattle.big_endian.specs.Bytes.{big}
+use Rattle.region_archive.proofs.Members.{met}
 use Rattle.region_archive.proofs.writing.put_regions.Given as goal
 
 abbrev pub invariant-loop-region : goal.invariant-loop-region

@@ -1,20 +1,6 @@
-use mathlib.Core.Path.{sym, ap, ◌∙◌, subst}
-use mathlib.Core.Logic.{⊎_elim}
-use mathlib.Core.List.{List, ◌++◌}
-use Prim.Native.Nat.{ℕ, ◌+◌, ◌-◌, ◌≤◌}
-use native.Mathlib.Omega.{arith}
-use borrow.Author.Rules.{rules}
-use lib.ListN.{length}
-use Rattle.region_graph.specs.Model.{Model}
-use Rattle.region_graph.specs.Record.{meaning}
+use Prim.Native.Nat.{◌-◌, ◌≤◌}
 use Rattle.text_lines.specs.Written.{WrittenAt}
-use Rattle.text_lines.proofs.Writes.{wrote_start, wrote_then, wrote_is, wrote_length, wrote_room}
-use Rattle.region_archive.specs.RecordFields.{record_bytes, section_bytes, elements, ValuesAre}
-use Rattle.region_archive.proofs.Records.{values_record}
-use Rattle.region_archive.proofs.Fits.{few_elements}
-use Rattle.region_archive.proofs.Placed.{element_at, records_to, placed_model, Placed, Place, placed_all, place_next, place_within}
-use Rattle.region_archive.proofs.Placed.{bundle_inside, bundle_fit, bundle_element, connection_inside, connection_fit, connection_element}
-use Rattle.region_archive.proofs.Writes.{wrote_counted}
+use Rattle.region_archive.proofs.Placed.{records_to, placed_model}
 use Rattle.region_archive.proofs.writing.put_section.Given as goal
 
 abbrev pub invariant-loop-i : goal.invariant-loop-i

@@ -21,7 +21,6 @@ use Rattle.big_endian.specs.Parsing.{Parsed, Unparsed}
 use Rattle.region_archive.specs.RecordFields.{Elem, most_records, LegalElems, record_bytes, section_bytes, elements}
 use Rattle.region_archive.specs.Sections.{RegionsRead, SectionRead, LegalIn, BodyRead, whole, broken}
 use Rattle.region_archive.specs.declared.record_fields.Section.{Section}
-use Rattle.region_archive.specs.declared.record_fields.Section.TheVariants as Section
 use Rattle.region_archive.specs.declared.sections.RegionsAt.{RegionsAt}
 use Rattle.region_archive.specs.declared.sections.SectionAt.{SectionAt}
 use Rattle.region_archive.proofs.CountedLists.{region_bytes, counted_same}

@@ -22,7 +22,6 @@ use Rattle.region_archive.specs.RecordFields.{PartGood, first_good, second_good,
 use Rattle.region_archive.specs.Sections.{PartRead, FieldRead}
 use Rattle.region_archive.specs.declared.forms.Form.{Form}
 use Rattle.region_archive.specs.declared.record_fields.Section.{Section}
-use Rattle.region_archive.specs.declared.record_fields.Section.TheVariants as Section
 use Rattle.region_archive.specs.declared.sections.FieldAt.{FieldAt}
 use Rattle.region_archive.proofs.Fits.{narrow_first}
 use Rattle.region_archive.proofs.CountedReads.{none_into}

@@ -11,7 +11,6 @@ use Rattle.region_graph.proofs.Lists.{and_left}
 use Rattle.region_graph.proofs.Storing.{has_member}
 use Rattle.region_archive.specs.RecordFields.{source_held, ends_differ}
 use Rattle.region_archive.specs.declared.record_fields.Section.{Section}
-use Rattle.region_archive.specs.declared.record_fields.Section.TheVariants as Section
 
 -- the order is too low, or only the rest counts
 module _ {k n : ℕ} (e : k ≡ n) {floor : ℕ} where

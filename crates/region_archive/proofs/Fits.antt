@@ -38,7 +38,6 @@ use Rattle.region_archive.specs.RecordFields.{first_width, field_count, elements
 use Rattle.region_archive.specs.declared.forms.Form.{Form}
 use Rattle.region_archive.specs.declared.record_fields.Codes.{Codes}
 use Rattle.region_archive.specs.declared.record_fields.Section.{Section}
-use Rattle.region_archive.specs.declared.record_fields.Section.TheVariants as Section
 use Rattle.region_archive.proofs.Pieces.{all_or}
 
 -- a short list that is stored fits

@@ -23,7 +23,6 @@ use Rattle.region_archive.specs.Forms.{scale, unit}
 use Rattle.region_archive.specs.Forms.{numbers_form, packages_form, bare_packages_form, entries_form, bare_entries_form, form_of}
 use Rattle.region_archive.specs.declared.forms.Form.{Form}
 use Rattle.region_archive.specs.declared.record_fields.Section.{Section}
-use Rattle.region_archive.specs.declared.record_fields.Section.TheVariants as Section
 
 -- whether a form fits
 unfoldable tested_form : (f : Form) → Tested (FormFits f)

@@ -18,7 +18,6 @@ use Rattle.region_archive.specs.RecordFields.{section_bytes}
 use Rattle.region_archive.specs.Promise.{archived, placed_outcome, older_outcome}
 use Rattle.region_archive.specs.declared.record_fields.Section.TheVariants as Section
 use Rattle.region_archive.specs.declared.Written.{Written}
-use Rattle.region_archive.specs.declared.Written.TheVariants as Written
 use Rattle.region_archive.proofs.Records.{body_sections}
 
 -- regions take one byte each, and one for their count
@@ -71,5 +70,5 @@ module _ (m : Model) (old : List ℕ) where
 -- a body has the bytes of its three pieces
 pub body_parts : (v : ℕ) (m : Model) → Legal m
     → length (body_in v m)
-      ≡ length (counted (big 1) m.regions) + (length (section_bytes (Section.Bundles v) m) + length (section_bytes (Section.Connections v) m))
+    ≡ length (counted (big 1) m.regions) + (length (section_bytes (Section.Bundles v) m) + length (section_bytes (Section.Connections v) m))
 body_parts v m h = omega (arith, body_size v m h, regions_size m.regions)

@@ -21,7 +21,6 @@ use Rattle.region_graph.proofs.Storing.{filled_bundles, filled_connections}
 use Rattle.region_archive.specs.RecordFields.{Elem, BundleFits, ConnectionFits, ValuesAre, elements, record_bytes}
 use Rattle.region_archive.specs.declared.record_fields.FieldValues.{FieldValues}
 use Rattle.region_archive.specs.declared.record_fields.Section.{Section}
-use Rattle.region_archive.specs.declared.record_fields.Section.TheVariants as Section
 use Rattle.region_archive.proofs.Fits.{bundle_fits, connection_fits, bundle_short, connection_short}
 
 -- the i-th element of a section

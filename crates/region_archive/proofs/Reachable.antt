@@ -21,7 +21,6 @@ use Rattle.region_graph.specs.Decoded.{GoodRegions}
 use Rattle.region_archive.specs.Image.{latest}
 use Rattle.region_archive.specs.RecordFields.{Elem, most_records, element_before, LegalElem, LegalElems, elements}
 use Rattle.region_archive.specs.declared.record_fields.Section.{Section}
-use Rattle.region_archive.specs.declared.record_fields.Section.TheVariants as Section
 use Rattle.region_archive.proofs.Versions.{legal_elements}
 use Rattle.region_archive.proofs.Taking.{filled, call, only, region_taken, region_joined, taken, joined}
 

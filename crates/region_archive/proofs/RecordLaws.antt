@@ -25,7 +25,6 @@ use Rattle.region_archive.specs.RecordFields.{PartGood, first_good, second_good,
 use Rattle.region_archive.specs.RecordFields.{FlatElem, SameFields, Elem, fields_of, key, most_records, LegalElem}
 use Rattle.region_archive.specs.declared.forms.Form.{Form}
 use Rattle.region_archive.specs.declared.record_fields.Section.{Section}
-use Rattle.region_archive.specs.declared.record_fields.Section.TheVariants as Section
 use Rattle.region_archive.proofs.CountedLists.{counted_same}
 use Rattle.region_archive.proofs.FormLaws.{codes, form_fits}
 use Rattle.region_archive.proofs.Versioned.{numbers_formed, packages_formed, entries_formed, formed_list, closed_part, any_part, open_part}

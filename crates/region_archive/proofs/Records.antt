@@ -25,7 +25,6 @@ use Rattle.region_archive.specs.declared.forms.Form.{Form}
 use Rattle.region_archive.specs.declared.record_fields.Codes.{Codes}
 use Rattle.region_archive.specs.declared.record_fields.FieldValues.{FieldValues}
 use Rattle.region_archive.specs.declared.record_fields.Section.{Section}
-use Rattle.region_archive.specs.declared.record_fields.Section.TheVariants as Section
 use Rattle.region_archive.proofs.ModelReaders.{read_bundle, read_connection, fit_bundle, fit_connection}
 use Rattle.region_archive.proofs.FormLaws.{packages_in, entries_in}
 use Rattle.region_archive.proofs.Versioned.{numbers_formed, packages_formed, entries_formed, formed_counted, formed_part, part_id}

@@ -20,7 +20,6 @@ use Rattle.big_endian.proofs.Rows.{Going, going_none, going_more}
 use Rattle.region_archive.specs.RecordFields.{field_count, row_width, field_key, FlatElem, Elem, fields_of, key, most_records, LegalElem}
 use Rattle.region_archive.specs.Sections.{LengthStands, SectionRead}
 use Rattle.region_archive.specs.declared.record_fields.Section.{Section}
-use Rattle.region_archive.specs.declared.record_fields.Section.TheVariants as Section
 use Rattle.region_archive.specs.declared.sections.LengthAt.{LengthAt}
 use Rattle.region_archive.proofs.CountedReads.{none_into}
 use Rattle.region_archive.proofs.CountedLists.{counted_missing, counted_answer}

@@ -19,7 +19,6 @@ use Rattle.region_graph.proofs.Lists.{and_yes, and_left, and_right, pick_yes, al
 use Rattle.region_graph.proofs.Ascending.{none_any, connection_order}
 use Rattle.region_archive.specs.RecordFields.{Elem, most_records, element_before, LegalElem}
 use Rattle.region_archive.specs.declared.record_fields.Section.{Section}
-use Rattle.region_archive.specs.declared.record_fields.Section.TheVariants as Section
 
 -- the model with these elements in the section, those before it as they are, and nothing in the one after it
 abbrev pub filled : (s : Section) → Model → List (Elem s) → Model

@@ -23,7 +23,6 @@ use Rattle.region_archive.specs.File.{oldest}
 use Rattle.region_archive.specs.RecordFields.{Elem, LegalElems, elements}
 use Rattle.region_archive.specs.Sections.{LegalIn}
 use Rattle.region_archive.specs.declared.record_fields.Section.{Section}
-use Rattle.region_archive.specs.declared.record_fields.Section.TheVariants as Section
 
 -- the older versions are read, and come before the latest
 pub older_between : (rs : List ℕ) → (oldest ≤ older_version rs) × (older_version rs < latest)

@@ -7,9 +7,7 @@ use Rattle.big_endian.specs.Bytes.{big}
 use Rattle.big_endian.specs.Numbers.{longest}
 use Rattle.region_archive.specs.declared.forms.Form.{Form}
 use Rattle.region_archive.specs.declared.forms.ListOf.{ListOf}
-use Rattle.region_archive.specs.declared.forms.ListOf.TheVariants as ListOf
 use Rattle.region_archive.specs.declared.record_fields.Section.{Section}
-use Rattle.region_archive.specs.declared.record_fields.Section.TheVariants as Section
 
 -- what a code has below this is not written, and does not count for the order of a list below that
 abbrev pub scale : Form → ℕ

@@ -12,7 +12,6 @@ use Rattle.region_routes.specs.Hooks.{Returned, Outcome, written, is_installed, 
 use Rattle.region_archive.specs.Image.{image, unversioned, older_image}
 use Rattle.region_archive.specs.File.{FileMeaning, read_model, read_questions, read_number}
 use Rattle.region_archive.specs.declared.Written.{Written}
-use Rattle.region_archive.specs.declared.Written.TheVariants as Written
 
 -- what document 01 says is returned for each answer of a write: 0 and the length, or the refusal's number
 abbrev pub written_as : Written → Returned

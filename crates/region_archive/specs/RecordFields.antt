@@ -19,7 +19,6 @@ use Rattle.region_archive.specs.declared.forms.Form.{Form}
 use Rattle.region_archive.specs.declared.record_fields.Codes.{Codes}
 use Rattle.region_archive.specs.declared.record_fields.FieldValues.{FieldValues}
 use Rattle.region_archive.specs.declared.record_fields.Section.{Section}
-use Rattle.region_archive.specs.declared.record_fields.Section.TheVariants as Section
 
 -- values whose bytes are those of fields, one after the other: their first k fields
 module _ {A : Type 0} where

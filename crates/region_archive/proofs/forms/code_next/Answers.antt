@@ -2,7 +2,6 @@ use mathlib.Core.Path.{ap}
 use Prim.Native.Nat.{ℕ, ◌/◌, ◌%◌, ◌^◌}
 use lib.Dec.{leb}
 use native.Mathlib.Omega.{arith}
-use borrow.Author.Rules.{rules}
 use Rattle.region_archive.specs.Forms.{lower_ordered, unit}
 use Rattle.region_archive.proofs.FormLaws.{shift_below, lower_left}
 use Rattle.region_archive.proofs.FieldTests.{low_order, high_order}

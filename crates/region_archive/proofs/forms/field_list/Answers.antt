@@ -1,4 +1,3 @@
-use borrow.Author.Rules.{rules}
 use borrow.Author.Tests.{le-leb, lt-leb}
 use Rattle.region_archive.proofs.FormLaws.{packages_here, no_packages_here, entries_here, no_entries_here}
 use Rattle.region_archive.proofs.forms.field_list.Goals as goal

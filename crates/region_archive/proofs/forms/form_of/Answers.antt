@@ -1,5 +1,4 @@
 use mathlib.Core.Path.{◌∙◌}
-use borrow.Author.Rules.{rules}
 use Rattle.region_archive.proofs.forms.form_of.Goals as goal
 
 pub returns : goal.returns

@@ -1,5 +1,4 @@
 use mathlib.Core.Path.{refl}
-use borrow.Author.Rules.{rules}
 use Rattle.region_archive.proofs.FormLaws.{numbers_form_fits, packages_form_fits, bare_packages_form_fits}
 use Rattle.region_archive.proofs.FormLaws.{entries_form_fits, bare_entries_form_fits}
 use Rattle.region_archive.proofs.forms.list_form.Goals as goal

@@ -1,4 +1,3 @@
-use borrow.Author.Rules.{rules}
 use Rattle.region_archive.proofs.CountedReads.{count_over, count_within}
 use Rattle.region_archive.proofs.numbers.count_at.Goals as goal
 

@@ -1,4 +1,3 @@
-use borrow.Author.Rules.{rules}
 use Rattle.region_archive.proofs.numbers.put_element.Goals as goal
 
 pub returns-in-4 : goal.returns-in-4

@@ -1,8 +1,6 @@
-use Prim.Native.Nat.{◌≤◌}
 use native.Mathlib.Omega.{arith}
-use borrow.Author.Rules.{rules}
 use Rattle.text_lines.proofs.Writes.{wrote_length}
-use Rattle.region_archive.proofs.Writes.{Lower, lower_none, lower_more, lower_all}
+use Rattle.region_archive.proofs.Writes.{lower_none, lower_more, lower_all}
 use Rattle.region_archive.proofs.numbers.put_number.Goals as goal
 
 pub loop-left-init : goal.loop-left-init

@@ -1,8 +1,5 @@
 use Prim.Native.Nat.{◌≤◌}
-use native.Mathlib.Omega.{arith}
-use borrow.Author.Rules.{rules}
-use Rattle.text_lines.proofs.Writes.{wrote_length}
-use Rattle.region_archive.proofs.Writes.{Lower, lower_none, lower_more, lower_all}
+use Rattle.region_archive.proofs.Writes.{Lower}
 use Rattle.region_archive.proofs.numbers.put_number.Given as goal
 
 abbrev pub invariant-loop-left : goal.invariant-loop-left

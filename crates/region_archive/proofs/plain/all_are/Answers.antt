@@ -1,11 +1,7 @@
-use mathlib.Core.Path.{◌≡◌, refl}
-use Prim.Native.Nat.{◌-◌, ◌≤◌}
+use mathlib.Core.Path.{refl}
 use native.Mathlib.Omega.{arith}
-use borrow.Author.Rules.{rules}
 use borrow.Author.Tests.{eq-eqb, ne_eqb}
 use lib.Dec.{eqb}
-use lib.ListN.{length, drop}
-use Rattle.region_graph.specs.Lists.{every}
 use Rattle.region_graph.proofs.Lists.{every_stop, every_later, every_end}
 use Rattle.region_archive.proofs.plain.all_are.Goals as goal
 
@@ -18,9 +14,9 @@ returns-then-versions-i c = let a = c in
 
 pub loop-i-preserved : goal.loop-i-preserved
 loop-i-preserved c = let a = c in (
-      omega arith,
-      every_later (λ v. eqb v a.args.version) _ a.loop-i.i 0 (omega arith) a.loop-i.invariant.1 (eq-eqb _ _ c.if-versions-i.false),
-    )
+  omega arith,
+  every_later (λ v. eqb v a.args.version) _ a.loop-i.i 0 (omega arith) a.loop-i.invariant.1 (eq-eqb _ _ c.if-versions-i.false),
+)
 
 pub returns : goal.returns
 returns c = every_end (λ v. eqb v c.args.version) _ c.loop-i.i c.loop-i.invariant.1 (omega arith)

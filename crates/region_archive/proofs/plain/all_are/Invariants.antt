@@ -1,12 +1,8 @@
-use mathlib.Core.Path.{◌≡◌, refl}
+use mathlib.Core.Path.{◌≡◌}
 use Prim.Native.Nat.{◌-◌, ◌≤◌}
-use native.Mathlib.Omega.{arith}
-use borrow.Author.Rules.{rules}
-use borrow.Author.Tests.{eq-eqb, ne_eqb}
 use lib.Dec.{eqb}
 use lib.ListN.{length, drop}
 use Rattle.region_graph.specs.Lists.{every}
-use Rattle.region_graph.proofs.Lists.{every_stop, every_later, every_end}
 use Rattle.region_archive.proofs.plain.all_are.Given as goal
 
 abbrev pub invariant-loop-i : goal.invariant-loop-i

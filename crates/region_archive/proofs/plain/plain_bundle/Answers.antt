@@ -1,5 +1,4 @@
 use mathlib.Core.Path.{◌∙◌}
-use borrow.Author.Rules.{rules}
 use Rattle.region_archive.proofs.Fits.{list_counted}
 use Rattle.region_archive.proofs.PlainLaws.{packages_plain}
 use Rattle.region_archive.proofs.plain.plain_bundle.Goals as goal

@@ -1,5 +1,4 @@
 use mathlib.Core.Path.{◌∙◌}
-use borrow.Author.Rules.{rules}
 use borrow.Author.Tests.{eq-eqb}
 use Rattle.region_graph.specs.Size.{most_listed}
 use Rattle.region_archive.specs.RecordFields.{ListFits}
@@ -23,25 +22,25 @@ pub returns-then-count-eq-EVERYTHING : goal.returns-then-count-eq-EVERYTHING
 returns-then-count-eq-EVERYTHING c = rw (eq-eqb _ _ c.if-count-eq-EVERYTHING.true)
 
 pub slice_bounds-lowest-end : goal.slice_bounds-lowest-end
-slice_bounds-lowest-end c = 
+slice_bounds-lowest-end c =
     let lowest-fit : (let e = c.args.c.packages in ListFits most_listed e.count e.lowest) =
     part_list c.requires.packages.lowest c.if-count-eq-EVERYTHING.false in
     list_within lowest-fit
 
 pub slice_bounds-all_are-end : goal.slice_bounds-all_are-end
-slice_bounds-all_are-end c = 
+slice_bounds-all_are-end c =
     let lowest-fit : (let e = c.args.c.packages in ListFits most_listed e.count e.lowest) =
     part_list c.requires.packages.lowest c.if-count-eq-EVERYTHING.false in
     list_counted lowest-fit
 
 pub slice_bounds-highest-end : goal.slice_bounds-highest-end
-slice_bounds-highest-end c = 
+slice_bounds-highest-end c =
     let highest-fit : (let e = c.args.c.packages in ListFits most_listed e.count e.highest) =
     part_list c.requires.packages.highest c.if-count-eq-EVERYTHING.false in
     list_within highest-fit
 
 pub slice_bounds-all_are-end-2 : goal.slice_bounds-all_are-end-2
-slice_bounds-all_are-end-2 c = 
+slice_bounds-all_are-end-2 c =
     let highest-fit : (let e = c.args.c.packages in ListFits most_listed e.count e.highest) =
     part_list c.requires.packages.highest c.if-count-eq-EVERYTHING.false in
     list_counted highest-fit

@@ -1,4 +1,3 @@
-use borrow.Author.Rules.{rules}
 use Rattle.region_graph.proofs.Lists.{and_stop, and_last}
 use Rattle.region_archive.proofs.plain.unversioned.Goals as goal
 

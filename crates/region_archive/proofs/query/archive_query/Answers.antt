@@ -1,7 +1,6 @@
 use mathlib.Core.Path.{◌≡◌, sym}
 use mathlib.Core.Bool.{Bool}
 use native.Mathlib.Omega.{arith}
-use borrow.Author.Rules.{rules}
 use Rattle.region_graph.specs.Refusals.{not_refused}
 use Rattle.region_graph.specs.Lists.{pick}
 use Rattle.region_graph.specs.Record.{meaning}
@@ -45,7 +44,7 @@ pub regions_seeing-set-requires : goal.regions_seeing-set-requires
 regions_seeing-set-requires c = c.read-archive.ensures.valid
 
 pub returns-then-has : goal.returns-then-has
-returns-then-has c = 
+returns-then-has c =
     let accepted : (f : FileMeaning c.args.bytes.now) → not_refused ≡ read_number f =
     λ f. omega (arith, c.if-archive-ne-NOT_REFUSED.false, (c.read-archive.ensures.says f).number) in
     let means : (f : FileMeaning c.args.bytes.now) → meaning c.read-archive.result.graph ≡ read_model f =
@@ -60,7 +59,7 @@ returns-then-has c =
     told _ c.if-has.true
 
 pub returns : goal.returns
-returns c = 
+returns c =
     let accepted : (f : FileMeaning c.args.bytes.now) → not_refused ≡ read_number f =
     λ f. omega (arith, c.if-archive-ne-NOT_REFUSED.false, (c.read-archive.ensures.says f).number) in
     let means : (f : FileMeaning c.args.bytes.now) → meaning c.read-archive.result.graph ≡ read_model f =

@@ -1,11 +1,6 @@
-use mathlib.Core.Path.{sym}
-use native.Mathlib.Omega.{arith}
-use borrow.Author.Rules.{rules}
 use borrow.Author.Tests.{not-true, not-false}
-use lib.ListN.{take}
-use lib.Seq.{length-take-le}
-use Rattle.region_archive.proofs.BodyReads.{Sections, three_sections, body_made, no_body, longer}
-use Rattle.region_archive.proofs.BodyReads.{no_regions, version_differs, bundles_missing, connections_missing}
+use Rattle.region_archive.proofs.BodyReads.{three_sections, body_made, no_body, longer}
+use Rattle.region_archive.proofs.BodyReads.{version_differs, bundles_missing, connections_missing}
 use Rattle.region_archive.proofs.reading.body_at.Goals as goal
 
 pub returns-then-not-has_version : goal.returns-then-not-has_version

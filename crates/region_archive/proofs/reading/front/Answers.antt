@@ -3,8 +3,6 @@ use mathlib.Core.Bool.{true}
 use Prim.Native.Nat.{◌≤◌}
 use lib.ListN.{length}
 use native.Mathlib.Omega.{arith}
-use borrow.Author.Rules.{rules}
-use borrow.Author.Tests.{not-true, not-false}
 use Rattle.big_endian.proofs.NumberReads.{number_there}
 use Rattle.region_archive.specs.Image.{latest}
 use Rattle.region_archive.specs.File.{oldest, opens}
@@ -33,7 +31,7 @@ returns c =
     (number_there (omega arith) c.number_at-size.ensures (omega (arith, opens_long oldest latest s opened))) c.if-size-bytes.false
 
 pub number_at-size-requires : goal.number_at-size-requires
-number_at-size-requires c = 
+number_at-size-requires c =
     let opened : opens oldest latest c.args.bytes.now ≡ true =
     sym c.opens.ensures ∙ c.if-not-opens.false in
     let long : 5 ≤ length c.args.bytes.now =
@@ -41,7 +39,7 @@ number_at-size-requires c =
     omega (arith, long)
 
 pub overflow_sub-bytes : goal.overflow_sub-bytes
-overflow_sub-bytes c = 
+overflow_sub-bytes c =
     let opened : opens oldest latest c.args.bytes.now ≡ true =
     sym c.opens.ensures ∙ c.if-not-opens.false in
     let long : 5 ≤ length c.args.bytes.now =

@@ -23,7 +23,7 @@ returns c =
     opens_told a.oldest a.latest a.bytes.now long (omega (arith, c.if-first-oldest.false))
 
 pub bounds-bytes-0 : goal.bounds-bytes-0
-bounds-bytes-0 c = 
+bounds-bytes-0 c =
     let long : 5 ≤ length c.args.bytes.now =
     omega (arith, c.if-bytes-lt-FRONT.false) in
     omega (arith, long)

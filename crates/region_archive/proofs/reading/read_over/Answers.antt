@@ -1,4 +1,3 @@
-use borrow.Author.Rules.{rules}
 use Rattle.region_archive.proofs.FileReads.{over_refused, over_accepted}
 use Rattle.region_archive.proofs.reading.read_over.Goals as goal
 

@@ -1,4 +1,3 @@
-use borrow.Author.Rules.{rules}
 use Rattle.region_archive.proofs.record_fields.field_key.Goals as goal
 
 pub returns-in-Connections : goal.returns-in-Connections

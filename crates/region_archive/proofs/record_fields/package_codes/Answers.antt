@@ -1,12 +1,10 @@
-use mathlib.Core.Path.{◌≡◌, refl, sym, ap}
-use Prim.Native.Nat.{◌-◌, ◌≤◌, ◌<◌}
+use mathlib.Core.Path.{refl, sym, ap}
+use Prim.Native.Nat.{◌<◌}
 use native.Mathlib.Omega.{arith}
-use borrow.Author.Rules.{rules}
-use lib.ListN.{length, take}
-use Rattle.region_graph.specs.Size.{most_listed}
+use lib.ListN.{length}
 use Rattle.region_graph.specs.Model.{packages}
 use Rattle.region_graph.specs.Flat.{package_code}
-use Rattle.region_graph.proofs.Arrays.{Filled, filled_none}
+use Rattle.region_graph.proofs.Arrays.{filled_none}
 use Rattle.region_graph.proofs.Columns.{no_package, packages_length, packages_at}
 use Rattle.region_archive.proofs.Fits.{code_above, code_whole, coded_next, coded_all}
 use Rattle.region_archive.proofs.record_fields.package_codes.Goals as goal

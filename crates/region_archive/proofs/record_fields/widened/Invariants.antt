@@ -1,12 +1,7 @@
-use mathlib.Core.Path.{ap, ◌∙◌}
 use Prim.Native.Nat.{◌-◌, ◌≤◌}
-use native.Mathlib.Omega.{arith}
-use borrow.Author.Rules.{rules}
 use lib.ListN.{length, take}
-use lib.Seq.{take_all}
 use Rattle.region_graph.specs.Size.{most_listed}
-use Rattle.region_graph.specs.Record.{number_places}
-use Rattle.region_graph.proofs.Arrays.{Filled, filled_none, filled_next}
+use Rattle.region_graph.proofs.Arrays.{Filled}
 use Rattle.region_archive.proofs.record_fields.widened.Given as goal
 
 abbrev pub invariant-loop-i : goal.invariant-loop-i

@@ -1,13 +1,9 @@
-use mathlib.Core.Path.{◌≡◌, sym, subst}
-use Prim.Native.Nat.{ℕ, ◌+◌, ◌-◌, ◌≤◌}
+use mathlib.Core.Path.{◌≡◌}
+use Prim.Native.Nat.{◌-◌, ◌≤◌}
 use native.Mathlib.Omega.{arith}
 use borrow.Author.Rules.{rules}
-use borrow.Rule.Slice.PartMut.{put_mid, mid_len, same_len_mid}
+use borrow.Rule.Slice.PartMut.{same_len_mid}
 use lib.ListN.{length}
-use Rattle.region_graph.specs.Sets.{members}
-use Rattle.region_archive.specs.RecordFields.{row_width}
-use Rattle.region_archive.specs.Sections.{FieldRead}
-use Rattle.region_archive.proofs.RecordLaws.{wide}
 use Rattle.region_archive.proofs.FieldReads.{part_place, place_room, part_put}
 use Rattle.region_archive.proofs.sections.field_at.Goals as goal
 

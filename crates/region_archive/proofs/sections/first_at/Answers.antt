@@ -1,5 +1,4 @@
 use native.Mathlib.Omega.{arith}
-use borrow.Author.Rules.{rules}
 use borrow.Author.Tests.{not-true, not-false}
 use Rattle.big_endian.proofs.NumberReads.{no_number}
 use Rattle.region_archive.proofs.Fits.{narrow_first}

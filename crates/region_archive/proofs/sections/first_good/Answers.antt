@@ -1,4 +1,3 @@
-use borrow.Author.Rules.{rules}
 use Rattle.region_graph.specs.Sets.{members}
 use Rattle.region_archive.specs.RecordFields.{source_held}
 use Rattle.region_archive.proofs.FieldTests.{low_order, high_order, first_bundle, first_connection}

@@ -1,6 +1,5 @@
 use mathlib.Core.Path.{sym}
 use native.Mathlib.Omega.{arith}
-use borrow.Author.Rules.{rules}
 use borrow.Author.Tests.{not-true, not-false}
 use Rattle.region_graph.proofs.Lists.{false_true}
 use Rattle.big_endian.proofs.NumberReads.{no_number}

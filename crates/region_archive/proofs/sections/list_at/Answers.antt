@@ -1,8 +1,7 @@
 use mathlib.Core.Path.{◌≡◌, refl, sym, ◌∙◌, subst}
 use mathlib.Core.Bool.{true}
-use Prim.Native.Nat.{ℕ, ◌+◌, ◌-◌, ◌≤◌, ◌<◌, ◌^◌}
+use Prim.Native.Nat.{ℕ, ◌+◌, ◌<◌, ◌^◌}
 use native.Mathlib.Omega.{arith}
-use borrow.Author.Rules.{rules}
 use borrow.Author.Tests.{not-true, not-false}
 use lib.ListN.{length, set, length-set}
 use Rattle.big_endian.specs.Parsing.{Parsed}
@@ -10,7 +9,7 @@ use Rattle.region_archive.specs.Forms.{element_bytes, NextCode}
 use Rattle.region_archive.proofs.FormLaws.{codes, next_key_small, code_stands, no_next_code}
 use Rattle.region_archive.proofs.CountedReads.{found_into, none_into}
 use Rattle.region_archive.proofs.CountedLists.{counted_missing}
-use Rattle.region_archive.proofs.ListReads.{ListGoing, list_start, list_more, list_end, list_stuck}
+use Rattle.region_archive.proofs.ListReads.{list_start, list_more, list_end, list_stuck}
 use Rattle.region_archive.proofs.sections.list_at.Goals as goal
 
 pub returns-then-not-count : goal.returns-then-not-count
@@ -106,13 +105,13 @@ pub code_at-read-requires : goal.code_at-read-requires
 code_at-read-requires c = (c.loop-n.invariant.1.1.going.room, c.requires.form_fits)
 
 pub shape_of-row-then-not-read : goal.shape_of-row-then-not-read
-shape_of-row-then-not-read c = 
+shape_of-row-then-not-read c =
     let kept : length c.loop-n.row ≡ length c.args.row.now =
     c.loop-n.invariant.1.1.size_is ∙ length-set c.args.row.now 0 c.count_at-count.result.number in
     kept
 
 pub bounds-row-n : goal.bounds-row-n
-bounds-row-n c = 
+bounds-row-n c =
     let kept : length c.loop-n.row ≡ length c.args.row.now =
     c.loop-n.invariant.1.1.size_is ∙ length-set c.args.row.now 0 c.count_at-count.result.number in
     let row_room : (let a = c in a.loop-n.n + 1 < length a.loop-n.row) =
@@ -124,7 +123,7 @@ pub code_key-least-requires : goal.code_key-least-requires
 code_key-least-requires c = c.requires.form_fits
 
 pub shape_of-row : goal.shape_of-row
-shape_of-row c = 
+shape_of-row c =
     let kept : length c.loop-n.row ≡ length c.args.row.now =
     c.loop-n.invariant.1.1.size_is ∙ length-set c.args.row.now 0 c.count_at-count.result.number in
     kept

@@ -1,5 +1,4 @@
 use mathlib.Core.Path.{sym}
-use borrow.Author.Rules.{rules}
 use Rattle.region_archive.proofs.sections.listed_at.Goals as goal
 
 pub returns-in-Numbers : goal.returns-in-Numbers

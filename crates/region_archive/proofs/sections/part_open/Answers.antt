@@ -1,5 +1,3 @@
-use borrow.Author.Rules.{rules}
-use borrow.Author.Rules.{rules}
 use Rattle.region_archive.proofs.sections.part_open.Goals as goal
 
 pub returns-in-Connections : goal.returns-in-Connections

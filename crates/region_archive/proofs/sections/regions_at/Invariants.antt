@@ -1,15 +1,8 @@
-use mathlib.Core.Path.{◌≡◌, refl, sym, ◌∙◌}
-use mathlib.Core.Logic.{⊎_elim}
-use Prim.Native.Nat.{◌-◌, ◌≤◌, ◌<◌, ◌^◌}
-use native.Mathlib.Omega.{arith}
-use borrow.Author.Rules.{rules}
-use borrow.Author.Tests.{not-true, not-false, ltb-true, ltb-false}
-use lib.ListN.{length, length-set}
+use mathlib.Core.Path.{◌≡◌}
+use Prim.Native.Nat.{◌-◌, ◌≤◌}
+use lib.ListN.{length}
 use Rattle.region_graph.specs.Size.{regions}
-use Rattle.big_endian.specs.Bytes.{big}
-use Rattle.big_endian.specs.Parsing.{Parsed}
-use Rattle.big_endian.proofs.NumberReads.{no_number}
-use Rattle.region_archive.proofs.RegionReads.{Regions, regions_start, regions_missing, regions_end, regions_more, no_byte, no_region}
+use Rattle.region_archive.proofs.RegionReads.{Regions}
 use Rattle.region_archive.proofs.sections.regions_at.Given as goal
 
 abbrev pub invariant-loop-n : goal.invariant-loop-n

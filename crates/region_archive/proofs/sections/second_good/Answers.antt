@@ -1,5 +1,4 @@
 use mathlib.Core.Bool.{◌&&◌}
-use borrow.Author.Rules.{rules}
 use Rattle.region_graph.specs.Lists.{member}
 use Rattle.region_graph.specs.Sets.{members}
 use Rattle.region_archive.specs.RecordFields.{ends_differ}

@@ -6,15 +6,14 @@ use native.Mathlib.Nat.{mul-le-mul_right}
 use native.Mathlib.Omega.{arith}
 use borrow.Author.Tests.{not-true, not-false}
 use borrow.Rule.Slice.PartMut.{mid_of, mid_len, take_put, same_len_mid}
-use lib.ListN.{length, take}
+use lib.ListN.{length}
 use lib.Seq.{length-take-le}
 use Rattle.big_endian.specs.Bytes.{big}
 use Rattle.big_endian.specs.Parsing.{Answer}
-use Rattle.region_archive.specs.RecordFields.{field_count, row_width, most_records, key}
-use Rattle.region_archive.specs.Sections.{LengthStands}
+use Rattle.region_archive.specs.RecordFields.{field_count, row_width, most_records}
 use Rattle.region_archive.specs.declared.record_fields.Section.{Section}
 use Rattle.region_archive.proofs.RecordReads.{from_bytes, FieldsRead, fields_start, fields_more, lengthless, no_field, misfit}
-use Rattle.region_archive.proofs.SectionReads.{RecordRead, recording_start, recording_more, read_element, order_is, row_room, mid_put}
+use Rattle.region_archive.proofs.SectionReads.{RecordRead, recording_start, recording_more, order_is, row_room, mid_put}
 use Rattle.region_archive.proofs.SectionReads.{section_missing, section_end}
 use Rattle.region_archive.proofs.sections.section_at.Goals as goal
 use Rattle.region_archive.proofs.sections.section_at.Goals.{else-records-test, then-records-test+then-not-length}
@@ -106,22 +105,22 @@ returns c =
     let room : base ≤ length c.records-test.rows =
     omega (arith, l.1.1.1.base_is, mul-le-mul_right (row_width a.section) n, c.requires.1, kept) in
     section_end (from_bytes a.section a.regions a.bytes.now) (counted a.section c.most_records-most.ensures c.count_at-count.ensures)
-    (not-false _ c.if-not-count.false) l.1.1.1 l.0 room 
+    (not-false _ c.if-not-count.false) l.1.1.1 l.0 room
     (λ e.
     elim c.records-test.branch [
-      else-records-test w ↦ w.rows-is
+      | else-records-test w ↦ w.rows-is
       | then-records-test+then-not-length w ↦ absurd (omega (arith, e, w.records-test.true))
       | then-records-test+else-not-length+then-fields-test+then-not-read w ↦ absurd (omega (arith, e, w.records-test.true))
       | then-records-test+else-not-length+else-fields-test+then-to-stop w ↦ absurd (omega (arith, e, w.records-test.true))
     ])
     (λ h.
     elim c.records-test.branch [
-      else-records-test w ↦ absurd (omega (arith, h, w.records-test.false))
+      | else-records-test w ↦ absurd (omega (arith, h, w.records-test.false))
       | then-records-test+then-not-length w ↦ lengthless (w.length_at-length.ensures.missing (not-true _ w.if-not-length.true))
       | then-records-test+else-not-length+then-fields-test+then-not-read w ↦
-      no_field (w.length_at-length.ensures.found (not-false _ w.if-not-length.false)) w.fields.invariant.1.1.1 w.field_at-read.ensures
-      (not-true _ w.if-not-read.true) (omega (arith, w.fields-test.true, c.field_count-fields.ensures))
+          no_field (w.length_at-length.ensures.found (not-false _ w.if-not-length.false)) w.fields.invariant.1.1.1 w.field_at-read.ensures
+          (not-true _ w.if-not-read.true) (omega (arith, w.fields-test.true, c.field_count-fields.ensures))
       | then-records-test+else-not-length+else-fields-test+then-to-stop w ↦
-      misfit (w.length_at-length.ensures.found (not-false _ w.if-not-length.false)) w.fields.invariant.1.1.1
-      (omega (arith, w.fields.invariant.0, w.fields-test.false, c.field_count-fields.ensures)) w.if-to-stop.true
+          misfit (w.length_at-length.ensures.found (not-false _ w.if-not-length.false)) w.fields.invariant.1.1.1
+          (omega (arith, w.fields.invariant.0, w.fields-test.false, c.field_count-fields.ensures)) w.if-to-stop.true
     ])

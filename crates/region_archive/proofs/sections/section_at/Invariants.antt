@@ -1,26 +1,10 @@
-use mathlib.Core.Path.{◌≡◌, refl, sym, ap, ◌∙◌, subst}
-use mathlib.Core.List.{List}
-use mathlib.Core.Logic.{⊎_elim}
-use Prim.Native.Nat.{ℕ, ◌+◌, ◌-◌, ◌≤◌}
-use native.Mathlib.Nat.{mul-le-mul_right}
-use native.Mathlib.Omega.{arith}
-use borrow.Author.Rules.{rules}
-use borrow.Author.Tests.{not-true, not-false}
-use borrow.Rule.Slice.PartMut.{mid_of, mid_len, take_put, same_len_mid}
+use mathlib.Core.Path.{◌≡◌}
+use Prim.Native.Nat.{◌-◌, ◌≤◌}
+use borrow.Rule.Slice.PartMut.{mid_of}
 use lib.ListN.{length, take}
-use lib.Seq.{length-take-le}
-use Rattle.region_graph.specs.Sets.{members}
-use Rattle.region_graph.proofs.FlatLaws.{members_small}
-use Rattle.big_endian.specs.Bytes.{big}
-use Rattle.big_endian.specs.Parsing.{Answer}
-use Rattle.region_archive.specs.RecordFields.{field_count, row_width, most_records, key}
-use Rattle.region_archive.specs.Sections.{LengthStands}
-use Rattle.region_archive.specs.declared.record_fields.Section.{Section}
-use Rattle.region_archive.proofs.RecordLaws.{wide, most_small}
-use Rattle.region_archive.proofs.Fits.{few_fields}
-use Rattle.region_archive.proofs.RecordReads.{Source, from_bytes, FieldsRead, fields_start, fields_more, lengthless, no_field, misfit}
-use Rattle.region_archive.proofs.SectionReads.{Recording, RecordRead, recording_start, recording_more, read_element, order_is, key_small}
-use Rattle.region_archive.proofs.SectionReads.{rows_small, row_room, mid_put, section_missing, section_end}
+use Rattle.region_archive.specs.RecordFields.{most_records}
+use Rattle.region_archive.proofs.RecordReads.{from_bytes, FieldsRead}
+use Rattle.region_archive.proofs.SectionReads.{Recording}
 use Rattle.region_archive.proofs.sections.section_at.Given as goal
 
 abbrev pub invariant-fields : goal.invariant-fields

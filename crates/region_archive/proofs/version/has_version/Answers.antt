@@ -1,4 +1,3 @@
-use borrow.Author.Rules.{rules}
 use Rattle.region_archive.proofs.Versions.{has_latest, has_older}
 use Rattle.region_archive.proofs.version.has_version.Goals as goal
 

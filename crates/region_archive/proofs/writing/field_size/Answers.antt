@@ -1,7 +1,6 @@
 use mathlib.Core.Path.{sym, ap, ◌∙◌}
 use Prim.Native.Nat.{◌-◌, ◌<◌}
 use native.Mathlib.Omega.{arith}
-use borrow.Author.Rules.{rules}
 use lib.ListN.{length}
 use Rattle.region_graph.proofs.Lists.{all_at}
 use Rattle.big_endian.proofs.Digits.{big_length}
@@ -32,7 +31,7 @@ pub bounds-values-field : goal.bounds-values-field
 bounds-values-field c = omega (arith, few_fields c.args.section, c.requires.field_within)
 
 pub part_size-requires : goal.part_size-requires
-part_size-requires c = 
+part_size-requires c =
     let inside : c.args.field - 2 < length c.args.values.parts =
     omega (arith, few_fields c.args.section, c.requires.field_within, c.requires.values_fit.size) in
     let s = c in

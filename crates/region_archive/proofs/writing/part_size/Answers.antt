@@ -28,13 +28,13 @@ returns c =
     )
 
 pub overflow_mul-result : goal.overflow_mul-result
-overflow_mul-result c = 
+overflow_mul-result c =
     let small : (let a = c.args in a.part.count * a.form.width ≤ 128) =
     let s = c in mul-le-mul (s.requires.1.count c.if-part-eq-EVERYTHING.false) s.requires.0.wide in
     omega (arith, small)
 
 pub overflow_add-result : goal.overflow_add-result
-overflow_add-result c = 
+overflow_add-result c =
     let small : (let a = c.args in a.part.count * a.form.width ≤ 128) =
     let s = c in mul-le-mul (s.requires.1.count c.if-part-eq-EVERYTHING.false) s.requires.0.wide in
     omega (arith, small)

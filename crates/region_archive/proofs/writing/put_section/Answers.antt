@@ -51,8 +51,8 @@ put_record-to-requires c =
     let x = element_at s m c.loop-i.i in
     let p = place_here s c.requires.valid c.bundle_places-bundles.ensures c.connection_places-connections.ensures c.count-total.ensures c.loop-i-test.true in
     let are : ValuesAre s c.match-section.values x = elim c.match-section.branch [
-      in-Bundles w ↦ bundle_element p w.in-Bundles.is _ (w.bundle_values-values.ensures _) w.values-is
-    | in-Connections w ↦ connection_element p w.in-Connections.is _ (w.connection_values-values.ensures _) w.values-is
+      | in-Bundles w ↦ bundle_element p w.in-Bundles.is _ (w.bundle_values-values.ensures _) w.values-is
+      | in-Connections w ↦ connection_element p w.in-Connections.is _ (w.connection_values-values.ensures _) w.values-is
     ] in
     let same = values_record s c.match-section.values x are in
     record {
@@ -70,8 +70,8 @@ loop-i-preserved c =
     let x = element_at s m c.loop-i.i in
     let p = place_here s c.requires.valid c.bundle_places-bundles.ensures c.connection_places-connections.ensures c.count-total.ensures c.loop-i-test.true in
     let are : ValuesAre s c.match-section.values x = elim c.match-section.branch [
-      in-Bundles w ↦ bundle_element p w.in-Bundles.is _ (w.bundle_values-values.ensures _) w.values-is
-    | in-Connections w ↦ connection_element p w.in-Connections.is _ (w.connection_values-values.ensures _) w.values-is
+      | in-Bundles w ↦ bundle_element p w.in-Bundles.is _ (w.bundle_values-values.ensures _) w.values-is
+      | in-Connections w ↦ connection_element p w.in-Connections.is _ (w.connection_values-values.ensures _) w.values-is
     ] in
     let same = values_record s c.match-section.values x are in (
       omega arith,

@@ -42,8 +42,8 @@ connection_values-values-requires c =
 pub fields_size-requires : goal.fields_size-requires
 fields_size-requires c =
     elim c.match-section.branch [
-      in-Bundles w ↦ rw w.values-is (w.bundle_values-values.ensures 0).fits
-    | in-Connections w ↦ rw w.values-is (w.connection_values-values.ensures 0).fits
+      | in-Bundles w ↦ rw w.values-is (w.bundle_values-values.ensures 0).fits
+      | in-Connections w ↦ rw w.values-is (w.connection_values-values.ensures 0).fits
     ]
 
 pub overflow_add-size-in-loop-i : goal.overflow_add-size-in-loop-i
@@ -56,8 +56,8 @@ loop-i-preserved c =
     let x = element_at s m c.loop-i.i in
     let p = place_here s c.requires c.bundle_places-bundles.ensures c.connection_places-connections.ensures c.count-total.ensures c.loop-i-test.true in
     let are : ValuesAre s c.match-section.values x = elim c.match-section.branch [
-      in-Bundles w ↦ bundle_element p w.in-Bundles.is _ (w.bundle_values-values.ensures _) w.values-is
-    | in-Connections w ↦ connection_element p w.in-Connections.is _ (w.connection_values-values.ensures _) w.values-is
+      | in-Bundles w ↦ bundle_element p w.in-Bundles.is _ (w.bundle_values-values.ensures _) w.values-is
+      | in-Connections w ↦ connection_element p w.in-Connections.is _ (w.connection_values-values.ensures _) w.values-is
     ] in (
       omega arith,
       omega (
@@ -73,11 +73,14 @@ loop-i-preserved c =
 pub returns : goal.returns
 returns c =
     let s = c.args.section in (
-      omega (arith, ap length (placed_all s (record {
-        valid = c.requires;
-        bundles = c.bundle_places-bundles.ensures;
-        connections = c.connection_places-connections.ensures;
-        counted = c.count-total.ensures;
-      }) c.loop-i.i (omega arith))),
+      omega (
+        arith,
+        ap length (placed_all s (record {
+          valid = c.requires;
+          bundles = c.bundle_places-bundles.ensures;
+          connections = c.connection_places-connections.ensures;
+          counted = c.count-total.ensures;
+        }) c.loop-i.i (omega arith)),
+      ),
       omega (arith, few_elements c.args.graph c.requires s),
     )

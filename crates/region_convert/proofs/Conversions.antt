@@ -20,7 +20,6 @@ use Rattle.region_archive.specs.Image.{latest}
 use Rattle.region_archive.specs.File.{FileMeaning, read_model, oldest, opens}
 use Rattle.region_archive.specs.Promise.{archived, image_outcome, Reads}
 use Rattle.region_archive.specs.declared.Written.{Written}
-use Rattle.region_archive.specs.declared.Written.TheVariants as Written
 use Rattle.region_archive.proofs.FileReads.{opens_long}
 use Rattle.region_convert.specs.Conversion.{questions_between}
 use Rattle.region_convert.specs.Between.{ReadsBetween}

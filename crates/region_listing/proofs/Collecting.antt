@@ -26,7 +26,6 @@ use Rattle.region_graph.proofs.Columns.{no_package, packages_length, packages_at
 use Rattle.region_graph.proofs.Storing.{bundles_each, bundles_back, stored_as, bundles_filled, filled_bundles, bundles_stored}
 use Rattle.region_graph.proofs.Storing.{packages_back, numbers_column, versions_column}
 use Rattle.region_routes.specs.declared.Kind.{Kind}
-use Rattle.region_routes.specs.declared.Kind.TheVariants as Kind
 use Rattle.region_listing.specs.Listing.{joined, joined_all, different, without_version, provided, held}
 use Rattle.region_listing.specs.Counts.{most_different, items_in, Collected}
 use Rattle.region_listing.specs.declared.collection.Collection.{Collection}

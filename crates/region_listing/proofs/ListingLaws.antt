@@ -22,7 +22,6 @@ use Rattle.region_graph.proofs.Storing.{short_bundle}
 use Rattle.region_routes.specs.Chosen.{sees}
 use Rattle.region_routes.specs.Hooks.{kind_number}
 use Rattle.region_routes.specs.declared.Kind.{Kind}
-use Rattle.region_routes.specs.declared.Kind.TheVariants as Kind
 use Rattle.text_lines.specs.Written.{WrittenAt}
 use Rattle.text_lines.specs.Decimal.{decimal, decimal_field, space, newline}
 use Rattle.text_lines.proofs.Writes.{wrote_then, wrote_is, wrote_length}

@@ -9,7 +9,6 @@ use Rattle.region_graph.specs.Items.{is_package}
 use Rattle.region_routes.specs.Chosen.{sees}
 use Rattle.region_routes.specs.Hooks.{kind_number, item}
 use Rattle.region_routes.specs.declared.Kind.{Kind}
-use Rattle.region_routes.specs.declared.Kind.TheVariants as Kind
 use Rattle.text_lines.specs.Decimal.{space, newline, decimal_field}
 use Rattle.region_archive.specs.File.{FileMeaning, read_model, read_number}
 use Rattle.region_listing.specs.declared.listing.Text.{Text}

@@ -16,7 +16,6 @@ use Rattle.region_graph.proofs.Graph.connect.Reads as connect
 use Rattle.region_graph.proofs.Graph.disconnect.Reads as disconnect
 use Rattle.region_routes.specs.Resolve.{Candidate, candidates}
 use Rattle.region_routes.specs.declared.Kind.{Kind}
-use Rattle.region_routes.specs.declared.Kind.TheVariants as Kind
 use Rattle.region_routes.specs.declared.Routed.{Routed}
 use Rattle.region_routes.specs.declared.Kept.{Kept}
 use Rattle.region_routes.proofs.route.Reads as route

@@ -7,7 +7,8 @@ use Rattle.region_host.proofs.reading.bundle_at_by_value.Goals as goal
 pub returns-then-index-bundle_count : goal.returns-then-index-bundle_count
 returns-then-index-bundle_count c =
     let a = c.args in
-    nth_there store_bundle (meaning a.graph).bundles a.index no_bundle a.out c.bundle_at-bundle.ensures (omega (arith, c.if-index-bundle_count.true, c.bundle_count.ensures))
+    nth_there store_bundle (meaning a.graph).bundles a.index no_bundle a.out c.bundle_at-bundle.ensures
+    (omega (arith, c.if-index-bundle_count.true, c.bundle_count.ensures))
 
 pub returns : goal.returns
 returns c =

@@ -7,7 +7,8 @@ use Rattle.region_host.proofs.reading.connection_at_by_value.Goals as goal
 pub returns-then-index-connection_count : goal.returns-then-index-connection_count
 returns-then-index-connection_count c =
     let a = c.args in
-    nth_there store_connection (meaning a.graph).connections a.index no_connection a.out c.connection_at-connection.ensures (omega (arith, c.if-index-connection_count.true, c.connection_count.ensures))
+    nth_there store_connection (meaning a.graph).connections a.index no_connection a.out c.connection_at-connection.ensures
+    (omega (arith, c.if-index-connection_count.true, c.connection_count.ensures))
 
 pub returns : goal.returns
 returns c =

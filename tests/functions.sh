@@ -32,17 +32,17 @@ need() {
     [ -n "$(command -v "$1")" ] || missing "$1 ($2)"
 }
 
-# WORD...: a command of rt, whose text shows where it fails
+# NAME: makes it by tools/build, whose text shows where it fails
 by_rt() {
     need rt 'the Rattle kit'
-    rt "$@" > "$work/rt" 2>&1 || { tail -n 20 "$work/rt" >&2; missing "what rt $* makes"; }
+    tools/build "$1" > "$work/rt" 2>&1 || { tail -n 20 "$work/rt" >&2; missing "what tools/build $1 makes"; }
 }
 
 # Sets library to the static library.
 provide_library() {
     library=$WIMBORU_LIB
     [ -z "$library" ] || return 0
-    by_rt staticlib region_host
+    by_rt library
     library=$root/target/staticlib/libregion_host.a
 }
 
@@ -50,7 +50,7 @@ provide_library() {
 provide_listing() {
     listing=$WIMBORU_LISTING
     [ -z "$listing" ] || return 0
-    by_rt check listing
+    by_rt listing
     listing=$root/target/bin/listing
 }
 
@@ -58,7 +58,7 @@ provide_listing() {
 provide_drawing() {
     drawing=$WIMBORU_DRAWING
     [ -z "$drawing" ] || return 0
-    by_rt check drawing
+    by_rt drawing
     drawing=$root/target/bin/drawing
 }
 
@@ -66,6 +66,7 @@ provide_drawing() {
 # kit's, both in work.
 copy_command() {
     mkdir "$work/tree" "$work/tree/crates" "$work/bin"
+    for crate in region_host_c listing drawing; do mkdir "$work/tree/crates/$crate"; done
     cp -R "$root/wimboru" "$root/crates.txt" "$root/include" "$root/packaging" "$root/tools" "$work/tree"
     : > "$work/tree/crates/source"
 }

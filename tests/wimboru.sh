@@ -15,13 +15,14 @@ copy() {
     copy_command
     cat > "$work/bin/rt" <<END
 #!/bin/sh
-echo "\$@" >> "$work/calls"
-echo "what rt says"
-mkdir -p target/bin target/staticlib
-case "\$*" in
-    'check listing') cp "$listing" target/bin/listing ;;
-    'check drawing') cp "$work/drawing" target/bin/drawing ;;
-    'staticlib region_host') cp "$library" target/staticlib/libregion_host.a ;;
+call="\$* \${PWD##*/}"
+echo "\$call" >> "$work/calls"
+echo "what rt says" >&2
+mkdir -p out
+case \$call in
+    'run listing') cp "$listing" out/listing ;;
+    'run drawing') cp "$work/drawing" out/drawing ;;
+    'lib region_host_c') cp "$library" out/libregion_host_c.a ;;
     *) exit 2 ;;
 esac
 END
@@ -180,17 +181,17 @@ builds() {
     same 'output of the first use' "$text" "$listing_g"
     same 'messages of the first use' "$(cat "$work/err")" 'wimboru: proving and building listing; the first time takes some minutes
 what rt says'
-    same 'builds of the first list' "$(calls)" 'check listing'
+    same 'builds of the first list' "$(calls)" 'run listing'
     same 'output of the first query' "$("$work/tree/wimboru" query "$g" 10 package 1 2> "$work/err")" seen
-    same 'builds of the first query' "$(calls)" 'staticlib region_host'
+    same 'builds of the first query' "$(calls)" 'lib region_host_c'
     same 'output of the first name' "$("$work/tree/wimboru" name "$sheet" region 0 2> "$work/err")" deck
-    same 'builds of the first name' "$(calls)" 'staticlib region_host'
+    same 'builds of the first name' "$(calls)" 'lib region_host_c'
     same 'output of the first picture' "$("$work/tree/wimboru" draw "$g" 2> "$work/err")" "$picture"
-    same 'builds of the first picture' "$(calls)" 'check drawing'
+    same 'builds of the first picture' "$(calls)" 'run drawing'
     same 'output of the first conversion' "$("$work/tree/wimboru" forward "$g" "$work/forward" 2> "$work/err")" ''
-    same 'builds of the first conversion' "$(calls)" 'staticlib region_host'
+    same 'builds of the first conversion' "$(calls)" 'lib region_host_c'
     same 'output of the first install' "$("$work/tree/wimboru" install "$work/prefix" 2> "$work/err")" ''
-    same 'builds of the first install' "$(calls)" 'staticlib region_host'
+    same 'builds of the first install' "$(calls)" 'lib region_host_c'
     expect 0 "$listing_g" list "$g"
     expect 0 seen query "$g" 10 package 1
     expect 0 deck name "$sheet" region 0
@@ -751,7 +752,7 @@ broken="$work/broken sheet"
 picture='digraph {
 "sheet: none"
 }'
-builds_of_all='check listing,staticlib region_host,staticlib region_host,check drawing,staticlib region_host,staticlib region_host'
+builds_of_all='run listing,lib region_host_c,lib region_host_c,run drawing,lib region_host_c,lib region_host_c'
 question_12=$(tools/words --question 12)
 question_13=$(tools/words --question 13)
 question_15=$(tools/words --question 15 '1, 2 or 3')

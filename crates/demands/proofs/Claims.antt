@@ -22,9 +22,7 @@ use Rattle.region_routes.specs.Resolve.{Candidate, resolved}
 use Rattle.demands.specs.Claim
 use Rattle.demands.specs.Claim.{Selected, Seen, RouteSays, says_hidden, says_route, KeptSays, InstalledWhere}
 use Rattle.region_routes.specs.declared.Routed.{Routed}
-use Rattle.region_routes.specs.declared.Routed.TheVariants as Routed
 use Rattle.region_routes.specs.declared.Kept.{Kept}
-use Rattle.region_routes.specs.declared.Kept.TheVariants as Kept
 use Rattle.region_routes.proofs.RouteLaws.{nonempty}
 use Rattle.region_routes.proofs.Choosing.{chosen_best, chosen_none, sees_route, route_sees}
 

@@ -23,7 +23,6 @@ use Rattle.region_archive.specs.Image.{image, image_in, in_version}
 use Rattle.region_archive.specs.File.{FileMeaning, means, means_none, read_questions, read_number, read_model}
 use Rattle.region_archive.specs.Promise.{archived, image_outcome, write_questions, write_outcome, Reads, ReadsOver}
 use Rattle.region_archive.specs.declared.Written.{Written}
-use Rattle.region_archive.specs.declared.Written.TheVariants as Written
 use Rattle.region_archive.proofs.FileReads.{accepted, refused_model}
 use Rattle.region_archive.proofs.OneImage.{first_version}
 use Rattle.region_archive.proofs.Meaning.{file_meaning}

@@ -17,7 +17,6 @@ use Rattle.region_graph.proofs.Storing.{stores_valid, stores_means}
 use Rattle.region_routes.specs.Chosen.{chosen_by, chosen}
 use Rattle.region_routes.specs.Hooks.{kept, find_outcome}
 use Rattle.region_routes.specs.declared.Kind.{Kind}
-use Rattle.region_routes.specs.declared.Kind.TheVariants as Kind
 use Rattle.region_routes.specs.declared.Kept.TheVariants.{Wrote}
 use Rattle.demands.specs.Isolation.{restricted, Agree}
 use Rattle.demands.specs.JointTable.{bundle_of, passing, plain, ranges, graph_g}

@@ -28,14 +28,11 @@ use Rattle.region_routes.specs.Hooks.{Outcome, item, kind_number, written, route
 use Rattle.region_routes.specs.Hooks.{route_questions, route_outcome, find_questions, find_outcome, event_questions, event_outcome}
 use Rattle.region_routes.specs.Resolve.{Candidate, is_offered, offered_from, places_for, resolved, resolve_questions, resolve_outcome}
 use Rattle.region_routes.specs.declared.Routed.{Routed}
-use Rattle.region_routes.specs.declared.Routed.TheVariants as Routed
 use Rattle.region_routes.specs.declared.Kept.{Kept}
-use Rattle.region_routes.specs.declared.Kept.TheVariants as Kept
 use Rattle.region_archive.specs.Image.{latest, image, image_in, older_version}
 use Rattle.region_archive.specs.File.{read_questions, read_model}
 use Rattle.region_archive.specs.Promise.{archived, write_questions, seen_number, hidden_number, query_questions}
 use Rattle.region_archive.specs.declared.Written.{Written}
-use Rattle.region_archive.specs.declared.Written.TheVariants as Written
 use Rattle.region_archive.proofs.OneImage as images
 use Rattle.region_archive.proofs.Versions.{in_cases, older_in}
 use Rattle.region_archive.proofs.Meaning.{model_legal}

@@ -1,7 +1,7 @@
 -- The calls that take the record by value, by the contracts that the check proved of them.
 use Rattle.std.specs.Prelude.{Bool, List, [], ◌∷◌, ℕ}
 use contract.Lifetimes.{Lfts}
-use Rattle.std.specs.Borrow.{Bor}
+use Rattle.std.specs.Borrow.{Bor, MutBor}
 use Rattle.region_graph.specs.Model.{packages, entries}
 use Rattle.region_graph.specs.Calls.{Call}
 use Rattle.region_graph.specs.Promise.{new_bundle, new_connection}
@@ -16,7 +16,6 @@ use Rattle.region_graph.proofs.Graph.connect.Reads as connect
 use Rattle.region_graph.proofs.Graph.disconnect.Reads as disconnect
 use Rattle.region_routes.specs.Resolve.{Candidate, candidates}
 use Rattle.region_routes.specs.declared.Kind.{Kind}
-use Rattle.region_routes.specs.declared.Kind.TheVariants as Kind
 use Rattle.region_routes.specs.declared.Routed.{Routed}
 use Rattle.region_routes.specs.declared.Kept.{Kept}
 use Rattle.region_routes.proofs.route.Reads as route
@@ -61,30 +60,30 @@ pub data ValueRead : List ℕ → Graph → ℕ → Graph → Type 0 where
       → ValueRead bytes.now g n h
 
 pub data ValueWrite (g : Graph) : List ℕ → Written → List ℕ → Type 0 where
-  by_write : (κs : Lfts 1) (was out : Bor (List ℕ)) (a : Written) → write.Learnt κs (g, (was, tt)) a (g, (out, tt)) → ValueWrite g was.now a out.now
+  by_write : (κs : Lfts 1) (was out : MutBor (List ℕ)) (a : Written) → write.Learnt κs (g, (was, tt)) a (g, (out, tt)) → ValueWrite g was.now a out.now
 
 pub data ValueRoute (g : Graph) (l kind number version : ℕ) : List ℕ → Routed → List ℕ → Type 0 where
-  by_route : (κs : Lfts 1) (was out : Bor (List ℕ)) (a : Routed)
+  by_route : (κs : Lfts 1) (was out : MutBor (List ℕ)) (a : Routed)
       → route.Learnt κs (g, (l, (kind, (number, (version, (was, tt)))))) a (g, (l, (kind, (number, (version, (out, tt))))))
       → ValueRoute g l kind number version was.now a out.now
 
 pub data ValueFind (g : Graph) : Kind → ℕ → List ℕ → List ℕ → Kept → List ℕ → Type 0 where
-  by_bundle_find : (κs : Lfts 2) (l : ℕ) (xs was out : Bor (List ℕ)) (a : Kept)
+  by_bundle_find : (κs : Lfts 2) (l : ℕ) (xs : Bor (List ℕ)) (was out : MutBor (List ℕ)) (a : Kept)
       → bundle_find.Learnt κs (g, (l, (xs, (was, tt)))) a (g, (l, (xs, (out, tt)))) → ValueFind g Kind.Bundle l xs.now was.now a out.now
-  by_service_find : (κs : Lfts 2) (l : ℕ) (xs was out : Bor (List ℕ)) (a : Kept)
+  by_service_find : (κs : Lfts 2) (l : ℕ) (xs : Bor (List ℕ)) (was out : MutBor (List ℕ)) (a : Kept)
       → service_find.Learnt κs (g, (l, (xs, (was, tt)))) a (g, (l, (xs, (out, tt)))) → ValueFind g Kind.Service l xs.now was.now a out.now
 
 pub data ValueEvent (g : Graph) : Kind → ℕ → List ℕ → List ℕ → Kept → List ℕ → Type 0 where
-  by_bundle_event : (κs : Lfts 2) (number : ℕ) (xs was out : Bor (List ℕ)) (a : Kept)
+  by_bundle_event : (κs : Lfts 2) (number : ℕ) (xs : Bor (List ℕ)) (was out : MutBor (List ℕ)) (a : Kept)
       → bundle_event.Learnt κs (g, (xs, (number, (was, tt)))) a (g, (xs, (number, (out, tt))))
       → ValueEvent g Kind.Bundle number xs.now was.now a out.now
-  by_service_event : (κs : Lfts 2) (number : ℕ) (xs was out : Bor (List ℕ)) (a : Kept)
+  by_service_event : (κs : Lfts 2) (number : ℕ) (xs : Bor (List ℕ)) (was out : MutBor (List ℕ)) (a : Kept)
       → service_event.Learnt κs (g, (xs, (number, (was, tt)))) a (g, (xs, (number, (out, tt))))
       → ValueEvent g Kind.Service number xs.now was.now a out.now
 
 -- exporters, packages and versions have a list each, handed in and lent
 pub data ValueResolve (g : Graph) : ℕ → List Candidate → List (List ℕ) → Kept → List (List ℕ) → Type 0 where
-  by_resolve : (κs : Lfts 6) (l : ℕ) (es ns vs was_e was_n was_v out_e out_n out_v : Bor (List ℕ)) (a : Kept)
+  by_resolve : (κs : Lfts 6) (l : ℕ) (es ns vs : Bor (List ℕ)) (was_e was_n was_v out_e out_n out_v : MutBor (List ℕ)) (a : Kept)
       → resolve.Learnt κs (g, (l, (es, (ns, (vs, (was_e, (was_n, (was_v, tt)))))))) a (g, (l, (es, (ns, (vs, (out_e, (out_n, (out_v, tt))))))))
       → ValueResolve g l (candidates es.now ns.now vs.now) (was_e.now ∷ was_n.now ∷ was_v.now ∷ []) a
       (out_e.now ∷ out_n.now ∷ out_v.now ∷ [])

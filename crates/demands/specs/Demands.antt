@@ -19,7 +19,6 @@ use Rattle.region_archive.specs.Image.{latest, image, image_in, in_version, unve
 use Rattle.region_archive.specs.File.{FileMeaning, read_questions, read_model}
 use Rattle.region_archive.specs.Promise.{written_as, write_questions, query_questions}
 use Rattle.region_archive.specs.declared.Written.{Written}
-use Rattle.region_archive.specs.declared.Written.TheVariants as Written
 use Rattle.demands.specs.Claim.{Seen, Offered, RouteSays, KeptSays, written_parts, InstalledWhere, QuerySays}
 use Rattle.demands.specs.Net.{NetRegions, ExporterNetRegions}
 use Rattle.demands.specs.Interface.{Interface, Started}

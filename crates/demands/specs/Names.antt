@@ -1,7 +1,7 @@
 -- Request C-11, of any way to look a name up: each entry's own name is found, and nothing else is.
 use Rattle.std.specs.Prelude.{◌≡◌, false, List, ◌∷◌, ◌++◌, ℕ, ◌+◌, ◌-◌, ◌^◌, ◌≤◌, eqb, length}
 use contract.Lifetimes.{Lfts}
-use Rattle.std.specs.Borrow.{Bor}
+use Rattle.std.specs.Borrow.{Bor, MutBor}
 use Rattle.region_graph.specs.Refusals.{not_refused, broken_sheet, no_entry}
 use Rattle.region_graph.specs.Lists.{pick, exists}
 use Rattle.region_graph.specs.Calls.{first_no}
@@ -53,17 +53,17 @@ given_as r = pick (eqb r.refusal not_refused) (named r.from (r.to - r.from)) (un
 pub data ValueLookup : List ℕ → ℕ → ℕ → Lookup → Type 0 where
   by_locate : (κs : Lfts 1) (s : Bor (List ℕ)) (kind number : ℕ) (r : Located)
       → locate.Learnt κs (s, (kind, (number, tt))) r (s, (kind, (number, tt))) → ValueLookup s.now kind number (given_as r)
-  by_lookup : (κs : Lfts 2) (s part : Bor (List ℕ)) (was is : Bor ℕ) (kind number from : ℕ)
+  by_lookup : (κs : Lfts 2) (s part : Bor (List ℕ)) (was is : MutBor ℕ) (kind number from : ℕ)
       → lookup.Learnt κs (s, (kind, (number, (was, tt)))) part (s, (kind, (number, (is, tt)))) → part.ref_ptr.1 ≡ s.ref_ptr.1 + from
       → ValueLookup s.now kind number (pick (eqb is.now not_refused) (named from (length part.now)) (unnamed is.now))
 
 -- for C: what it reads in the number, with the start that was written
 pub data LentLookup : List ℕ → ℕ → ℕ → Lookup → Type 0 where
-  by_region_name : (κs : Lfts 2) (s : Bor (List ℕ)) (was is : Bor ℕ) (kind number v : ℕ)
+  by_region_name : (κs : Lfts 2) (s : Bor (List ℕ)) (was is : MutBor ℕ) (kind number v : ℕ)
       → region_name.Learnt κs (s, (was, (kind, (number, tt)))) v (s, (is, (kind, (number, tt))))
       → LentLookup s.now kind number (read_back (named is.now) unnamed v)
 
 -- where the number is below zero the lent start is as it was
 abbrev pub StartKept : Type 0
-StartKept = (κs : Lfts 2) (s : Bor (List ℕ)) (was is : Bor ℕ) (kind number v : ℕ)
+StartKept = (κs : Lfts 2) (s : Bor (List ℕ)) (was is : MutBor ℕ) (kind number v : ℕ)
     → region_name.Learnt κs (s, (was, (kind, (number, tt)))) v (s, (is, (kind, (number, tt)))) → 2 ^ 63 ≤ v → is.now ≡ was.now

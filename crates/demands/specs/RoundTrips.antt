@@ -1,7 +1,7 @@
 -- Request C-16, of any way to convert archives: each conversion gives the bytes back that the other one was given.
 use Rattle.std.specs.Prelude.{◌≡◌, true, false, ◌⊎◌, List, ℕ, ◌≤◌, length, take, get_or}
 use contract.Lifetimes.{Lfts}
-use Rattle.std.specs.Borrow.{Bor}
+use Rattle.std.specs.Borrow.{Bor, MutBor}
 use Rattle.region_graph.specs.Refusals.{not_refused, broken_layout, has_versions}
 use Rattle.region_graph.specs.Calls.{Question, first_no}
 use Rattle.region_routes.specs.Hooks.{written}
@@ -9,7 +9,6 @@ use Rattle.region_archive.specs.Image.{latest, unversioned}
 use Rattle.region_archive.specs.File.{FileMeaning, is_image, read_model}
 use Rattle.region_archive.specs.Promise.{written_as}
 use Rattle.region_archive.specs.declared.Written.{Written}
-use Rattle.region_archive.specs.declared.Written.TheVariants as Written
 use Rattle.region_convert.specs.Conversion.{forward_questions, back_questions}
 use Rattle.region_convert.proofs.forward.Reads as forward
 use Rattle.region_convert.proofs.back.Reads as back
@@ -61,18 +60,18 @@ pub record RoundTrips (forwards backs : Converting) : Type 0 where
 
 -- the functions by value
 pub data ValueForward : List ℕ → List ℕ → Written → List ℕ → Type 0 where
-  by_forward : (κs : Lfts 2) (s was out : Bor (List ℕ)) (a : Written) → forward.Learnt κs (s, (was, tt)) a (s, (out, tt))
+  by_forward : (κs : Lfts 2) (s : Bor (List ℕ)) (was out : MutBor (List ℕ)) (a : Written) → forward.Learnt κs (s, (was, tt)) a (s, (out, tt))
       → ValueForward s.now was.now a out.now
 
 pub data ValueBack : List ℕ → List ℕ → Written → List ℕ → Type 0 where
-  by_back : (κs : Lfts 2) (s was out : Bor (List ℕ)) (a : Written) → back.Learnt κs (s, (was, tt)) a (s, (out, tt))
+  by_back : (κs : Lfts 2) (s : Bor (List ℕ)) (was out : MutBor (List ℕ)) (a : Written) → back.Learnt κs (s, (was, tt)) a (s, (out, tt))
       → ValueBack s.now was.now a out.now
 
 -- for C: what it reads in the number
 pub data LentForward : List ℕ → List ℕ → Written → List ℕ → Type 0 where
-  by_archive_forward : (κs : Lfts 2) (s was out : Bor (List ℕ)) (v : ℕ) → archive_forward.Learnt κs (s, (was, tt)) v (s, (out, tt))
+  by_archive_forward : (κs : Lfts 2) (s : Bor (List ℕ)) (was out : MutBor (List ℕ)) (v : ℕ) → archive_forward.Learnt κs (s, (was, tt)) v (s, (out, tt))
       → LentForward s.now was.now (written_of v) out.now
 
 pub data LentBack : List ℕ → List ℕ → Written → List ℕ → Type 0 where
-  by_archive_back : (κs : Lfts 2) (s was out : Bor (List ℕ)) (v : ℕ) → archive_back.Learnt κs (s, (was, tt)) v (s, (out, tt))
+  by_archive_back : (κs : Lfts 2) (s : Bor (List ℕ)) (was out : MutBor (List ℕ)) (v : ℕ) → archive_back.Learnt κs (s, (was, tt)) v (s, (out, tt))
       → LentBack s.now was.now (written_of v) out.now

@@ -21,7 +21,6 @@ use Rattle.region_routes.specs.Resolve.{Candidate, parts, offered_from, resolve_
 use Rattle.region_routes.specs.declared.Kind.{Kind}
 use Rattle.region_routes.specs.declared.Routed.TheVariants as Routed
 use Rattle.region_routes.specs.declared.Kept.{Kept}
-use Rattle.region_routes.specs.declared.Kept.TheVariants as Kept
 use Rattle.region_archive.specs.Promise.{written_as, archived, image_outcome}
 use Rattle.region_archive.specs.declared.Written.TheVariants as Written
 use Rattle.region_host.specs.CNumbers.{CAnswer, answered, for_c}

@@ -3,12 +3,9 @@ use Rattle.std.specs.Prelude.{ℕ, zero, suc, ◌-◌, ◌^◌, ◌<◌, eqb, lt
 use Rattle.region_graph.specs.Lists.{pick}
 use Rattle.region_routes.specs.Hooks.{Outcome}
 use Rattle.region_routes.specs.declared.Routed.{Routed}
-use Rattle.region_routes.specs.declared.Routed.TheVariants as Routed
 use Rattle.region_routes.specs.declared.Kept.{Kept}
-use Rattle.region_routes.specs.declared.Kept.TheVariants as Kept
 use Rattle.region_archive.specs.Promise.{hidden_number}
 use Rattle.region_archive.specs.declared.Written.{Written}
-use Rattle.region_archive.specs.declared.Written.TheVariants as Written
 
 -- a number below zero, in two's complement
 abbrev pub negative : ℕ → ℕ

@@ -12,16 +12,14 @@ use region_archive::read_over;
 use region_graph::{Changed, Graph};
 
 // Makes the record the one with nothing in it, whatever it was.
-#[unsafe(no_mangle)]
-pub extern "C" fn region_empty_v5(graph: &mut Graph)
+pub fn region_empty_v5(graph: &mut Graph)
     ensures { Empty graph.new }
 {
     let empty = Graph::empty();
     *graph = empty;
 }
 
-#[unsafe(no_mangle)]
-pub extern "C" fn region_add(graph: &mut Graph, region: u32) -> u32
+pub fn region_add(graph: &mut Graph, region: u32) -> u32
     requires { Valid graph.old }
     ensures { Follows graph.entry.now (Call.add_region region) (record { graph = graph.exit.now; number = result }) }
 {
@@ -30,8 +28,7 @@ pub extern "C" fn region_add(graph: &mut Graph, region: u32) -> u32
     changed.number
 }
 
-#[unsafe(no_mangle)]
-pub extern "C" fn region_remove(graph: &mut Graph, region: u32) -> u32
+pub fn region_remove(graph: &mut Graph, region: u32) -> u32
     requires { Valid graph.old }
     ensures { Follows graph.entry.now (Call.remove_region region) (record { graph = graph.exit.now; number = result }) }
 {
@@ -40,8 +37,7 @@ pub extern "C" fn region_remove(graph: &mut Graph, region: u32) -> u32
     changed.number
 }
 
-#[unsafe(no_mangle)]
-pub extern "C" fn region_install_v4(
+pub fn region_install_v4(
     graph: &mut Graph,
     region: u32,
     location: u32,
@@ -57,8 +53,7 @@ pub extern "C" fn region_install_v4(
     changed.number
 }
 
-#[unsafe(no_mangle)]
-pub extern "C" fn region_uninstall(graph: &mut Graph, location: u32) -> u32
+pub fn region_uninstall(graph: &mut Graph, location: u32) -> u32
     requires { Valid graph.old }
     ensures { Follows graph.entry.now (Call.uninstall location) (record { graph = graph.exit.now; number = result }) }
 {
@@ -98,8 +93,7 @@ fn connect_by_value(
     )
 }
 
-#[unsafe(no_mangle)]
-pub extern "C" fn region_connect_v5(
+pub fn region_connect_v5(
     graph: &mut Graph,
     source: u32,
     target: u32,
@@ -130,8 +124,7 @@ pub extern "C" fn region_connect_v5(
     changed.number
 }
 
-#[unsafe(no_mangle)]
-pub extern "C" fn region_disconnect(graph: &mut Graph, source: u32, target: u32) -> u32
+pub fn region_disconnect(graph: &mut Graph, source: u32, target: u32) -> u32
     requires { Valid graph.old }
     ensures { Follows graph.entry.now (Call.disconnect source target) (record { graph = graph.exit.now; number = result }) }
 {
@@ -141,8 +134,7 @@ pub extern "C" fn region_disconnect(graph: &mut Graph, source: u32, target: u32)
 }
 
 // The record becomes the graph whose image the bytes are; a refused read leaves it as it was.
-#[unsafe(no_mangle)]
-pub extern "C" fn region_read(graph: &mut Graph, bytes: &[u8]) -> u32
+pub fn region_read(graph: &mut Graph, bytes: &[u8]) -> u32
     requires { Valid graph.old }
     ensures { ReadsOver graph.entry.now bytes.now (record { graph = graph.exit.now; number = result }) }
 {

@@ -8,8 +8,7 @@ use crate::answers::written_value;
 use region_convert::{back, forward};
 
 // An archive of version 1 or 2 as one of version 3, and its length.
-#[unsafe(no_mangle)]
-pub extern "C" fn region_archive_forward(bytes: &[u8], out: &mut [u8]) -> u64
+pub fn region_archive_forward(bytes: &[u8], out: &mut [u8]) -> u64
     ensures { (f : FileMeaning bytes.now) → answered result out.new ≡ for_c written_value (forward_outcome f out.old) }
 {
     let answer = forward(bytes, out);
@@ -17,8 +16,7 @@ pub extern "C" fn region_archive_forward(bytes: &[u8], out: &mut [u8]) -> u64
 }
 
 // An archive of version 3 without versions as one of version 1 or 2, and its length.
-#[unsafe(no_mangle)]
-pub extern "C" fn region_archive_back(bytes: &[u8], out: &mut [u8]) -> u64
+pub fn region_archive_back(bytes: &[u8], out: &mut [u8]) -> u64
     ensures { (f : FileMeaning bytes.now) → answered result out.new ≡ for_c written_value (back_outcome f out.old) }
 {
     let answer = back(bytes, out);

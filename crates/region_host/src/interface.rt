@@ -26,15 +26,13 @@ const RECORD: usize = COUNT
     + (COUNT + MOST_BUNDLES * BUNDLE)
     + (COUNT + MOST_CONNECTIONS * CONNECTION);
 
-#[unsafe(no_mangle)]
-pub extern "C" fn region_interface_version() -> u32
+pub fn region_interface_version() -> u32
     ensures { result ≡ interface_version }
 {
     VERSION
 }
 
-#[unsafe(no_mangle)]
-pub extern "C" fn region_record_size() -> usize
+pub fn region_record_size() -> usize
     ensures { result ≡ record_size }
 {
     RECORD

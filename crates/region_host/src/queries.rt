@@ -30,8 +30,7 @@ fn route_by_value(
 }
 
 // The route that document 01 picks, and its count of connections.
-#[unsafe(no_mangle)]
-pub extern "C" fn region_route_v4(
+pub fn region_route_v4(
     graph: &Graph,
     out: &mut [u8],
     location: u32,
@@ -54,13 +53,7 @@ fn bundle_find_by_value(graph: Graph, out: &mut [u32], location: u32, candidates
 }
 
 // The bundles among the candidates that a bundle sees.
-#[unsafe(no_mangle)]
-pub extern "C" fn region_bundle_find(
-    graph: &Graph,
-    out: &mut [u32],
-    location: u32,
-    candidates: &[u32],
-) -> u64
+pub fn region_bundle_find(graph: &Graph, out: &mut [u32], location: u32, candidates: &[u32]) -> u64
     requires { Valid graph.now }
     ensures { answered result out.new ≡ for_c kept_value (find_outcome (meaning graph.now) Kind.Bundle location candidates.now out.old) }
 {
@@ -94,8 +87,7 @@ fn resolve_by_value(
 }
 
 // The candidates, exporters with packages, that a bundle is offered.
-#[unsafe(no_mangle)]
-pub extern "C" fn region_resolve_v4(
+pub fn region_resolve_v4(
     graph: &Graph,
     out_exporters: &mut [u32],
     out_packages: &mut [u32],
@@ -129,13 +121,7 @@ fn service_find_by_value(graph: Graph, out: &mut [u32], location: u32, candidate
 }
 
 // The services among the candidates that a bundle sees.
-#[unsafe(no_mangle)]
-pub extern "C" fn region_service_find(
-    graph: &Graph,
-    out: &mut [u32],
-    location: u32,
-    candidates: &[u32],
-) -> u64
+pub fn region_service_find(graph: &Graph, out: &mut [u32], location: u32, candidates: &[u32]) -> u64
     requires { Valid graph.now }
     ensures { answered result out.new ≡ for_c kept_value (find_outcome (meaning graph.now) Kind.Service location candidates.now out.old) }
 {
@@ -151,13 +137,7 @@ fn bundle_event_by_value(graph: Graph, out: &mut [u32], listeners: &[u32], bundl
 }
 
 // The listeners that see a bundle.
-#[unsafe(no_mangle)]
-pub extern "C" fn region_bundle_event(
-    graph: &Graph,
-    out: &mut [u32],
-    listeners: &[u32],
-    bundle: u32,
-) -> u64
+pub fn region_bundle_event(graph: &Graph, out: &mut [u32], listeners: &[u32], bundle: u32) -> u64
     requires { Valid graph.now }
     ensures { answered result out.new ≡ for_c kept_value (event_outcome (meaning graph.now) Kind.Bundle listeners.now bundle out.old) }
 {
@@ -173,13 +153,7 @@ fn service_event_by_value(graph: Graph, out: &mut [u32], listeners: &[u32], serv
 }
 
 // The listeners that see a service.
-#[unsafe(no_mangle)]
-pub extern "C" fn region_service_event(
-    graph: &Graph,
-    out: &mut [u32],
-    listeners: &[u32],
-    service: u32,
-) -> u64
+pub fn region_service_event(graph: &Graph, out: &mut [u32], listeners: &[u32], service: u32) -> u64
     requires { Valid graph.now }
     ensures { answered result out.new ≡ for_c kept_value (event_outcome (meaning graph.now) Kind.Service listeners.now service out.old) }
 {
@@ -195,8 +169,7 @@ fn write_by_value(graph: Graph, out: &mut [u8]) -> u64
 }
 
 // The image of the graph, and its length.
-#[unsafe(no_mangle)]
-pub extern "C" fn region_write(graph: &Graph, out: &mut [u8]) -> u64
+pub fn region_write(graph: &Graph, out: &mut [u8]) -> u64
     requires { Valid graph.now }
     ensures { answered result out.new ≡ for_c written_value (write_outcome (meaning graph.now) out.old) }
 {
@@ -211,8 +184,7 @@ fn image_length_by_value(graph: Graph) -> u64
 }
 
 // How many bytes the image of the graph takes.
-#[unsafe(no_mangle)]
-pub extern "C" fn region_image_length(graph: &Graph) -> u64
+pub fn region_image_length(graph: &Graph) -> u64
     requires { Valid graph.now }
     ensures { result ≡ length (image (meaning graph.now)) }
 {
@@ -220,14 +192,7 @@ pub extern "C" fn region_image_length(graph: &Graph) -> u64
 }
 
 // Whether the bundle at a location sees an item in the graph of an archive: the query of `region_archive`, as it is.
-#[unsafe(no_mangle)]
-pub extern "C" fn region_archive_query(
-    bytes: &[u8],
-    location: u32,
-    kind: u32,
-    item: u32,
-    version: u16,
-) -> u32
+pub fn region_archive_query(bytes: &[u8], location: u32, kind: u32, item: u32, version: u16) -> u32
     ensures { Queried bytes.now location kind item version result }
 {
     region_archive::archive_query(bytes, location, kind, item, version)

@@ -26,8 +26,7 @@ pub struct ConnectionRead {
 }
 
 // The regions, as a set: bit n is 1 where region n is there.
-#[unsafe(no_mangle)]
-pub extern "C" fn region_set(graph: &Graph) -> u64
+pub fn region_set(graph: &Graph) -> u64
     requires { Valid graph.now }
     ensures { result ≡ set_of (λ n. member n (meaning graph.now).regions) }
 {
@@ -42,8 +41,7 @@ fn bundle_count_by_value(graph: Graph) -> u64
 }
 
 // How many bundles are installed.
-#[unsafe(no_mangle)]
-pub extern "C" fn region_bundle_count(graph: &Graph) -> u64
+pub fn region_bundle_count(graph: &Graph) -> u64
     requires { Valid graph.now }
     ensures { result ≡ length (meaning graph.now).bundles }
 {
@@ -58,8 +56,7 @@ fn connection_count_by_value(graph: Graph) -> u64
 }
 
 // How many connections there are.
-#[unsafe(no_mangle)]
-pub extern "C" fn region_connection_count(graph: &Graph) -> u64
+pub fn region_connection_count(graph: &Graph) -> u64
     requires { Valid graph.now }
     ensures { result ≡ length (meaning graph.now).connections }
 {
@@ -75,8 +72,7 @@ fn region_of_by_value(graph: Graph, location: u32) -> u64
 }
 
 // The region of the bundle at a location.
-#[unsafe(no_mangle)]
-pub extern "C" fn region_of(graph: &Graph, location: u32) -> u64
+pub fn region_of(graph: &Graph, location: u32) -> u64
     requires { Valid graph.now }
     ensures { result ≡ place_value (place_of (meaning graph.now).bundles location) }
 {
@@ -98,8 +94,7 @@ fn bundle_at_by_value(graph: Graph, out: StoredBundle, index: usize) -> BundleRe
 }
 
 // The bundle at an index, from 0 on in ascending order of location, and how many were written: one or none.
-#[unsafe(no_mangle)]
-pub extern "C" fn region_bundle_at(graph: &Graph, out: &mut StoredBundle, index: usize) -> u64
+pub fn region_bundle_at(graph: &Graph, out: &mut StoredBundle, index: usize) -> u64
     requires { Valid graph.now }
     ensures { answered result out.new ≡ nth_for_c store_bundle (meaning graph.now).bundles index out.old }
 {
@@ -126,12 +121,7 @@ fn connection_at_by_value(graph: Graph, out: StoredConnection, index: usize) -> 
 }
 
 // The connection at an index, from 0 on in ascending order of source and target, and how many were written: one or none.
-#[unsafe(no_mangle)]
-pub extern "C" fn region_connection_at(
-    graph: &Graph,
-    out: &mut StoredConnection,
-    index: usize,
-) -> u64
+pub fn region_connection_at(graph: &Graph, out: &mut StoredConnection, index: usize) -> u64
     requires { Valid graph.now }
     ensures { answered result out.new ≡ nth_for_c store_connection (meaning graph.now).connections index out.old }
 {

@@ -6,8 +6,7 @@ use name_sheet::locate;
 use region_graph::refusals::NOT_REFUSED;
 
 // How many bytes the name has, and where its first byte stands.
-#[unsafe(no_mangle)]
-pub extern "C" fn region_name(sheet: &[u8], start: &mut usize, kind: u32, number: u32) -> u64
+pub fn region_name(sheet: &[u8], start: &mut usize, kind: u32, number: u32) -> u64
     ensures { NamedForC sheet.now kind number start.old result start.new }
 {
     let located = locate(sheet, kind, number);

@@ -1,9 +1,0 @@
--- `region_host::answers::place_value` meets its contract. It is written out so that an error of it comes before those of its callers.
-use borrow.Author.Rules.{rules}
-use Rattle.region_host.proofs.answers.place_value.Statement.{statement}
-use Rattle.region_host.proofs.answers.place_value.Tie as tie
-
-pub place_value_spec : {M : Type 1} → statement M
-place_value_spec =
-    tie.close
-    (tie.spec (λ c. search rules) (λ c. search rules) (λ c. search rules) (λ c κs. search rules) (λ c. search rules) (λ c. search rules))

@@ -1,0 +1,10 @@
+// The static library for a host in C: each export has the name and the clauses of the call of `region_host` that it makes, and does
+// nothing else.
+#![tactic(auto)]
+
+mod changes;
+mod conversions;
+mod interface;
+mod queries;
+mod reading;
+mod sheet;

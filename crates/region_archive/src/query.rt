@@ -1,16 +1,38 @@
 // The archive query.
+ghost use Rattle.std.specs.Prelude.{◌≡◌};
+ghost use Rattle.region_graph.specs.Record.{Valid, meaning};
+ghost use Rattle.region_graph.specs.Promise.{place_of};
+ghost use Rattle.region_graph.specs.Sets.{set_of};
+ghost use Rattle.region_routes.specs.Chosen.{sees};
 ghost use Rattle.region_archive.specs.Promise.{Queried};
 
 use crate::reading::read;
 use region_graph::refusals::{NOT_A_KIND, NOT_INSTALLED, NOT_REFUSED};
 use region_graph::region_set::has;
-use region_graph::{Item, Place};
+use region_graph::{Graph, Item, Place};
 use region_routes::regions_seeing;
 
 // What the query answers for an item that is seen, and for one that is hidden.
 pub const SEEN: u32 = 100;
 
 pub const HIDDEN: u32 = 101;
+
+// `region_of` and `regions_seeing` copy the graph. They do it here, so that no copy is on the stack while the archive is read.
+#[inline(never)]
+fn place_in(graph: &Graph, location: u32) -> Place
+    requires { Valid graph.now }
+    ensures { result ≡ place_of (meaning graph.now).bundles location }
+{
+    graph.region_of(location)
+}
+
+#[inline(never)]
+fn seeing_in(graph: &Graph, item: Item) -> u64
+    requires { Valid graph.now }
+    ensures { result ≡ set_of (sees (meaning graph.now) item) }
+{
+    regions_seeing(*graph, item)
+}
 
 // Whether the bundle at a location sees an item in the graph of an archive; or a refusal's number.
 pub fn archive_query(bytes: &[u8], location: u32, kind: u32, item: u32, version: u16) -> u32
@@ -20,8 +42,7 @@ pub fn archive_query(bytes: &[u8], location: u32, kind: u32, item: u32, version:
     if archive.number != NOT_REFUSED {
         return archive.number;
     }
-    let graph = archive.graph;
-    let place = graph.region_of(location);
+    let place = place_in(&archive.graph, location);
     let Place::Within(region) = place else {
         return NOT_INSTALLED;
     };
@@ -33,7 +54,7 @@ pub fn archive_query(bytes: &[u8], location: u32, kind: u32, item: u32, version:
         number: item,
         version,
     };
-    let set = regions_seeing(graph, sought);
+    let set = seeing_in(&archive.graph, sought);
     if has(set, region) {
         return SEEN;
     }

@@ -6,7 +6,6 @@ ghost use Rattle.region_graph.specs.Promise.{Empty};
 ghost use Rattle.region_archive.specs.File.{oldest, opens, front_questions};
 ghost use Rattle.region_archive.specs.Image.{latest};
 ghost use Rattle.region_archive.specs.Promise.{Reads, ReadsOver};
-ghost use Rattle.region_archive.specs.Sections.{BodyRead};
 
 use crate::FRONT;
 use crate::record_fields::Section;
@@ -57,15 +56,21 @@ fn refused(number: u32) -> Changed
     }
 }
 
-// The graph of the body that stands from a place to the end in a file of a version, or a refusal's number and the empty graph.
-fn body_at(bytes: &[u8], at: usize, first: usize) -> Changed
-    requires { at ≤ length bytes.now }
-    ensures { BodyRead first bytes.now at result }
+// The graph whose image the bytes are, or a refusal's number and the empty graph. It is one function, and a call of its own, so that
+// the stack holds the graph no more often than it must.
+#[inline(never)]
+pub fn read(bytes: &[u8]) -> Changed
+    ensures { Reads bytes.now result }
 {
+    let number = front(bytes);
+    if number != NOT_REFUSED {
+        return refused(number);
+    }
+    let first = bytes[0] as usize;
     let mut list = [0u32; REGIONS];
     let mut bundles = [0u64; MOST_BUNDLES * BUNDLE_WIDTH];
     let mut connections = [0u64; MOST_CONNECTIONS * CONNECTION_WIDTH];
-    let regions = regions_at(bytes, at, &mut list);
+    let regions = regions_at(bytes, FRONT, &mut list);
     if !regions.ok {
         return refused(BROKEN_LAYOUT);
     }
@@ -100,18 +105,6 @@ fn body_at(bytes: &[u8], at: usize, first: usize) -> Changed
     let m = b.count;
     let n = c.count;
     Graph::of_flat(&list[..l], &bundles[..m], &connections[..n])
-}
-
-// The graph whose image the bytes are, or a refusal's number and the empty graph.
-pub fn read(bytes: &[u8]) -> Changed
-    ensures { Reads bytes.now result }
-{
-    let number = front(bytes);
-    if number != NOT_REFUSED {
-        return refused(number);
-    }
-    let first = bytes[0] as usize;
-    body_at(bytes, FRONT, first)
 }
 
 // The graph whose image the bytes are, or a refusal's number and the graph that was at hand.

@@ -435,22 +435,20 @@ impl Graph {
         let set = listed.set;
         let installed = bundle_list(bundles, set);
         let connected = connection_list(connections, set);
-        let places = installed.bundles;
-        let joins = connected.connections;
-        let mut next = Graph {
-            regions: set,
-            bundles: places,
-            connections: joins,
-        };
-        let mut number = NOT_REFUSED;
         if !(listed.ok & installed.ok & connected.ok) {
             let empty = Graph::empty();
-            next = empty;
-            number = BROKEN_LAYOUT;
+            return Changed {
+                graph: empty,
+                number: BROKEN_LAYOUT,
+            };
         }
         Changed {
-            graph: next,
-            number,
+            graph: Graph {
+                regions: set,
+                bundles: installed.bundles,
+                connections: connected.connections,
+            },
+            number: NOT_REFUSED,
         }
     }
 }

@@ -8,7 +8,8 @@ ghost use Rattle.region_graph.specs.Promise.{Empty, Follows, new_bundle, new_con
 ghost use Rattle.region_archive.specs.Promise.{ReadsOver};
 ghost use Rattle.region_host.specs.CFlags.{passes_all};
 
-use region_archive::read_over;
+use region_archive::read;
+use region_graph::refusals::NOT_REFUSED;
 use region_graph::{Changed, Graph};
 
 // Makes the record the one with nothing in it, whatever it was.
@@ -138,7 +139,9 @@ pub fn region_read(graph: &mut Graph, bytes: &[u8]) -> u32
     requires { Valid graph.old }
     ensures { ReadsOver graph.entry.now bytes.now (record { graph = graph.exit.now; number = result }) }
 {
-    let changed = read_over(*graph, bytes);
-    *graph = changed.graph;
-    changed.number
+    let archive = read(bytes);
+    if archive.number == NOT_REFUSED {
+        *graph = archive.graph;
+    }
+    archive.number
 }

@@ -16,10 +16,10 @@ returns c =
     let e = w in
     let r = e in
     let out = r.args.out.now in
-    then_written latest latest (λ m. older_questions m out) older_image out r.read_between-newer.ensures e.if-newer-ne-NOT_REFUSED.false w.write_older.ensures
+    then_written latest latest (λ m. older_questions m out) older_image out r.read_between-newer.ensures e.if-newer-ne-NOT_REFUSED.false w.write_older_from.ensures
 
 pub read_between-newer-requires : goal.read_between-newer-requires
 read_between-newer-requires c = (omega arith, omega arith)
 
-pub write_older-requires : goal.write_older-requires
-write_older-requires c = c.read_between-newer.ensures.valid
+pub write_older_from-requires : goal.write_older_from-requires
+write_older_from-requires c = c.read_between-newer.ensures.valid

@@ -18,10 +18,10 @@ returns c =
     let e = w in
     let r = e in
     let out = r.args.out.now in
-    then_written oldest (latest - 1) (λ m. write_questions m out) image out r.read_between-older.ensures e.if-older-ne-NOT_REFUSED.false w.write.ensures
+    then_written oldest (latest - 1) (λ m. write_questions m out) image out r.read_between-older.ensures e.if-older-ne-NOT_REFUSED.false w.write_from.ensures
 
 pub read_between-older-requires : goal.read_between-older-requires
 read_between-older-requires c = (omega arith, omega arith)
 
-pub write-requires : goal.write-requires
-write-requires c = c.read_between-older.ensures.valid
+pub write_from-requires : goal.write_from-requires
+write_from-requires c = c.read_between-older.ensures.valid

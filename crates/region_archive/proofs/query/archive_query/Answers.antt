@@ -23,7 +23,7 @@ returns-in_default c =
     λ f. (c.read-archive.ensures.says f).next in
     let a = c in
     let s = a.args in
-    λ f. query_outside f s.location s.kind s.item s.version (accepted f) (means f) (sym c.region_of-place.ensures)
+    λ f. query_outside f s.location s.kind s.item s.version (accepted f) (means f) (sym c.place_in-place.ensures)
     c.in_default.is
 
 pub returns-then-kind-gt2 : goal.returns-then-kind-gt2
@@ -34,14 +34,14 @@ returns-then-kind-gt2 c =
     λ f. (c.read-archive.ensures.says f).next in
     let a = c in
     let s = a.args in
-    λ f. query_unknown f s.location s.kind s.item s.version (accepted f) (means f) (sym c.region_of-place.ensures)
+    λ f. query_unknown f s.location s.kind s.item s.version (accepted f) (means f) (sym c.place_in-place.ensures)
     c.in-Within.is c.if-kind-gt2.true
 
-pub region_of-place-requires : goal.region_of-place-requires
-region_of-place-requires c = c.read-archive.ensures.valid
+pub place_in-place-requires : goal.place_in-place-requires
+place_in-place-requires c = c.read-archive.ensures.valid
 
-pub regions_seeing-set-requires : goal.regions_seeing-set-requires
-regions_seeing-set-requires c = c.read-archive.ensures.valid
+pub seeing_in-set-requires : goal.seeing_in-set-requires
+seeing_in-set-requires c = c.read-archive.ensures.valid
 
 pub returns-then-has : goal.returns-then-has
 returns-then-has c =
@@ -53,9 +53,9 @@ returns-then-has c =
     λ t e. let a = c in
     let s = a.args in
     let p = c in
-    λ f. query_told f s.location s.kind s.item s.version (accepted f) (means f) (sym p.region_of-place.ensures)
+    λ f. query_told f s.location s.kind s.item s.version (accepted f) (means f) (sym p.place_in-place.ensures)
     p.in-Within.is c.if-kind-gt2.false a.read-archive.ensures.valid.good
-    c.regions_seeing-set.ensures c.has.ensures e in
+    c.seeing_in-set.ensures c.has.ensures e in
     told _ c.if-has.true
 
 pub returns : goal.returns
@@ -68,7 +68,7 @@ returns c =
     λ t e. let a = c in
     let s = a.args in
     let p = c in
-    λ f. query_told f s.location s.kind s.item s.version (accepted f) (means f) (sym p.region_of-place.ensures)
+    λ f. query_told f s.location s.kind s.item s.version (accepted f) (means f) (sym p.place_in-place.ensures)
     p.in-Within.is c.if-kind-gt2.false a.read-archive.ensures.valid.good
-    c.regions_seeing-set.ensures c.has.ensures e in
+    c.seeing_in-set.ensures c.has.ensures e in
     told _ c.if-has.false

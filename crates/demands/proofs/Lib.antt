@@ -12,4 +12,5 @@ pub mod Restricted
 pub mod Isolation
 pub mod Rows
 pub mod GraphG
+pub mod Files
 pub mod Neighbours

@@ -41,7 +41,7 @@ pub record Interface : Type 1 where
   pub asks : List ℕ → ℕ → ℕ → ℕ → ℕ → ℕ → Type 0
 
 -- The records from which a list of calls can start, each with the model from which the plain record starts: the empty one, and what an
--- accepted read gave. Each file has a meaning (`file-meaning`).
+-- accepted read gave. Each file has a meaning (`file_meaning`).
 pub data Started (c : Interface) : Graph → Model → Type 0 where
   from_empty : {g : Graph} → c.empties g → Started c g nothing
   from_archive : {s : List ℕ} {g h : Graph} {n : ℕ} → c.reads s g n h → n ≡ not_refused → (f : FileMeaning s) → Started c h (read_model f)

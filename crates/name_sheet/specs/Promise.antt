@@ -10,7 +10,7 @@ located f kind number =
     let span = name_span kind number front_length (sheet_entries f) in
     record { refusal = lookup_number f kind number; from = span.from; to = span.to }
 
--- whatever the file means; each file means something (`sheet-meaning`)
+-- whatever the file means; each file means something (`sheet_meaning`)
 abbrev pub Locates : List ℕ → ℕ → ℕ → Located → Type 0
 Locates s kind number r = (f : SheetMeaning s) → r ≡ located f kind number
 

@@ -40,12 +40,12 @@ unfolding longest versioned tested_none tested_true tested_false tested_le teste
     tested_sorted tested_numbered tested_package tested_fits tested_entry tested_part tested_bundle tested_filter tested_connection tested_legal
 longest_legal = (tested_legal versioned).holds refl
 
--- and no legal image is longer (`image-bound`)
+-- and no legal image is longer (`image_bound`)
 pub longest_image : length (image versioned) ≡ 18392
 unfolding longest versioned image_in
 longest_image = refl
 
--- so it is with version 0 and every version before version 3, and no image of those versions is longer (`older-bound`)
+-- so it is with version 0 and every version before version 3, and no image of those versions is longer (`older_bound`)
 pub longest_older_legal : Legal (plain regions) × (unversioned (plain regions) ≡ true)
 unfolding longest plain tested_none tested_true tested_false tested_le tested_lt tested_both tested_as tested_all
     tested_sorted tested_numbered tested_package tested_fits tested_entry tested_part tested_bundle tested_filter tested_connection tested_legal
@@ -55,7 +55,7 @@ pub longest_older : length (older_image (plain regions)) ≡ 14296
 unfolding longest plain image_in older_version
 longest_older = refl
 
--- and with the regions of version 1, and no image of that version is longer (`early-bound`)
+-- and with the regions of version 1, and no image of that version is longer (`early_bound`)
 pub longest_early_legal : Legal (plain early_regions) × (unversioned (plain early_regions) ≡ true)
 unfolding longest plain tested_none tested_true tested_false tested_le tested_lt tested_both tested_as tested_all
     tested_sorted tested_numbered tested_package tested_fits tested_entry tested_part tested_bundle tested_filter tested_connection tested_legal

@@ -1,4 +1,4 @@
--- Laws of `All` and `bytes-to`, for any element.
+-- Laws of `All` and `bytes_to`, for any element.
 use mathlib.Core.Path.{◌≡◌}
 use mathlib.Core.List.{List, [], ◌∷◌, ◌++◌}
 use Prim.Native.Nat.{ℕ, zero, suc, ◌+◌, ◌≤◌, ◌<◌}

@@ -51,7 +51,7 @@ pub record ReadAs {s : List ℕ} (f : FileMeaning s) (r : Changed) : Type 0 wher
   pub number : r.number ≡ read_number f
   pub next : meaning r.graph ≡ read_model f
 
--- whatever the file means; each file means something (`file-meaning`)
+-- whatever the file means; each file means something (`file_meaning`)
 pub record Reads (s : List ℕ) (r : Changed) : Type 0 where
   pub valid : Valid r.graph
   pub says : (f : FileMeaning s) → ReadAs f r

@@ -27,7 +27,7 @@ forward_outcome f entry = image_outcome (forward_questions f entry) (image (read
 abbrev pub back_outcome : {s : List ℕ} → FileMeaning s → List ℕ → Outcome Written (List ℕ)
 back_outcome f entry = image_outcome (back_questions f entry) (older_image (read_model f)) entry
 
--- whatever the file means; each file means something (`file-meaning`)
+-- whatever the file means; each file means something (`file_meaning`)
 abbrev pub Forwards : List ℕ → List ℕ → Written → List ℕ → Type 0
 Forwards s entry answer exit = (f : FileMeaning s) → archived answer exit ≡ forward_outcome f entry
 

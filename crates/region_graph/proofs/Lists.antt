@@ -1,4 +1,4 @@
--- Laws of tests, `keep`, `exists`, `every`, `position`, `insert-by`, `All`, `concat-map` and lists without repetitions, for any element and test.
+-- Laws of tests, `keep`, `exists`, `every`, `position`, `insert_by`, `All`, `concat_map` and lists without repetitions, for any element and test.
 use mathlib.Core.Path.{◌≡◌, refl, sym, ap, ◌∙◌, subst}
 use mathlib.Core.Bool.{Bool, true, false, not, ◌&&◌, ◌||◌, and-true, and-false, and_assoc}
 use mathlib.Core.List.{List, [], ◌∷◌, ◌++◌, map, append-nil, append_assoc}

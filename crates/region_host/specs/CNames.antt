@@ -17,7 +17,7 @@ abbrev pub name_for_c : Located → ℕ → CName
 name_for_c r start =
     pick (eqb r.refusal not_refused) (record { value = r.to - r.from; start = r.from }) (record { value = negative r.refusal; start = start })
 
--- whatever the file means; each file means something (`sheet-meaning`)
+-- whatever the file means; each file means something (`sheet_meaning`)
 abbrev pub NamedForC : List ℕ → ℕ → ℕ → ℕ → ℕ → ℕ → Type 0
 NamedForC s kind number before value after =
     (f : SheetMeaning s) → record { value = value; start = after } ≡ name_for_c (located f kind number) before

@@ -76,7 +76,7 @@ refusal_text n = refused_word ++ decimal_field n newline
 abbrev pub file_text : {s : List ℕ} → FileMeaning s → List ℕ
 file_text f = pick (eqb (read_number f) not_refused) (listing_text (read_model f)) (refusal_text (read_number f))
 
--- the bytes of the header, the most bytes of a line (`line-few`), and the bytes that the longest text has
+-- the bytes of the header, the most bytes of a line (`line_few`), and the bytes that the longest text has
 abbrev pub header_size : ℕ
 header_size = 39
 
@@ -90,6 +90,6 @@ longest_text = header_size + most_bundles * line_size
 unfoldable pub store_text : List ℕ → Text
 store_text t = record { length = length t; bytes = t ++ replicate (longest_text - length t) 0 }
 
--- whatever the file means; each file means something (`file-meaning`)
+-- whatever the file means; each file means something (`file_meaning`)
 abbrev pub ArchiveListed : List ℕ → Text → Type 0
 ArchiveListed s r = (f : FileMeaning s) → r ≡ store_text (file_text f)

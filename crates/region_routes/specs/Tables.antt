@@ -10,7 +10,7 @@ use Rattle.region_routes.specs.Hooks.{kind_number, is_installed}
 use Rattle.region_routes.specs.Resolve.{Candidate}
 use Rattle.region_routes.specs.declared.Kind.TheVariants as Kind
 
--- an entry: a number of an item with the place that it goes with, below `width`; the number `everything-number`, which no item has, stands for all
+-- an entry: a number of an item with the place that it goes with, below `width`; the number `everything_number`, which no item has, stands for all
 abbrev pub width : ℕ
 width = 2 ^ 16
 

@@ -92,7 +92,8 @@ fn plain_connections(graph: Graph) -> bool
     true
 }
 
-// Whether a graph has no versions.
+// Whether a graph has no versions. It is a call of its own, so that its copies are off the stack when the image is written.
+#[inline(never)]
 pub fn unversioned(graph: Graph) -> bool
     requires { Valid graph }
     ensures { result ≡ Image.unversioned (meaning graph) }

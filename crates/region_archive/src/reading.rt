@@ -78,23 +78,13 @@ pub fn read(bytes: &[u8]) -> Changed
     if !has_version(set, first) {
         return refused(BROKEN_LAYOUT);
     }
-    let b = section_at(
-        bytes,
-        regions.next,
-        Section::Bundles(first),
-        set,
-        &mut bundles,
-    );
+    let kind = Section::Bundles(first);
+    let b = section_at(bytes, regions.next, kind, set, &mut bundles);
     if !b.ok {
         return refused(BROKEN_LAYOUT);
     }
-    let c = section_at(
-        bytes,
-        b.next,
-        Section::Connections(first),
-        set,
-        &mut connections,
-    );
+    let kind = Section::Connections(first);
+    let c = section_at(bytes, b.next, kind, set, &mut connections);
     if !c.ok {
         return refused(BROKEN_LAYOUT);
     }

@@ -1,5 +1,5 @@
 // The reader: the front of the file, then its body as lists of numbers, and the graph of these.
-ghost use Rattle.std.specs.Prelude.{◌≡◌, ◌≤◌, length};
+ghost use Rattle.std.specs.Prelude.{◌≡◌};
 ghost use Rattle.region_graph.specs.Record.{Valid};
 ghost use Rattle.region_graph.specs.Calls.{first_no};
 ghost use Rattle.region_graph.specs.Promise.{Empty};

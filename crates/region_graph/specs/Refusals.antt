@@ -1,6 +1,8 @@
 -- The numbers of document 01's questions, and of those that requests of document 02 add, each named after the answer "no". The constants
 -- of src/refusals.rt go with them.
-use Rattle.std.specs.Prelude.{ℕ}
+use Rattle.std.specs.Prelude.{ℕ, Result, Ok, Err}
+use Rattle.region_graph.specs.declared.refusals.Refusal.{Refusal}
+use Rattle.region_graph.specs.declared.refusals.Refusal.TheVariants as Refusal
 
 -- no question was answered no: the call is accepted
 abbrev pub not_refused : ℕ
@@ -78,3 +80,32 @@ range_reversed = 20
 -- an export has a version other than 0, or a package entry does not run from 0 to 65535
 abbrev pub has_versions : ℕ
 has_versions = 21
+
+-- the number of a refusal
+abbrev pub refusal_number : Refusal → ℕ
+refusal_number Refusal.NotARegion = not_a_region
+refusal_number Refusal.RegionUsed = region_used
+refusal_number Refusal.NoSuchRegion = no_such_region
+refusal_number Refusal.EndsEqual = ends_equal
+refusal_number Refusal.Connected = connected
+refusal_number Refusal.NotConnected = not_connected
+refusal_number Refusal.ListTooLong = list_too_long
+refusal_number Refusal.ListOutOfOrder = list_out_of_order
+refusal_number Refusal.Installed = installed
+refusal_number Refusal.Filtered = filtered
+refusal_number Refusal.Full = full
+refusal_number Refusal.NotInstalled = not_installed
+refusal_number Refusal.NotAKind = not_a_kind
+refusal_number Refusal.NoPlace = no_place
+refusal_number Refusal.NotAnArchive = not_an_archive
+refusal_number Refusal.WrongLength = wrong_length
+refusal_number Refusal.BrokenLayout = broken_layout
+refusal_number Refusal.BrokenSheet = broken_sheet
+refusal_number Refusal.NoEntry = no_entry
+refusal_number Refusal.RangeReversed = range_reversed
+refusal_number Refusal.HasVersions = has_versions
+
+-- the number that an answer gives: 0, or that of its refusal
+abbrev pub answer_number : {A : Type 0} → Result A Refusal → ℕ
+answer_number (Ok a) = not_refused
+answer_number (Err r) = refusal_number r

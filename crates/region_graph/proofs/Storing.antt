@@ -34,8 +34,7 @@ use Rattle.region_graph.specs.declared.bundles.Bundles.{Bundles}
 use Rattle.region_graph.specs.declared.connections.StoredConnection.{StoredConnection}
 use Rattle.region_graph.specs.declared.connections.Connections.{Connections}
 use Rattle.region_graph.specs.declared.Graph.{Graph}
-use Rattle.region_graph.specs.Promise.{Empty, Follows}
-use Rattle.region_graph.specs.declared.Changed.{Changed}
+use Rattle.region_graph.specs.Promise.{Empty, Changed, Follows}
 use Rattle.region_graph.proofs.Lists.{pick_yes, pick_no, all_map, all_at, keep_same, member_kept, member_counted, exists_insert, eqb_sym}
 use Rattle.region_graph.proofs.Ascending.{members_back}
 use Rattle.region_graph.proofs.Bits.{has_set, set_ext, set_join, set_leave}

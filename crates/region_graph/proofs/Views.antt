@@ -1,31 +1,36 @@
 -- What the layers above read of a record: the place of a location, and the sets of holders and predecessors as bundles and connections join.
-use mathlib.Core.Path.{◌≡◌, refl, sym, ap, ap₂, ◌∙◌}
+use mathlib.Core.Path.{◌≡◌, refl, sym, ap, ap₂, ◌∙◌, subst}
 use mathlib.Core.Bool.{Bool, true, false, ◌&&◌, ◌||◌, and-true, and-false, or-false}
 use mathlib.Core.List.{List, [], ◌∷◌, map}
+use Rattle.std.specs.Prelude.{Option, Some, None, option_map, cond}
+use Rattle.std.specs.List.{find}
+use Rattle.std.specs.Option.{MatchOption}
+use denote.Ref.{Bor}
 use Prim.Native.Nat.{ℕ, zero, suc, ◌+◌, ◌≤◌, ◌<◌}
 use native.Mathlib.Numerals.{add-one}
 use native.Mathlib.Omega.{arith}
 use lib.Dec.{eqb}
 use lib.Bits.{bit_or}
-use lib.ListN.{length, get_or, take, set}
+use lib.ListN.{length, get_or, take, set, length-map}
 use lib.Seq.{take-suc}
 use borrow.Author.Tests.{eq-eqb, ne_eqb}
 use Rattle.region_graph.specs.Size.{regions}
-use Rattle.region_graph.specs.Lists.{pick, exists, position, count_from}
+use Rattle.region_graph.specs.Lists.{pick, exists, count_from, All}
 use Rattle.region_graph.specs.Sets.{singleton, set_of}
-use Rattle.region_graph.specs.Model.{Bundle, Filter, LegalConnection}
+use Rattle.region_graph.specs.Model.{Bundle, Connection, Filter, LegalConnection}
 use Rattle.region_graph.specs.Calls.{at_location}
 use Rattle.region_graph.specs.Items.{provides_of, passes_of, provides}
-use Rattle.region_graph.specs.Record.{Valid, meaning, no_bundle, no_connection}
+use Rattle.region_graph.specs.Record.{Valid, meaning, no_bundle, no_connection, store_bundle, bundle_in, store_connection, connection_in}
+use Rattle.region_graph.specs.Places.{ShortBundle, ShortConnection, BundleStored, ConnectionStored}
 use Rattle.region_graph.specs.Promise.{place_of, provider_place}
 use Rattle.region_graph.specs.declared.Graph.{Graph}
 use Rattle.region_graph.specs.declared.Item.{Item}
-use Rattle.region_graph.specs.declared.Place.{Place}
-use Rattle.region_graph.specs.declared.Place.TheVariants.{Within, Nowhere}
+use Rattle.region_graph.specs.declared.bundles.StoredBundle.{StoredBundle}
 use Rattle.region_graph.specs.declared.connections.StoredConnection.{StoredConnection}
 use Rattle.region_graph.proofs.Lists.{exists_append, all_at, member_all}
 use Rattle.region_graph.proofs.Bits.{set_ext, set_none, set_join}
-use Rattle.region_graph.proofs.Arrays.{filled_at, filled_inside}
+use Rattle.region_graph.proofs.Arrays.{getD_map_in, filled_at, filled_inside}
+use Rattle.region_graph.proofs.Storing.{stored_as, bundle_back, connection_back, bundles_stored, connections_stored}
 use Rattle.region_graph.proofs.PlaceLoops.{Storage, graph_connections, reading_inside, reading_means, reading_test, Folding, folding_next}
 
 -- lists
@@ -85,50 +90,98 @@ passes_none (suc zero) i p f g h = absurd (g refl)
 passes_none (suc (suc zero)) i p f g h = absurd (h refl)
 passes_none (suc (suc (suc k))) i p f g h = refl
 
--- what is told of the first bundle at a location
+-- the bundles and the connections of a valid record as slices: what stands at a place
 
-module _ (l : ℕ) (tell : Bundle → Place) (told : List Bundle → Place) (none : told [] ≡ Nowhere)
+module _ {A B : Type 0} {store : A → B} {items : List B} {xs : List A} (s : items ≡ map store xs) where
+  pub stored_length : length items ≡ length xs
+  stored_length = rw s (length-map xs store)
+
+  pub stored_at : (i : ℕ) (e : B) (d : A) → i < length items → get_or items i e ≡ store (get_or xs i d)
+  stored_at i e d l = rw s (getD_map_in store xs i e d (omega (arith, stored_length)))
+
+-- each bundle, and each connection, is stored from one with short lists
+pub stored_bundles : (bs : List Bundle) → All ShortBundle bs → All BundleStored (map store_bundle bs)
+stored_bundles [] h = tt
+stored_bundles (b ∷ bs) h = (stored_as store_bundle bundle_in ShortBundle (λ b h. bundle_back b) b refl h.0, stored_bundles bs h.1)
+
+pub stored_connections : (cs : List Connection) → All ShortConnection cs → All ConnectionStored (map store_connection cs)
+stored_connections [] h = tt
+stored_connections (c ∷ cs) h = (stored_as store_connection connection_in ShortConnection connection_back c refl h.0, stored_connections cs h.1)
+
+module _ (g : Graph) (v : Valid g) where
+  pub bundles_each_stored : All BundleStored (map store_bundle (meaning g).bundles)
+  unfolding meaning
+  bundles_each_stored = stored_bundles (meaning g).bundles (bundles_stored g v).good.each
+
+  pub connections_each_stored : All ConnectionStored (map store_connection (meaning g).connections)
+  unfolding meaning
+  connections_each_stored = stored_connections (meaning g).connections (connections_stored g v).good.each
+
+  module _ {items : List StoredBundle} (s : items ≡ map store_bundle (meaning g).bundles) where
+    pub bundle_stored_at : (i : ℕ) (e : StoredBundle) → i < length items → BundleStored (get_or items i e)
+    bundle_stored_at i e l = all_at BundleStored items i e l (subst (All BundleStored) (sym s) bundles_each_stored)
+
+    pub bundle_means_at : (i : ℕ) (e : StoredBundle) → i < length items → bundle_in (get_or items i e) ≡ get_or (meaning g).bundles i no_bundle
+    bundle_means_at i e l = ap bundle_in (stored_at s i e no_bundle l) ∙ bundle_back (get_or (meaning g).bundles i no_bundle)
+
+  module _ {items : List StoredConnection} (s : items ≡ map store_connection (meaning g).connections) where
+    pub connection_stored_at : (i : ℕ) (e : StoredConnection) → i < length items → ConnectionStored (get_or items i e)
+    connection_stored_at i e l = all_at ConnectionStored items i e l (subst (All ConnectionStored) (sym s) connections_each_stored)
+
+    pub connection_means_at : (i : ℕ) (e : StoredConnection) → i < length items → connection_in (get_or items i e) ≡ get_or (meaning g).connections i no_connection
+    unfolding meaning
+    connection_means_at i e l =
+        ap connection_in (stored_at s i e no_connection l)
+        ∙ connection_back (get_or (meaning g).connections i no_connection)
+        (all_at ShortConnection (meaning g).connections i no_connection (omega (arith, stored_length s)) (connections_stored g v).good.each)
+
+-- what is told of the first bundle at a location, where `installed` has looked for it
+
+abbrev pub Installed : ℕ → List StoredBundle → Option (Bor StoredBundle) → Type 0
+Installed l items o = option_map (λ b. b.now) o ≡ find (λ b. eqb b.location l) items
+
+of_lent : {A : Type 0} (o : Option (Bor A)) {P : Type 0} {Q : A → Type 0} → MatchOption (option_map (λ b. b.now) o) P Q → MatchOption o P (λ b. Q b.now)
+of_lent None h = h
+of_lent (Some b) h = h
+
+module _ (l : ℕ) (tell : Bundle → Option ℕ) (told : List Bundle → Option ℕ) (none : told [] ≡ None)
     (more : (b : Bundle) (bs : List Bundle) → told (b ∷ bs) ≡ pick (at_location l b) (tell b) (told bs)) where
-  told_found : (bs : List Bundle) → position (at_location l) bs < length bs → tell (get_or bs (position (at_location l) bs) no_bundle) ≡ told bs
-  told_found [] h = absurd (omega arith)
-  told_found (b ∷ bs) h = go (at_location l b) (told_found bs) h ∙ sym (more b bs)
+  first_told : (bs : List Bundle) → MatchOption (find (λ b. eqb b.location l) (map store_bundle bs)) (None ≡ told bs) (λ b. tell (bundle_in b) ≡ told bs)
+  first_told [] = sym none
+  first_told (b ∷ bs) = rw (more b bs) (go (eqb b.location l) (first_told bs))
     where
-      go : (t : Bool)
-          → (position (at_location l) bs < length bs → tell (get_or bs (position (at_location l) bs) no_bundle) ≡ told bs)
-          → pick t 0 (suc (position (at_location l) bs)) < suc (length bs)
-          → tell (get_or (b ∷ bs) (pick t 0 (suc (position (at_location l) bs))) no_bundle) ≡ pick t (tell b) (told bs)
-      go true r k = refl
-      go false r k = r (omega arith)
+      go : (t : Bool) → MatchOption (find (λ b. eqb b.location l) (map store_bundle bs)) (None ≡ told bs) (λ b. tell (bundle_in b) ≡ told bs)
+          → MatchOption (cond t (Some (store_bundle b)) (find (λ b. eqb b.location l) (map store_bundle bs)))
+          (None ≡ pick t (tell b) (told bs)) (λ y. tell (bundle_in y) ≡ pick t (tell b) (told bs))
+      go true h = ap tell (bundle_back b)
+      go false h = h
 
-  -- no bundle is at the location
-  told_missed : (bs : List Bundle) → length bs ≤ position (at_location l) bs → Nowhere ≡ told bs
-  told_missed [] h = sym none
-  told_missed (b ∷ bs) h = go (at_location l b) (told_missed bs) h ∙ sym (more b bs)
+  lent_told : {o : Option (Bor StoredBundle)} {items : List StoredBundle} {bs : List Bundle} → items ≡ map store_bundle bs → Installed l items o
+      → MatchOption o (None ≡ told bs) (λ b. tell (bundle_in b.now) ≡ told bs)
+  lent_told {o} {items} {bs} s e =
+      of_lent o (rw (e ∙ ap (find (λ b. eqb b.location l)) s) (first_told bs))
+
+module _ {l : ℕ} {o : Option (Bor StoredBundle)} {items : List StoredBundle} {bs : List Bundle} (s : items ≡ map store_bundle bs) (e : Installed l items o) where
+  -- its region
+  pub place_told : MatchOption o (None ≡ place_of bs l) (λ b. Some b.now.region ≡ place_of bs l)
+  place_told = lent_told l (λ b. Some b.region) (λ bs. place_of bs l) refl (λ b bs. refl) s e
+
+  -- its region, where it provides an item
+  pub provider_told : (i : Item)
+      → MatchOption o (None ≡ provider_place bs l i) (λ b. pick (provides i (bundle_in b.now)) (Some b.now.region) None ≡ provider_place bs l i)
+  provider_told i = lent_told l (λ b. pick (provides i b) (Some b.region) None) (λ bs. provider_place bs l i) refl (λ b bs. refl) s e
+
+  -- it is one of the bundles
+  pub installed_stored : All BundleStored items → MatchOption o (Unit {0}) (λ b. BundleStored b.now)
+  installed_stored h = of_lent o (rw e (found items h))
     where
-      go : (t : Bool) → (length bs ≤ position (at_location l) bs → Nowhere ≡ told bs)
-          → suc (length bs) ≤ pick t 0 (suc (position (at_location l) bs)) → Nowhere ≡ pick t (tell b) (told bs)
-      go true r k = absurd (omega arith)
-      go false r k = r (omega arith)
-
--- the region of a location, and that of one whose bundle provides an item
-module _ (l : ℕ) where
-  pub place_found : (bs : List Bundle) → position (at_location l) bs < length bs
-      → Within (get_or bs (position (at_location l) bs) no_bundle).region ≡ place_of bs l
-  place_found = told_found l (λ b. Within b.region) (λ bs. place_of bs l) refl (λ b bs. refl)
-
-  pub place_missed : (bs : List Bundle) → length bs ≤ position (at_location l) bs → Nowhere ≡ place_of bs l
-  place_missed = told_missed l (λ b. Within b.region) (λ bs. place_of bs l) refl (λ b bs. refl)
-
-  module _ (i : Item) where
-    abbrev provided_in : Bundle → Place
-    provided_in b = pick (provides i b) (Within b.region) Nowhere
-
-    pub provider_found : (bs : List Bundle) → position (at_location l) bs < length bs
-        → provided_in (get_or bs (position (at_location l) bs) no_bundle) ≡ provider_place bs l i
-    provider_found = told_found l provided_in (λ bs. provider_place bs l i) refl (λ b bs. refl)
-
-    pub provider_missed : (bs : List Bundle) → length bs ≤ position (at_location l) bs → Nowhere ≡ provider_place bs l i
-    provider_missed = told_missed l provided_in (λ bs. provider_place bs l i) refl (λ b bs. refl)
+      found : (ys : List StoredBundle) → All BundleStored ys → MatchOption (find (λ b. eqb b.location l) ys) (Unit {0}) BundleStored
+      found [] h = tt
+      found (y ∷ ys) h = go (eqb y.location l)
+        where
+          go : (t : Bool) → MatchOption (cond t (Some y) (find (λ b. eqb b.location l) ys)) (Unit {0}) BundleStored
+          go true = h.0
+          go false = found ys h.1
 
 -- the set of the regions to which some element leads, as one element more comes in
 

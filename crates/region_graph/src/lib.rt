@@ -21,7 +21,8 @@ pub use connections::StoredConnection;
 pub use numbers::{Numbers, Provided, has_number};
 pub use packages::{Entries, Packages, has_package};
 
-// R as a set, B and F in ascending order in the first places of their arrays.
+// R as a set, B and F in ascending order in the first places of their arrays. C lends one as bytes of any content, to be made the empty
+// one, so that it is no invariant of the type but a clause of each function that the graph is valid.
 #[repr(C)]
 #[derive(Clone, Copy)]
 pub struct Graph {
@@ -37,19 +38,13 @@ pub struct Changed {
     pub number: u32,
 }
 
-// A number of one of the kinds 0 bundle, 1 package and 2 service, and a version, which counts for a package alone.
+// A number of one of the kinds 0 bundle, 1 package and 2 service, and a version, which counts for a package alone. A kind is a number since
+// the functions that take an item answer for every kind: of any other nothing is held and nothing passes.
 #[derive(Clone, Copy)]
 pub struct Item {
     pub kind: u32,
     pub number: u32,
     pub version: u16,
-}
-
-// The region in which a location is installed.
-#[derive(Clone, Copy)]
-pub enum Place {
-    Within(u32),
-    Nowhere,
 }
 
 impl Graph {

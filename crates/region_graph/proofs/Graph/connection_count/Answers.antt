@@ -1,7 +1,5 @@
-use Rattle.region_graph.specs.Record.{meaning}
-use Rattle.region_graph.proofs.Storing.{connections_stored, connections_filled}
+use Rattle.region_graph.proofs.PlaceLoops.{graph_connections}
 use Rattle.region_graph.proofs.Graph.connection_count.Goals as goal
 
 pub returns : goal.returns
-unfolding meaning
-returns c = (connections_filled c.args.self.connections (connections_stored c.args.self c.requires)).counted
+returns c = (graph_connections c.args.self.now c.requires).filled.counted

@@ -1,33 +1,25 @@
-use native.Mathlib.Omega.{arith}
-use Rattle.region_graph.specs.Items.{provides}
-use Rattle.region_graph.specs.Record.{meaning}
-use Rattle.region_graph.proofs.Storing.{bundles_stored, bundle_stored}
-use Rattle.region_graph.proofs.PlaceLoops.{bundles_reading, folding_start, folding_end}
-use Rattle.region_graph.proofs.Views.{held, held_none, holding_took, holding_left}
+use Rattle.std.proofs.Common.{rules, ◌≡◌, length, map, ℕ, ◌+◌, ◌-◌, ◌*◌, ◌<◌, ◌≤◌, ◌/◌, ◌%◌, Bool, true, false, nat_eq, nat_lt, List, [], ◌∷◌, ◌++◌, slice_index_or, slice_set, bit_and, bit_or, Fits, w8, w32, w64, Bor, MutBor}
+use Rattle.region_graph.specs.Lists.{exists, member}
+use Rattle.region_graph.specs.Calls.{of_listed}
+use Rattle.region_graph.specs.Sets.{set_of}
+use Rattle.region_graph.specs.Items.{provides, passes, entry_passes}
+use Rattle.region_graph.specs.Record.{Valid, meaning, store_bundle, store_connection, bundle_in, connection_in, part_in, package_part_in}
+use Rattle.region_graph.specs.Places.{BundleStored, ConnectionStored, PartStored, PackagePartStored}
+use Rattle.region_graph.specs.Promise.{place_of, provider_place, holder_set, predecessor_sets, bundle_at, connection_at}
 use Rattle.region_graph.proofs.Graph.holders.Goals as goal
 
-pub loop-i-init : goal.loop-i-init
-loop-i-init c =
-    let s = c in
-    folding_start (bundles_reading s.args.self.bundles (bundles_stored s.args.self s.requires))
-    (held_none (λ b. b.region) (provides s.args.item))
+-- src/view.rt:125:9
+pub loop-b-init : goal.loop-b-init
+loop-b-init c = ?
 
+-- src/view.rt:126:16
 pub bundle_provides-requires : goal.bundle_provides-requires
-bundle_provides-requires c =
-    let s = c in
-    bundle_stored s.args.self.bundles (bundles_stored s.args.self s.requires) c.loop-i.i _ (omega arith)
+bundle_provides-requires c = ?
 
-pub loop-i-preserved-then-bundle_provides : goal.loop-i-preserved-then-bundle_provides
-loop-i-preserved-then-bundle_provides c =
-    let a = c in
-    holding_took (λ b. b.region) (provides a.args.item) a.loop-i.invariant (omega arith) _
-    c.bundle_provides.ensures c.if-bundle_provides.true c.singleton-set.ensures
+-- src/view.rt:125:9
+pub loop-b-preserved : goal.loop-b-preserved
+loop-b-preserved c = ?
 
-pub loop-i-preserved : goal.loop-i-preserved
-loop-i-preserved c =
-    let a = c in
-    holding_left (λ b. b.region) (provides a.args.item) a.loop-i.invariant (omega arith) _ c.bundle_provides.ensures c.if-bundle_provides.false
-
+-- src/view.rt:120:5
 pub returns : goal.returns
-unfolding meaning held
-returns c = folding_end c.loop-i.invariant (omega arith)
+returns c = ?

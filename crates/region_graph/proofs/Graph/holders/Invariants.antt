@@ -1,13 +1,12 @@
-use Prim.Native.Nat.{◌-◌}
-use Rattle.region_graph.specs.Items.{provides}
-use Rattle.region_graph.specs.Record.{bundles_of}
-use Rattle.region_graph.proofs.PlaceLoops.{bundle_storage, Folding}
-use Rattle.region_graph.proofs.Views.{held}
+use Rattle.std.proofs.Common.{◌≡◌, length, map, ℕ, ◌+◌, ◌-◌, ◌*◌, ◌<◌, ◌≤◌}
+use Rattle.region_graph.specs.Lists.{exists, member}
+use Rattle.region_graph.specs.Calls.{of_listed}
+use Rattle.region_graph.specs.Sets.{set_of}
+use Rattle.region_graph.specs.Items.{provides, passes, entry_passes}
+use Rattle.region_graph.specs.Record.{Valid, meaning, store_bundle, store_connection, bundle_in, connection_in, part_in, package_part_in}
+use Rattle.region_graph.specs.Places.{BundleStored, ConnectionStored, PartStored, PackagePartStored}
+use Rattle.region_graph.specs.Promise.{place_of, provider_place, holder_set, predecessor_sets, bundle_at, connection_at}
 use Rattle.region_graph.proofs.Graph.holders.Given as goal
 
-abbrev pub invariant-loop-i : goal.invariant-loop-i
-invariant-loop-i l =
-    Folding bundle_storage (held (λ b. b.region) (provides l.item)) l.bundles.items l.bundles.count (bundles_of l.bundles) l.set l.i
-
-abbrev pub decreases-loop-i : goal.decreases-loop-i
-decreases-loop-i l = l.bundles.count - l.i
+abbrev pub invariant-loop-b : goal.invariant-loop-b
+invariant-loop-b l = ?

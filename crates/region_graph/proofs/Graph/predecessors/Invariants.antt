@@ -1,14 +1,12 @@
-use Prim.Native.Nat.{◌-◌}
-use Rattle.region_graph.specs.Items.{passes}
-use Rattle.region_graph.specs.Record.{connections_of}
-use Rattle.region_graph.proofs.PlaceLoops.{connection_storage, Folding}
-use Rattle.region_graph.proofs.Views.{led}
+use Rattle.std.proofs.Common.{◌≡◌, length, map, ℕ, ◌+◌, ◌-◌, ◌*◌, ◌<◌, ◌≤◌}
+use Rattle.region_graph.specs.Lists.{exists, member}
+use Rattle.region_graph.specs.Calls.{of_listed}
+use Rattle.region_graph.specs.Sets.{set_of}
+use Rattle.region_graph.specs.Items.{provides, passes, entry_passes}
+use Rattle.region_graph.specs.Record.{Valid, meaning, store_bundle, store_connection, bundle_in, connection_in, part_in, package_part_in}
+use Rattle.region_graph.specs.Places.{BundleStored, ConnectionStored, PartStored, PackagePartStored}
+use Rattle.region_graph.specs.Promise.{place_of, provider_place, holder_set, predecessor_sets, bundle_at, connection_at}
 use Rattle.region_graph.proofs.Graph.predecessors.Given as goal
 
-abbrev pub invariant-loop-i : goal.invariant-loop-i
-invariant-loop-i l =
-    Folding connection_storage (led (λ c. c.source) (λ c. c.target) (λ c. passes l.item c.filter)) l.connections.items l.connections.count
-    (connections_of l.connections) l.sets l.i
-
-abbrev pub decreases-loop-i : goal.decreases-loop-i
-decreases-loop-i l = l.connections.count - l.i
+abbrev pub invariant-loop-c : goal.invariant-loop-c
+invariant-loop-c l = ?

@@ -12,4 +12,5 @@ pub mod Promise
 pub mod Flat
 -- What only private functions cite.
 pub mod Places
+pub mod Handed
 pub mod Decoded

@@ -1,5 +1,6 @@
 -- What the functions of the record ask of its parts, and the tests by which they search and filter them.
-use Rattle.std.specs.Prelude.{Bool, ◌&&◌, ◌||◌, List, ◌++◌, ℕ, ◌≤◌, eqb, ltb, length, drop}
+use Rattle.std.specs.Prelude.{◌≡◌, Bool, true, false, ◌&&◌, ◌||◌, List, ◌∷◌, ◌++◌, ℕ, ◌+◌, ◌-◌, ◌≤◌, eqb, ltb, length, take, drop, replicate, filter}
+use Rattle.std.specs.List.Sorted.{IsPartitionedBy, IsPartitionPoint}
 use Rattle.region_graph.specs.Size.{most_bundles, most_connections, most_listed, most_provided}
 use Rattle.region_graph.specs.Lists.{All}
 use Rattle.region_graph.specs.Model.{Bundle, Part, Connection}
@@ -74,6 +75,19 @@ BundlesStored bs = Stored store_bundles bundles_of (AtMost most_bundles ShortBun
 
 abbrev pub ConnectionsStored : Connections → Type 0
 ConnectionsStored cs = Stored store_connections connections_of (AtMost most_connections ShortConnection) cs
+
+-- of the first `count` places those that pass are kept, the places that they leave hold `blank`, and the others are as they were
+abbrev pub Retained : {A : Type 0} → (A → Bool) → List A → ℕ → A → ℕ → List A → Type 0
+Retained p old count blank kept new =
+    (kept ≡ length (filter p (take count old)))
+    × (new ≡ filter p (take count old) ++ (replicate (count - kept) blank ++ drop count old))
+
+-- an item stands behind those of the first `count` places that come before it, where these stand first; one place behind them is given up
+abbrev pub Inserted : {A : Type 0} → (A → Bool) → List A → ℕ → A → List A → Type 0
+Inserted p old count item new =
+    IsPartitionedBy p (take count old)
+    → (at : ℕ) × (at ≤ count) × IsPartitionPoint (λ x. p x ≡ true) (λ x. p x ≡ false) (take count old) at
+    × (new ≡ take at old ++ (item ∷ (drop at (take count old) ++ drop (count + 1) old)))
 
 -- the tests by which bundles and connections are looked for and left out
 abbrev pub bundle_meets : BundleTest → Bundle → Bool

@@ -7,6 +7,7 @@ mod connections;
 pub mod flat;
 mod numbers;
 mod packages;
+mod places;
 pub mod refusals;
 pub mod region_set;
 pub mod size;
@@ -15,11 +16,11 @@ mod view;
 ghost use Rattle.region_graph.specs.Promise.{Empty};
 
 use bundles::Bundles;
-pub use bundles::StoredBundle;
+pub use bundles::{BundleLists, StoredBundle};
 use connections::Connections;
-pub use connections::StoredConnection;
+pub use connections::{FilterLists, StoredConnection};
 pub use numbers::{Numbers, Provided, has_number};
-pub use packages::{Entries, Packages, has_package};
+pub use packages::{Entries, EntryList, PackageList, Packages, PartList, has_package};
 
 // R as a set, B and F in ascending order in the first places of their arrays. C lends one as bytes of any content, to be made the empty
 // one, so that it is no invariant of the type but a clause of each function that the graph is valid.

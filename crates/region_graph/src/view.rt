@@ -2,20 +2,18 @@
 ghost use Rattle.std.specs.Prelude.{◌≡◌, nat_eq, length, map, option_map};
 ghost use Rattle.std.specs.List.{find};
 ghost use Rattle.region_graph.specs.Lists.{exists, member};
-ghost use Rattle.region_graph.specs.Calls.{of_listed};
+ghost use Rattle.region_graph.specs.Calls.{at_location, names, joins};
 ghost use Rattle.region_graph.specs.Sets.{set_of};
-ghost use Rattle.region_graph.specs.Items.{provides, passes, entry_passes};
-ghost use Rattle.region_graph.specs.Record.{Valid, meaning, store_bundle, store_connection, bundle_in, connection_in, «part_in», package_part_in};
-ghost use Rattle.region_graph.specs.Places.{BundleStored, ConnectionStored, PartStored, PackagePartStored};
+ghost use Rattle.region_graph.specs.Items.{provides, passes};
+ghost use Rattle.region_graph.specs.Record.{Valid, meaning, store_bundle, store_connection, bundle_in, connection_in};
+ghost use Rattle.region_graph.specs.Places.{BundleStored, ConnectionStored};
 ghost use Rattle.region_graph.specs.Promise.{«place_of», provider_place, holder_set, predecessor_sets};
 ghost use Rattle.region_graph.specs.Promise.{bundle_at, connection_at};
 
 use crate::bundles::{StoredBundle, no_bundle};
 use crate::connections::{StoredConnection, no_connection};
-use crate::numbers::{Numbers, has_number};
-use crate::packages::{Entries, entries_pass, has_package};
 use crate::region_set::singleton;
-use crate::size::{EVERYTHING, REGIONS};
+use crate::size::REGIONS;
 use crate::{Graph, Item};
 
 // Whether a bundle brings an item to its region.
@@ -25,40 +23,10 @@ fn bundle_provides(b: &StoredBundle, item: Item) -> bool
 {
     match item.kind {
         0 => b.location == item.number,
-        1 => {
-            let count = b.packages.count;
-            has_package(
-                &b.packages.numbers[..count],
-                &b.packages.versions[..count],
-                item.number,
-                item.version,
-            )
-        }
-        2 => has_number(&b.services.items[..b.services.count], item.number),
+        1 => b.packages.as_list().has(item.number, item.version),
+        2 => b.services.as_slice().contains(&item.number),
         _ => false,
     }
-}
-
-fn part_passes(part: &Numbers, number: u32) -> bool
-    requires { PartStored part.now }
-    ensures { result ≡ of_listed (member number) (part_in part.now) }
-{
-    part.count == EVERYTHING || has_number(&part.items[..part.count], number)
-}
-
-fn package_part_passes(part: &Entries, number: u32, version: u16) -> bool
-    requires { PackagePartStored part.now }
-    ensures { result ≡ of_listed (exists (entry_passes number version)) (package_part_in part.now) }
-{
-    let count = part.count;
-    count == EVERYTHING
-        || entries_pass(
-            &part.numbers[..count],
-            &part.lowest[..count],
-            &part.highest[..count],
-            number,
-            version,
-        )
 }
 
 // Whether a connection's filter passes an item.
@@ -67,9 +35,9 @@ fn connection_passes(c: &StoredConnection, item: Item) -> bool
     ensures { result ≡ passes item (connection_in c.now).filter }
 {
     match item.kind {
-        0 => has_number(&c.bundles.items[..c.bundles.count], item.number),
-        1 => package_part_passes(&c.packages, item.number, item.version),
-        2 => part_passes(&c.services, item.number),
+        0 => c.bundles.as_slice().contains(&item.number),
+        1 => c.packages.as_part().passes(item.number, item.version),
+        2 => c.services.as_part().passes(item.number),
         _ => false,
     }
 }
@@ -95,7 +63,7 @@ impl Graph {
         requires { Valid self.now }
         ensures { result.now ≡ map store_bundle (meaning self.now).bundles }
     {
-        &self.bundles.items[..self.bundles.count]
+        self.bundles.as_slice()
     }
 
     // The connections in ascending order of source and target.
@@ -103,7 +71,36 @@ impl Graph {
         requires { Valid self.now }
         ensures { result.now ≡ map store_connection (meaning self.now).connections }
     {
-        &self.connections.items[..self.connections.count]
+        self.connections.as_slice()
+    }
+
+    // Whether a bundle is at a location.
+    pub(crate) fn has_bundle(&self, location: u32) -> bool
+        requires { Valid self.now }
+        ensures { result ≡ exists (at_location location) (meaning self.now).bundles }
+    {
+        self.bundles().iter().any(|b| b.location == location)
+    }
+
+    // Whether a connection leads from one region to another.
+    pub(crate) fn has_connection(&self, source: u32, target: u32) -> bool
+        requires { Valid self.now }
+        ensures { result ≡ exists (joins source target) (meaning self.now).connections }
+    {
+        self.connections().iter().any(|c| c.joins(source, target))
+    }
+
+    // Whether a connection that leaves a region names a location in its bundle part.
+    pub(crate) fn names(&self, region: u32, location: u32) -> bool
+        requires { Valid self.now }
+        ensures { result ≡ exists (names region location) (meaning self.now).connections }
+    {
+        for c in self.connections() {
+            if c.names(region, location) {
+                return true;
+            }
+        }
+        false
     }
 
     // The region in which a location is installed.

@@ -92,7 +92,7 @@ passes_none (suc (suc (suc k))) i p f g h = refl
 
 -- the bundles and the connections of a valid record as slices: what stands at a place
 
-module _ {A B : Type 0} {store : A → B} {items : List B} {xs : List A} (s : items ≡ map store xs) where
+module _ {A B : Type 0} (store : A → B) {items : List B} (xs : List A) (s : items ≡ map store xs) where
   pub stored_length : length items ≡ length xs
   stored_length = rw s (length-map xs store)
 
@@ -118,31 +118,46 @@ module _ (g : Graph) (v : Valid g) where
   connections_each_stored = stored_connections (meaning g).connections (connections_stored g v).good.each
 
   module _ {items : List StoredBundle} (s : items ≡ map store_bundle (meaning g).bundles) where
+    pub bundles_stored_as : All BundleStored items
+    bundles_stored_as = subst (All BundleStored) (sym s) bundles_each_stored
+
     pub bundle_stored_at : (i : ℕ) (e : StoredBundle) → i < length items → BundleStored (get_or items i e)
-    bundle_stored_at i e l = all_at BundleStored items i e l (subst (All BundleStored) (sym s) bundles_each_stored)
+    bundle_stored_at i e l = all_at BundleStored items i e l bundles_stored_as
 
     pub bundle_means_at : (i : ℕ) (e : StoredBundle) → i < length items → bundle_in (get_or items i e) ≡ get_or (meaning g).bundles i no_bundle
-    bundle_means_at i e l = ap bundle_in (stored_at s i e no_bundle l) ∙ bundle_back (get_or (meaning g).bundles i no_bundle)
+    bundle_means_at i e l = ap bundle_in (stored_at store_bundle (meaning g).bundles s i e no_bundle l) ∙ bundle_back (get_or (meaning g).bundles i no_bundle)
 
   module _ {items : List StoredConnection} (s : items ≡ map store_connection (meaning g).connections) where
+    pub connections_stored_as : All ConnectionStored items
+    connections_stored_as = subst (All ConnectionStored) (sym s) connections_each_stored
+
     pub connection_stored_at : (i : ℕ) (e : StoredConnection) → i < length items → ConnectionStored (get_or items i e)
-    connection_stored_at i e l = all_at ConnectionStored items i e l (subst (All ConnectionStored) (sym s) connections_each_stored)
+    connection_stored_at i e l = all_at ConnectionStored items i e l connections_stored_as
 
     pub connection_means_at : (i : ℕ) (e : StoredConnection) → i < length items → connection_in (get_or items i e) ≡ get_or (meaning g).connections i no_connection
     unfolding meaning
     connection_means_at i e l =
-        ap connection_in (stored_at s i e no_connection l)
+        ap connection_in (stored_at store_connection (meaning g).connections s i e no_connection l)
         ∙ connection_back (get_or (meaning g).connections i no_connection)
-        (all_at ShortConnection (meaning g).connections i no_connection (omega (arith, stored_length s)) (connections_stored g v).good.each)
+        (all_at ShortConnection (meaning g).connections i no_connection (omega (arith, stored_length store_connection (meaning g).connections s)) (connections_stored g v).good.each)
 
 -- what is told of the first bundle at a location, where `installed` has looked for it
 
 abbrev pub Installed : ℕ → List StoredBundle → Option (Bor StoredBundle) → Type 0
 Installed l items o = option_map (λ b. b.now) o ≡ find (λ b. eqb b.location l) items
 
-of_lent : {A : Type 0} (o : Option (Bor A)) {P : Type 0} {Q : A → Type 0} → MatchOption (option_map (λ b. b.now) o) P Q → MatchOption o P (λ b. Q b.now)
-of_lent None h = h
-of_lent (Some b) h = h
+of_lent : {A : Type 0} (o : Option (Bor A)) (P : Type 0) (Q : A → Type 0) → MatchOption (option_map (λ b. b.now) o) P Q → MatchOption o P (λ b. Q b.now)
+of_lent None P Q h = h
+of_lent (Some b) P Q h = h
+
+found_stored : (l : ℕ) (ys : List StoredBundle) → All BundleStored ys → MatchOption (find (λ b. eqb b.location l) ys) (Unit {0}) BundleStored
+found_stored l [] h = tt
+found_stored l (y ∷ ys) h = go (eqb y.location l) (found_stored l ys h.1)
+  where
+    go : (t : Bool) → MatchOption (find (λ b. eqb b.location l) ys) (Unit {0}) BundleStored
+        → MatchOption (cond t (Some y) (find (λ b. eqb b.location l) ys)) (Unit {0}) BundleStored
+    go true k = h.0
+    go false k = k
 
 module _ (l : ℕ) (tell : Bundle → Option ℕ) (told : List Bundle → Option ℕ) (none : told [] ≡ None)
     (more : (b : Bundle) (bs : List Bundle) → told (b ∷ bs) ≡ pick (at_location l b) (tell b) (told bs)) where
@@ -156,32 +171,24 @@ module _ (l : ℕ) (tell : Bundle → Option ℕ) (told : List Bundle → Option
       go true h = ap tell (bundle_back b)
       go false h = h
 
-  lent_told : {o : Option (Bor StoredBundle)} {items : List StoredBundle} {bs : List Bundle} → items ≡ map store_bundle bs → Installed l items o
+  lent_told : (o : Option (Bor StoredBundle)) (bs : List Bundle) {items : List StoredBundle} → items ≡ map store_bundle bs → Installed l items o
       → MatchOption o (None ≡ told bs) (λ b. tell (bundle_in b.now) ≡ told bs)
-  lent_told {o} {items} {bs} s e =
-      of_lent o (rw (e ∙ ap (find (λ b. eqb b.location l)) s) (first_told bs))
+  lent_told o bs s e =
+      of_lent o (None ≡ told bs) (λ b. tell (bundle_in b) ≡ told bs) (rw (e ∙ ap (find (λ b. eqb b.location l)) s) (first_told bs))
 
-module _ {l : ℕ} {o : Option (Bor StoredBundle)} {items : List StoredBundle} {bs : List Bundle} (s : items ≡ map store_bundle bs) (e : Installed l items o) where
+module _ (l : ℕ) (o : Option (Bor StoredBundle)) (bs : List Bundle) {items : List StoredBundle} (s : items ≡ map store_bundle bs) (e : Installed l items o) where
   -- its region
   pub place_told : MatchOption o (None ≡ place_of bs l) (λ b. Some b.now.region ≡ place_of bs l)
-  place_told = lent_told l (λ b. Some b.region) (λ bs. place_of bs l) refl (λ b bs. refl) s e
+  place_told = lent_told l (λ b. Some b.region) (λ bs. place_of bs l) refl (λ b bs. refl) o bs s e
 
   -- its region, where it provides an item
   pub provider_told : (i : Item)
       → MatchOption o (None ≡ provider_place bs l i) (λ b. pick (provides i (bundle_in b.now)) (Some b.now.region) None ≡ provider_place bs l i)
-  provider_told i = lent_told l (λ b. pick (provides i b) (Some b.region) None) (λ bs. provider_place bs l i) refl (λ b bs. refl) s e
+  provider_told i = lent_told l (λ b. pick (provides i b) (Some b.region) None) (λ bs. provider_place bs l i) refl (λ b bs. refl) o bs s e
 
   -- it is one of the bundles
   pub installed_stored : All BundleStored items → MatchOption o (Unit {0}) (λ b. BundleStored b.now)
-  installed_stored h = of_lent o (rw e (found items h))
-    where
-      found : (ys : List StoredBundle) → All BundleStored ys → MatchOption (find (λ b. eqb b.location l) ys) (Unit {0}) BundleStored
-      found [] h = tt
-      found (y ∷ ys) h = go (eqb y.location l)
-        where
-          go : (t : Bool) → MatchOption (cond t (Some y) (find (λ b. eqb b.location l) ys)) (Unit {0}) BundleStored
-          go true = h.0
-          go false = found ys h.1
+  installed_stored h = of_lent o (Unit {0}) BundleStored (rw e (found_stored l items h))
 
 -- the set of the regions to which some element leads, as one element more comes in
 

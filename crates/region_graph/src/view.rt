@@ -79,7 +79,7 @@ impl Graph {
         requires { Valid self.now }
         ensures { result ≡ exists (at_location location) (meaning self.now).bundles }
     {
-        self.bundles().iter().any(|b| b.location == location)
+        self.region_of(location).is_some()
     }
 
     // Whether a connection leads from one region to another.

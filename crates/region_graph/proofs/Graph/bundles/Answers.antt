@@ -1,11 +1,11 @@
-use native.Mathlib.Omega.{arith}
+use mathlib.Core.Path.{◌∙◌}
 use Rattle.region_graph.specs.Record.{meaning}
-use Rattle.region_graph.proofs.Arrays.{filled_taken}
-use Rattle.region_graph.proofs.PlaceLoops.{graph_bundles}
+use Rattle.region_graph.proofs.Storing.{bundles_stored}
 use Rattle.region_graph.proofs.Graph.bundles.Goals as goal
 
-pub shared_ref_as_front-result : goal.shared_ref_as_front-result
-shared_ref_as_front-result c = (graph_bundles c.args.self.now c.requires).few
+pub as_slice-requires : goal.as_slice-requires
+as_slice-requires c = bundles_stored c.args.self.now c.requires
 
 pub returns : goal.returns
-returns c = filled_taken (graph_bundles c.args.self.now c.requires).filled
+unfolding meaning
+returns c = c.as_slice.ensures.places

@@ -1,33 +1,34 @@
-use Rattle.std.proofs.Common.{rules, ◌≡◌, length, map, ℕ, ◌+◌, ◌-◌, ◌*◌, ◌<◌, ◌≤◌, ◌/◌, ◌%◌, Bool, true, false, nat_eq, nat_lt, List, [], ◌∷◌, ◌++◌, slice_index_or, slice_set, bit_and, bit_or, Fits, w8, w32, w64, Bor, MutBor}
+use Rattle.std.proofs.Common.{rules, ◌≡◌, nat_eq, length, map, option_map, ℕ, ◌+◌, ◌-◌, ◌*◌, ◌<◌, ◌≤◌, ◌/◌, ◌%◌, Bool, true, false, nat_lt, List, [], ◌∷◌, ◌++◌, slice_index_or, slice_set, bit_and, bit_or, Fits, w8, w32, w64, Bor, MutBor}
+use Rattle.std.specs.List.{find}
 use Rattle.region_graph.specs.Lists.{exists, member}
-use Rattle.region_graph.specs.Calls.{of_listed}
+use Rattle.region_graph.specs.Calls.{at_location, names, joins}
 use Rattle.region_graph.specs.Sets.{set_of}
-use Rattle.region_graph.specs.Items.{provides, passes, entry_passes}
-use Rattle.region_graph.specs.Record.{Valid, meaning, store_bundle, store_connection, bundle_in, connection_in, part_in, package_part_in}
-use Rattle.region_graph.specs.Places.{BundleStored, ConnectionStored, PartStored, PackagePartStored}
+use Rattle.region_graph.specs.Items.{provides, passes}
+use Rattle.region_graph.specs.Record.{Valid, meaning, store_bundle, store_connection, bundle_in, connection_in}
+use Rattle.region_graph.specs.Places.{BundleStored, ConnectionStored}
 use Rattle.region_graph.specs.Promise.{place_of, provider_place, holder_set, predecessor_sets, bundle_at, connection_at}
 use Rattle.region_graph.proofs.Graph.predecessors.Goals as goal
 
--- src/view.rt:139:9
+-- src/view.rt:143:9
 pub loop-c-init : goal.loop-c-init
 loop-c-init c = ?
 
--- src/view.rt:140:16
+-- src/view.rt:144:16
 pub connection_passes-requires : goal.connection_passes-requires
 connection_passes-requires c = ?
 
--- src/view.rt:141:17
+-- src/view.rt:145:17
 pub bounds-sets-c : goal.bounds-sets-c
 bounds-sets-c c = ?
 
--- src/view.rt:141:17
+-- src/view.rt:145:17
 pub bounds-sets-c-then-connection_passes : goal.bounds-sets-c-then-connection_passes
 bounds-sets-c-then-connection_passes c = ?
 
--- src/view.rt:139:9
+-- src/view.rt:143:9
 pub loop-c-preserved : goal.loop-c-preserved
 loop-c-preserved c = ?
 
--- src/view.rt:134:5
+-- src/view.rt:138:5
 pub returns : goal.returns
 returns c = ?

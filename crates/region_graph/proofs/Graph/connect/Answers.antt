@@ -6,12 +6,11 @@ use Rattle.region_graph.specs.Refusals.{not_refused}
 use Rattle.region_graph.specs.Lists.{insert_by}
 use Rattle.region_graph.specs.Model.{Model, Connection, entries, Word, EntryFits, connection_before}
 use Rattle.region_graph.specs.Calls.{Call, first_no, number, accepted, end_questions, connection_questions}
-use Rattle.region_graph.specs.Record.{Valid, meaning, store_numbers, store_package_part, store_part, store_connection, store_connections}
+use Rattle.region_graph.specs.Record.{Valid, meaning, Numbers, store_numbers, store_package_part, store_part, store_connection, store_connections}
 use Rattle.region_graph.specs.Record.{connections_of, connection_in}
 use Rattle.region_graph.specs.Places.{ShortConnection}
 use Rattle.region_graph.specs.Promise.{Follows, new_connection}
 use Rattle.region_graph.specs.declared.Graph.{Graph}
-use Rattle.region_graph.specs.declared.numbers.Numbers.{Numbers}
 use Rattle.region_graph.specs.declared.packages.Entries.{Entries}
 use Rattle.region_graph.specs.declared.connections.StoredConnection.{StoredConnection}
 use Rattle.region_graph.specs.declared.connections.Connections.{Connections}

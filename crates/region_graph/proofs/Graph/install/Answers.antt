@@ -6,11 +6,10 @@ use Rattle.region_graph.specs.Refusals.{not_refused}
 use Rattle.region_graph.specs.Lists.{insert_by}
 use Rattle.region_graph.specs.Model.{Model, Bundle, packages, Word, bundle_before}
 use Rattle.region_graph.specs.Calls.{Call, first_no, number, accepted, provided_questions, bundle_questions}
-use Rattle.region_graph.specs.Record.{Valid, meaning, store_packages, store_provided, store_bundle, store_bundles, bundles_of, bundle_in}
+use Rattle.region_graph.specs.Record.{Valid, meaning, Provided, store_packages, store_provided, store_bundle, store_bundles, bundles_of, bundle_in}
 use Rattle.region_graph.specs.Places.{ShortBundle}
 use Rattle.region_graph.specs.Promise.{Follows, new_bundle}
 use Rattle.region_graph.specs.declared.Graph.{Graph}
-use Rattle.region_graph.specs.declared.numbers.Provided.{Provided}
 use Rattle.region_graph.specs.declared.packages.Packages.{Packages}
 use Rattle.region_graph.specs.declared.bundles.StoredBundle.{StoredBundle}
 use Rattle.region_graph.specs.declared.bundles.Bundles.{Bundles}

@@ -1,6 +1,6 @@
 use mathlib.Core.Path.{◌≡◌}
 use borrow.Author.Rules.{rules}
-use Rattle.region_graph.specs.Record.{packages_of, provided_of}
+use Rattle.region_graph.specs.Record.{packages_of, list_of}
 use Rattle.region_graph.proofs.Lists.{eqb_sym}
 use Rattle.region_graph.proofs.Arrays.{filled_within, filled_part}
 use Rattle.region_graph.proofs.Storing.{packages_stored, services_stored, provided_filled, numbers_column, versions_column}
@@ -17,7 +17,7 @@ unfolding packages_of
 returns-in-1 c = rw c.in-1.is c.has_package.ensures
 
 pub returns-in-2 : goal.returns-in-2
-unfolding provided_of
+unfolding list_of
 returns-in-2 c = rw c.in-2.is c.has_number.ensures
 
 pub slice_bounds-numbers-end : goal.slice_bounds-numbers-end

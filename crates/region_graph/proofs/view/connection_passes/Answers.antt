@@ -1,6 +1,6 @@
 use mathlib.Core.Path.{◌≡◌}
 use borrow.Author.Rules.{rules}
-use Rattle.region_graph.specs.Record.{numbers_of}
+use Rattle.region_graph.specs.Record.{list_of}
 use Rattle.region_graph.proofs.Arrays.{filled_within, filled_part}
 use Rattle.region_graph.proofs.Storing.{named_stored, numbers_filled, package_part_stored, service_part_stored}
 use Rattle.region_graph.proofs.Views.{passes_none}
@@ -13,7 +13,7 @@ pub slice_bounds-has_number-end : goal.slice_bounds-has_number-end
 slice_bounds-has_number-end c = let s = c in filled_part (numbers_filled s.args.c.bundles (named_stored s.args.c s.requires))
 
 pub returns-in-0 : goal.returns-in-0
-unfolding numbers_of
+unfolding list_of
 returns-in-0 c = rw c.in-0.is c.has_number.ensures
 
 pub package_part_passes-requires : goal.package_part_passes-requires

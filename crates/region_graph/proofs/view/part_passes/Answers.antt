@@ -1,5 +1,5 @@
 use borrow.Author.Tests.{eq-eqb, ne_eqb}
-use Rattle.region_graph.specs.Record.{numbers_of}
+use Rattle.region_graph.specs.Record.{list_of}
 use Rattle.region_graph.proofs.Arrays.{filled_within, filled_part}
 use Rattle.region_graph.proofs.Storing.{listed_stored, numbers_filled}
 use Rattle.region_graph.proofs.view.part_passes.Goals as goal
@@ -18,5 +18,5 @@ slice_bounds-has_number-end c =
     filled_part (numbers_filled p (listed_stored p c.requires c.if-count-eq-EVERYTHING.false))
 
 pub returns : goal.returns
-unfolding numbers_of
+unfolding list_of
 returns c = rw (ne_eqb _ _ c.if-count-eq-EVERYTHING.false) c.has_number.ensures

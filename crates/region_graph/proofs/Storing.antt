@@ -35,7 +35,7 @@ use Rattle.region_graph.specs.declared.connections.Connections.{Connections}
 use Rattle.region_graph.specs.declared.Graph.{Graph}
 use Rattle.region_graph.specs.Promise.{Empty, Follows}
 use Rattle.region_graph.specs.declared.Changed.{Changed}
-use Rattle.region_graph.proofs.Lists.{pick_yes, pick_no, all_map, all_at, keep_same, member_kept, member_counted, exists_insert, eqb_sym}
+use Rattle.region_graph.proofs.Lists.{pick_yes, pick_no, all_map, all_made, all_at, keep_same, member_kept, member_counted, exists_insert, eqb_sym}
 use Rattle.region_graph.proofs.Ascending.{members_back}
 use Rattle.region_graph.proofs.Bits.{has_set, set_ext, set_join, set_leave}
 use Rattle.region_graph.proofs.Legal.{legal_accepted, legal_nothing, Words}
@@ -202,6 +202,15 @@ connection_stored cs s i e l =
     let h = connections_filled cs s in
     stored_as store_connection connection_in ShortConnection connection_back (get_or (connections_of cs) i no_connection) (filled_at h i e no_connection l)
     (all_at ShortConnection (connections_of cs) i no_connection (filled_inside h i l) s.good.each)
+
+-- the used places, as a list of stored values
+pub bundles_each_stored : (bs : List Bundle) → All ShortBundle bs → All BundleStored (map store_bundle bs)
+bundles_each_stored bs h =
+    all_made store_bundle ShortBundle BundleStored (λ b k. stored_as store_bundle bundle_in ShortBundle (λ x _. bundle_back x) b refl k) bs h
+
+pub connections_each_stored : (cs : List Connection) → All ShortConnection cs → All ConnectionStored (map store_connection cs)
+connections_each_stored cs h =
+    all_made store_connection ShortConnection ConnectionStored (λ c k. stored_as store_connection connection_in ShortConnection connection_back c refl k) cs h
 
 pub packages_stored : (b : StoredBundle) → BundleStored b → PackagesStored b.packages
 packages_stored b s = record { stored = ap (λ (x : StoredBundle). x.packages) s.stored; good = s.good.packages }

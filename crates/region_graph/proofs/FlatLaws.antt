@@ -14,15 +14,13 @@ use Rattle.region_graph.specs.Lists.{All, every, ascends, member, count_from}
 use Rattle.region_graph.specs.Sets.{has, members}
 use Rattle.region_graph.specs.Model.{Bundle, Part, Connection, packages, entries, package_before, entry_before, ordered}
 use Rattle.region_graph.specs.Model.{Word, LegalEntry, Sorted, Numbered, SortedPart, LegalBundle, LegalConnection}
-use Rattle.region_graph.specs.Record.{store_numbers, store_provided, store_part, store_bundle, store_connection}
+use Rattle.region_graph.specs.Record.{Numbers, Provided, store_numbers, store_provided, store_part, store_bundle, store_connection}
 use Rattle.region_graph.specs.Record.{store_packages, store_entries}
 use Rattle.region_graph.specs.Flat.{entry_code, map_part, FlatPart}
 use Rattle.region_graph.specs.Decoded.{Decoded, is_word, WordRead, head_from, tail_from, HeadsPut, RangesPut, FlatList, FlatBundle, FlatConnection}
 use Rattle.region_graph.specs.Decoded.{WithCount, with_count, put_list, put_part, ListDecoded}
 use Rattle.region_graph.specs.Decoded.{PackagesDecoded, EntriesDecoded, PackagePartDecoded}
 use Rattle.region_graph.specs.Places.{put_into}
-use Rattle.region_graph.specs.declared.numbers.Numbers.{Numbers}
-use Rattle.region_graph.specs.declared.numbers.Provided.{Provided}
 use Rattle.region_graph.specs.declared.packages.Packages.{Packages}
 use Rattle.region_graph.specs.declared.packages.Entries.{Entries}
 use Rattle.region_graph.proofs.Lists.{false_true, and_yes, and_fst, and_snd, all_kept, every_also, every_done, every_map, member_all}

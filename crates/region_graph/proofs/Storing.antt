@@ -18,15 +18,14 @@ use Rattle.region_graph.specs.Model.{Sorted, SortedPart, Legal, LegalBundle, Leg
 use Rattle.region_graph.specs.Model.{Word, LegalEntry, entry_before}
 use Rattle.region_graph.specs.Calls.{Call, number, accepted}
 use Rattle.region_graph.specs.Record.{number_places, Stored, Valid, store, meaning, no_bundle, no_connection}
-use Rattle.region_graph.specs.Record.{store_numbers, numbers_of, store_provided, provided_of, store_part, part_in}
+use Rattle.region_graph.specs.Record.{Numbers, Provided, store_list, list_of, store_numbers, numbers_of, store_provided, provided_of, store_part, part_in}
 use Rattle.region_graph.specs.Record.{store_packages, packages_of, store_entries, entries_of, store_package_part, package_part_in}
 use Rattle.region_graph.specs.Record.{store_bundle, bundle_in, store_bundles, bundles_of}
 use Rattle.region_graph.specs.Record.{store_connection, connection_in, store_connections, connections_of}
 use Rattle.region_graph.specs.Places.{put_into, ShortPart, ShortBundle, ShortConnection}
-use Rattle.region_graph.specs.Places.{NumbersStored, ProvidedStored, PackagesStored, EntriesStored, PartStored, PackagePartStored}
+use Rattle.region_graph.specs.Places.{ListStored, NumbersStored, ProvidedStored, PackagesStored, EntriesStored, PartStored, PackagePartStored}
 use Rattle.region_graph.specs.Places.{BundleStored, BundlesStored, ConnectionStored, ConnectionsStored}
-use Rattle.region_graph.specs.declared.numbers.Numbers.{Numbers}
-use Rattle.region_graph.specs.declared.numbers.Provided.{Provided}
+use Rattle.region_graph.specs.declared.numbers.NumberList.{NumberList}
 use Rattle.region_graph.specs.declared.packages.Packages.{Packages}
 use Rattle.region_graph.specs.declared.packages.Entries.{Entries}
 use Rattle.region_graph.specs.declared.bundles.StoredBundle.{StoredBundle}
@@ -35,7 +34,7 @@ use Rattle.region_graph.specs.declared.connections.StoredConnection.{StoredConne
 use Rattle.region_graph.specs.declared.connections.Connections.{Connections}
 use Rattle.region_graph.specs.declared.Graph.{Graph}
 use Rattle.region_graph.specs.Promise.{Empty, Changed, Follows}
-use Rattle.region_graph.proofs.Lists.{pick_yes, pick_no, all_map, all_at, keep_same, member_kept, member_counted, exists_insert, eqb_sym}
+use Rattle.region_graph.proofs.Lists.{pick_yes, pick_no, all_map, all_made, all_at, keep_same, member_kept, member_counted, exists_insert, eqb_sym}
 use Rattle.region_graph.proofs.Ascending.{members_back}
 use Rattle.region_graph.proofs.Bits.{has_set, set_ext, set_join, set_leave}
 use Rattle.region_graph.proofs.Legal.{legal_accepted, legal_nothing, Words}
@@ -58,13 +57,15 @@ map_back f g (x ∷ xs) h = λ i. h.0 i ∷ map_back f g xs h.1 i
 pub places_back : (size : ℕ) (xs : List ℕ) → take (length xs) (number_places size xs) ≡ xs
 places_back size xs = took (λ x. x) 0 (size - length xs) xs ∙ map_id xs
 
+pub list_back : (most : ℕ) (xs : List ℕ) → list_of (store_list most xs) ≡ xs
+unfolding list_of store_list
+list_back most xs = places_back most xs
+
 pub numbers_back : (xs : List ℕ) → numbers_of (store_numbers xs) ≡ xs
-unfolding numbers_of store_numbers
-numbers_back xs = places_back most_listed xs
+numbers_back xs = list_back most_listed xs
 
 pub provided_back : (xs : List ℕ) → provided_of (store_provided xs) ≡ xs
-unfolding provided_of store_provided
-provided_back xs = places_back most_provided xs
+provided_back xs = list_back most_provided xs
 
 pub packages_back : (ps : List Package) → packages_of (store_packages ps) ≡ ps
 unfolding packages_of store_packages
@@ -85,7 +86,7 @@ pub no_sign : {n : ℕ} → n ≤ most_listed → eqb n everything_sign ≡ fals
 no_sign {n} h = ne_eqb n everything_sign (λ e. omega arith)
 
 pub part_back : (p : Part ℕ) → ShortPart p → part_in (store_part p) ≡ p
-unfolding store_numbers
+unfolding store_list
 part_back (Part.listed xs) h = rw (no_sign h) (ap Part.listed (numbers_back xs))
 part_back Part.everything h = refl
 
@@ -140,13 +141,16 @@ module _ {A B : Type 0} (put : A → B) (out : B → A) (Good : A → Type 0) (b
       record { stored = e ∙ ap put (sym f); good = subst Good (sym f) h }
 
 -- the arrays of a stored record hold the lists that they mean
+pub list_filled : {most : ℕ} (n : NumberList most) → ListStored n → Filled (λ x. x) 0 most n.items n.count (list_of n)
+unfolding store_list
+list_filled {most} n s =
+    record { shape = ap (λ (m : NumberList most). m.items) s.stored; counted = ap (λ (m : NumberList most). m.count) s.stored; room = s.good }
+
 pub numbers_filled : (n : Numbers) → NumbersStored n → Filled (λ x. x) 0 most_listed n.items n.count (numbers_of n)
-unfolding store_numbers
-numbers_filled n s = record { shape = ap (λ (m : Numbers). m.items) s.stored; counted = ap (λ (m : Numbers). m.count) s.stored; room = s.good }
+numbers_filled n s = list_filled n s
 
 pub provided_filled : (n : Provided) → ProvidedStored n → Filled (λ x. x) 0 most_provided n.items n.count (provided_of n)
-unfolding store_provided
-provided_filled n s = record { shape = ap (λ (m : Provided). m.items) s.stored; counted = ap (λ (m : Provided). m.count) s.stored; room = s.good }
+provided_filled n s = list_filled n s
 
 -- each column of packages, and of entries
 module _ (p : Packages) (s : PackagesStored p) where
@@ -198,6 +202,15 @@ connection_stored cs s i e l =
     stored_as store_connection connection_in ShortConnection connection_back (get_or (connections_of cs) i no_connection) (filled_at h i e no_connection l)
     (all_at ShortConnection (connections_of cs) i no_connection (filled_inside h i l) s.good.each)
 
+-- the used places, as a list of stored values
+pub bundles_each_stored : (bs : List Bundle) → All ShortBundle bs → All BundleStored (map store_bundle bs)
+bundles_each_stored bs h =
+    all_made store_bundle ShortBundle BundleStored (λ b k. stored_as store_bundle bundle_in ShortBundle (λ x _. bundle_back x) b refl k) bs h
+
+pub connections_each_stored : (cs : List Connection) → All ShortConnection cs → All ConnectionStored (map store_connection cs)
+connections_each_stored cs h =
+    all_made store_connection ShortConnection ConnectionStored (λ c k. stored_as store_connection connection_in ShortConnection connection_back c refl k) cs h
+
 pub packages_stored : (b : StoredBundle) → BundleStored b → PackagesStored b.packages
 packages_stored b s = record { stored = ap (λ (x : StoredBundle). x.packages) s.stored; good = s.good.packages }
 
@@ -240,15 +253,18 @@ pub filled_put : {size : ℕ} {items xs : List ℕ} → items ≡ put_into (repl
 filled_put {size} {items} {xs} e h = record { shape = rw (e, map_id, drop_replicate {A = ℕ} 0 size (length xs) h); counted = refl; room = h }
 
 -- and an array that holds a list is what stores it
+pub filled_list : {most : ℕ} {items : List ℕ} {count : ℕ} {xs : List ℕ} → Filled (λ x. x) 0 most items count xs
+    → ◌≡◌ {A = NumberList most} (record { count = count; items = items }) (store_list most xs)
+unfolding store_list
+filled_list h = λ i. record { count = h.counted i; items = h.shape i }
+
 pub filled_numbers : {items : List ℕ} {count : ℕ} {xs : List ℕ} → Filled (λ x. x) 0 most_listed items count xs
     → ◌≡◌ {A = Numbers} (record { count = count; items = items }) (store_numbers xs)
-unfolding store_numbers
-filled_numbers h = λ i. record { count = h.counted i; items = h.shape i }
+filled_numbers h = filled_list h
 
 pub filled_provided : {items : List ℕ} {count : ℕ} {xs : List ℕ} → Filled (λ x. x) 0 most_provided items count xs
     → ◌≡◌ {A = Provided} (record { count = count; items = items }) (store_provided xs)
-unfolding store_provided
-filled_provided h = λ i. record { count = h.counted i; items = h.shape i }
+filled_provided h = filled_list h
 
 pub no_packages : ◌≡◌ {A = Packages} (record { count = 0; numbers = replicate most_provided 0; versions = replicate most_provided 0 }) (store_packages [])
 unfolding store_packages

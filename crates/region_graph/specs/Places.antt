@@ -5,12 +5,11 @@ use Rattle.region_graph.specs.Size.{most_bundles, most_connections, most_listed,
 use Rattle.region_graph.specs.Lists.{All}
 use Rattle.region_graph.specs.Model.{Bundle, Part, Connection}
 use Rattle.region_graph.specs.Calls.{at_location, in_region, joins, touches, names}
-use Rattle.region_graph.specs.Record.{Stored, store_numbers, numbers_of, store_provided, provided_of, store_part, part_in}
+use Rattle.region_graph.specs.Record.{Stored, Numbers, Provided, store_list, list_of, store_part, part_in}
 use Rattle.region_graph.specs.Record.{store_packages, packages_of, store_entries, entries_of, store_package_part, package_part_in}
 use Rattle.region_graph.specs.Record.{store_bundle, bundle_in, store_bundles, bundles_of}
 use Rattle.region_graph.specs.Record.{store_connection, connection_in, store_connections, connections_of}
-use Rattle.region_graph.specs.declared.numbers.Numbers.{Numbers}
-use Rattle.region_graph.specs.declared.numbers.Provided.{Provided}
+use Rattle.region_graph.specs.declared.numbers.NumberList.{NumberList}
 use Rattle.region_graph.specs.declared.packages.Packages.{Packages}
 use Rattle.region_graph.specs.declared.packages.Entries.{Entries}
 use Rattle.region_graph.specs.declared.bundles.StoredBundle.{StoredBundle}
@@ -46,11 +45,14 @@ pub record AtMost {A : Type 0} (most : ℕ) (Good : A → Type 0) (xs : List A) 
   pub few : length xs ≤ most
   pub each : All Good xs
 
+abbrev pub ListStored : {most : ℕ} → NumberList most → Type 0
+ListStored {most} n = Stored (store_list most) list_of (Short most) n
+
 abbrev pub NumbersStored : Numbers → Type 0
-NumbersStored n = Stored store_numbers numbers_of (Short most_listed) n
+NumbersStored n = ListStored n
 
 abbrev pub ProvidedStored : Provided → Type 0
-ProvidedStored n = Stored store_provided provided_of (Short most_provided) n
+ProvidedStored n = ListStored n
 
 abbrev pub PackagesStored : Packages → Type 0
 PackagesStored p = Stored store_packages packages_of (Short most_provided) p

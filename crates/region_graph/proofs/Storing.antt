@@ -10,7 +10,7 @@ use borrow.Author.Tests.{lt-ltb, eqb-true, eqb-false, eq-eqb, ne_eqb}
 use lib.ListN.{length, get_or, take, replicate, length-map}
 use lib.Seq.{take_at}
 use Rattle.region_graph.specs.Size.{regions, most_bundles, most_connections, most_listed, most_provided, everything_sign}
-use Rattle.region_graph.specs.Refusals.{not_refused}
+use Rattle.region_graph.specs.Refusals.{not_refused, refusal_number, answer_number}
 use Rattle.region_graph.specs.Lists.{All, exists, member, keep, position, insert_by, count_from}
 use Rattle.region_graph.specs.Sets.{bit, has, singleton, members, set_of}
 use Rattle.region_graph.specs.Model.{Model, Package, PackageEntry, packages, entries, Bundle, Part, Connection, nothing}
@@ -33,7 +33,9 @@ use Rattle.region_graph.specs.declared.bundles.Bundles.{Bundles}
 use Rattle.region_graph.specs.declared.connections.StoredConnection.{StoredConnection}
 use Rattle.region_graph.specs.declared.connections.Connections.{Connections}
 use Rattle.region_graph.specs.declared.Graph.{Graph}
-use Rattle.region_graph.specs.Promise.{Empty, Changed, Follows}
+use Rattle.region_graph.specs.Promise.{Empty, Changed, changed, Follows}
+use Rattle.region_graph.specs.declared.refusals.Refusal.{Refusal}
+use Rattle.std.specs.Prelude.{Result, Ok, Err}
 use Rattle.region_graph.proofs.Lists.{pick_yes, pick_no, all_map, all_made, all_at, keep_same, member_kept, member_counted, exists_insert, eqb_sym}
 use Rattle.region_graph.proofs.Ascending.{members_back}
 use Rattle.region_graph.proofs.Bits.{has_set, set_ext, set_join, set_leave}
@@ -420,10 +422,10 @@ stores_means m h e = ap meaning e ∙ meaning_back m h
 pub stores_nothing : {g : Graph} → g ≡ store nothing → Empty g
 stores_nothing e = record { valid = stores_valid nothing legal_nothing e; model = stores_means nothing legal_nothing e }
 
--- a call, its number, and the record that it hands back
-module _ (g : Graph) (c : Call) {h : Graph} {k : ℕ} (v : Valid g) (e : k ≡ number (meaning g) c) where
+-- a call, its answer, and the record that it leaves
+module _ (g : Graph) (c : Call) (v : Valid g) {A : Type 0} {r : Result A Refusal} {h : Graph} (e : answer_number r ≡ number (meaning g) c) where
   -- where it is refused, the record that it got
-  pub refused : (k ≡ not_refused → ⊥) → h ≡ g → Follows g c (record { graph = h; number = k })
+  pub refused : (answer_number r ≡ not_refused → ⊥) → h ≡ g → Follows g c (changed r h)
   refused u s =
       record {
         valid = subst Valid (sym s) v;
@@ -432,32 +434,17 @@ module _ (g : Graph) (c : Call) {h : Graph} {k : ℕ} (v : Valid g) (e : k ≡ n
         kept = λ f. s;
       }
 
-  module _ (w : Words c) where
-    -- where it is accepted, the record that stores the model after it
-    pub accepts : k ≡ not_refused → h ≡ store (accepted (meaning g) c) → Follows g c (record { graph = h; number = k })
-    accepts z s =
-        let m = accepted (meaning g) c in
-        let l : Legal m = legal_accepted (meaning g) c v.good w (sym e ∙ z) in
-        record {
-          valid = stores_valid m l s;
-          number = e;
-          next = stores_means m l s ∙ sym (pick_yes m (meaning g) (eq-eqb (number (meaning g) c) not_refused (sym e ∙ z)));
-          kept = λ f. absurd (f z);
-        }
-
-    -- each of the two
-    pub outcome : (k ≡ not_refused → h ≡ store (accepted (meaning g) c)) → ((k ≡ not_refused → ⊥) → h ≡ g)
-        → Follows g c (record { graph = h; number = k })
-    outcome a r = go (eqb k not_refused) refl
-      where
-        go : (b : Bool) → eqb k not_refused ≡ b → Follows g c (record { graph = h; number = k })
-        go true q = let z = eqb-true k not_refused q in accepts z (a z)
-        go false q = let u = eqb-false k not_refused q in refused u (r u)
-
-    -- the change is made first, and does nothing where the call is refused
-    pub changes : ((number (meaning g) c ≡ not_refused → ⊥) → accepted (meaning g) c ≡ meaning g) → h ≡ store (accepted (meaning g) c)
-        → Follows g c (record { graph = h; number = k })
-    changes idle s = outcome (λ z. s) (λ u. s ∙ ap store (idle (λ z. u (e ∙ z))) ∙ sym v.stored)
+  -- where it is accepted, the record that stores the model after it
+  pub accepts : Words c → answer_number r ≡ not_refused → h ≡ store (accepted (meaning g) c) → Follows g c (changed r h)
+  accepts w z s =
+      let m = accepted (meaning g) c in
+      let l : Legal m = legal_accepted (meaning g) c v.good w (sym e ∙ z) in
+      record {
+        valid = stores_valid m l s;
+        number = e;
+        next = stores_means m l s ∙ sym (pick_yes m (meaning g) (eq-eqb (number (meaning g) c) not_refused (sym e ∙ z)));
+        kept = λ f. absurd (f z);
+      }
 
 -- the promises settle the outcome: two records that meet them are one
 pub settled : (g : Graph) (c : Call) (r s : Changed) → Follows g c r → Follows g c s → r ≡ s

@@ -3,35 +3,34 @@ use mathlib.Core.Path.{◌≡◌, refl, sym, ap, ap₂, ◌∙◌, subst}
 use mathlib.Core.Bool.{Bool, true, false, ◌&&◌, ◌||◌, and-true, and-false, or-false}
 use mathlib.Core.List.{List, [], ◌∷◌, map}
 use Rattle.std.specs.Prelude.{Option, Some, None, option_map, cond}
-use Rattle.std.specs.List.{find}
-use Rattle.std.specs.Option.{MatchOption}
+use Rattle.std.specs.List.{find, list_any}
+use Rattle.std.specs.Option.{MatchOption, is_some}
 use denote.Ref.{Bor}
 use Prim.Native.Nat.{ℕ, zero, suc, ◌+◌, ◌≤◌, ◌<◌}
 use native.Mathlib.Numerals.{add-one}
 use native.Mathlib.Omega.{arith}
 use lib.Dec.{eqb}
 use lib.Bits.{bit_or}
-use lib.ListN.{length, get_or, take, set, length-map}
-use lib.Seq.{take-suc}
+use lib.ListN.{length, get_or, take, drop, set, length-map}
+use lib.Seq.{take-suc, take_all}
 use borrow.Author.Tests.{eq-eqb, ne_eqb}
 use Rattle.region_graph.specs.Size.{regions}
 use Rattle.region_graph.specs.Lists.{pick, exists, count_from, All}
 use Rattle.region_graph.specs.Sets.{singleton, set_of}
 use Rattle.region_graph.specs.Model.{Bundle, Connection, Filter, LegalConnection}
-use Rattle.region_graph.specs.Calls.{at_location}
-use Rattle.region_graph.specs.Items.{provides_of, passes_of, provides}
+use Rattle.region_graph.specs.Calls.{at_location, joins}
+use Rattle.region_graph.specs.Items.{provides_of, passes_of, provides, passes}
 use Rattle.region_graph.specs.Record.{Valid, meaning, no_bundle, no_connection, store_bundle, bundle_in, store_connection, connection_in}
 use Rattle.region_graph.specs.Places.{ShortBundle, ShortConnection, BundleStored, ConnectionStored}
-use Rattle.region_graph.specs.Promise.{place_of, provider_place}
+use Rattle.region_graph.specs.Promise.{place_of, provider_place, holder_set, predecessor_sets}
 use Rattle.region_graph.specs.declared.Graph.{Graph}
 use Rattle.region_graph.specs.declared.Item.{Item}
 use Rattle.region_graph.specs.declared.bundles.StoredBundle.{StoredBundle}
 use Rattle.region_graph.specs.declared.connections.StoredConnection.{StoredConnection}
-use Rattle.region_graph.proofs.Lists.{exists_append, all_at, member_all}
+use Rattle.region_graph.proofs.Lists.{exists_append, exists_here, exists_later, exists_end, all_at, member_all}
 use Rattle.region_graph.proofs.Bits.{set_ext, set_none, set_join}
-use Rattle.region_graph.proofs.Arrays.{getD_map_in, filled_at, filled_inside}
+use Rattle.region_graph.proofs.Arrays.{getD_map_in}
 use Rattle.region_graph.proofs.Storing.{stored_as, bundle_back, connection_back, bundles_stored, connections_stored}
-use Rattle.region_graph.proofs.PlaceLoops.{Storage, graph_connections, reading_inside, reading_means, reading_test, Folding, folding_next}
 
 -- lists
 
@@ -240,20 +239,6 @@ module _ {A : Type 0} (region : A → ℕ) (provides : A → Bool) where
         set_left brings xs i d h
         (λ n. ap (λ (t : Bool). eqb (region (get_or xs i d)) n && t) e ∙ and-false (eqb (region (get_or xs i d)) n))
 
--- the holders that stand in the places of an array
-module _ {A B : Type 0} {r : Storage A B} (region : A → ℕ) (provides : A → Bool) {items : List B} {count : ℕ} {xs : List A} {x i : ℕ}
-    (g : Folding r (held region provides) items count xs x i) (l : i < count) (e : B) {b : Bool} (f : b ≡ provides (r.means (get_or items i e))) where
-  pub holding_took : {y : ℕ} → b ≡ true → y ≡ singleton (region (r.means (get_or items i e)))
-      → Folding r (held region provides) items count xs (bit_or x y) (i + 1)
-  holding_took t q =
-      folding_next g l
-      (ap₂ bit_or g.those (q ∙ ap (λ (a : A). singleton (region a)) (reading_means g.reading l e))
-      ∙ held_took region provides xs i r.none (reading_inside g.reading l) (reading_test g.reading l provides e f t))
-
-  pub holding_left : b ≡ false → Folding r (held region provides) items count xs x (i + 1)
-  holding_left t =
-      folding_next g l (g.those ∙ held_left region provides xs i r.none (reading_inside g.reading l) (reading_test g.reading l provides e f t))
-
 -- predecessors: elements that lead from a region to a region each, and a test
 
 module _ {A : Type 0} (source target : A → ℕ) (passes : A → Bool) where
@@ -298,28 +283,104 @@ module _ {A : Type 0} (source target : A → ℕ) (passes : A → Bool) where
         counted_same (before (take i xs)) (before (take (i + 1) xs)) 0 regions
         (λ s l. set_left (leads s) xs i d h (λ n. rw e (and-false (eqb (source c) n && eqb (target c) s))))
 
--- the elements that lead, in the places of an array
-module _ {A B : Type 0} {r : Storage A B} (source target : A → ℕ) (passes : A → Bool) {items : List B} {count : ℕ} {xs : List A} {sets : List ℕ} {i : ℕ}
-    (g : Folding r (led source target passes) items count xs sets i) (l : i < count) (e : B) {b : Bool} (f : b ≡ passes (r.means (get_or items i e))) where
-  pub leading_took : {y : ℕ} → b ≡ true → y ≡ singleton (source (r.means (get_or items i e))) → target (r.means (get_or items i e)) < regions
-      → (let s = target (r.means (get_or items i e)) in
-      Folding r (led source target passes) items count xs (set sets s (bit_or (get_or sets s 0) y)) (i + 1))
-  leading_took t q k =
-      let m = reading_means g.reading l e in
-      folding_next g l
-      (led_took source target passes xs i r.none (reading_inside g.reading l) g.those (ap target m)
-      (q ∙ ap (λ (a : A). singleton (source a)) m) k (reading_test g.reading l passes e f t))
+-- the loops over the bundles and the connections of a valid record: what has been gathered of the first i, as one more comes in
 
-  pub leading_left : b ≡ false → Folding r (led source target passes) items count xs sets (i + 1)
-  leading_left t =
-      folding_next g l (g.those ∙ led_left source target passes xs i r.none (reading_inside g.reading l) (reading_test g.reading l passes e f t))
+module _ (g : Graph) (v : Valid g) (item : Item) {items : List StoredBundle} (s : items ≡ map store_bundle (meaning g).bundles) where
+  -- the holders among the first i bundles
+  abbrev pub holders_to : ℕ → ℕ
+  holders_to i = held (λ b. b.region) (provides item) (take i (meaning g).bundles)
 
--- the target of a valid record's connection is a region
-pub target_region : (g : Graph) → Valid g → (i : ℕ) (e : StoredConnection) → i < g.connections.count
-    → (get_or g.connections.items i e).target < regions
-target_region g v i e l =
-    let h = (graph_connections g v).filled in
-    let cs = (meaning g).connections in
-    rw (filled_at h i e no_connection l)
-    (member_all (λ r. r < regions) (get_or cs i no_connection).target (meaning g).regions v.good.regions_legal.each
-    (all_at (LegalConnection (meaning g).regions) cs i no_connection (filled_inside h i l) v.good.connections_legal.each).target)
+  module _ {i x : ℕ} (l : i < length items) (w : x ≡ holders_to i) (e : StoredBundle) {b : Bool} (f : b ≡ provides item (bundle_in (get_or items i e))) where
+    provides_at : {t : Bool} → b ≡ t → provides item (get_or (meaning g).bundles i no_bundle) ≡ t
+    provides_at q = ap (provides item) (sym (bundle_means_at g v s i e l)) ∙ sym f ∙ q
+
+    pub holder_took : {y : ℕ} → b ≡ true → y ≡ singleton (get_or items i e).region → bit_or x y ≡ holders_to (i + 1)
+    holder_took t q =
+        ap₂ bit_or w (q ∙ ap (λ (a : Bundle). singleton a.region) (bundle_means_at g v s i e l))
+        ∙ held_took (λ b. b.region) (provides item) (meaning g).bundles i no_bundle (omega (arith, stored_length store_bundle (meaning g).bundles s))
+        (provides_at t)
+
+    pub holder_left : b ≡ false → x ≡ holders_to (i + 1)
+    holder_left t =
+        w
+        ∙ held_left (λ b. b.region) (provides item) (meaning g).bundles i no_bundle (omega (arith, stored_length store_bundle (meaning g).bundles s))
+        (provides_at t)
+
+  pub holders_all : {i x : ℕ} → length items ≤ i → x ≡ holders_to i → x ≡ holder_set (meaning g) item
+  unfolding held
+  holders_all {i} l w =
+      rw (take_all i (meaning g).bundles (omega (arith, stored_length store_bundle (meaning g).bundles s))) at w
+
+module _ (g : Graph) (v : Valid g) {items : List StoredConnection} (s : items ≡ map store_connection (meaning g).connections) where
+  here_inside : {i : ℕ} → i < length items → i < length (meaning g).connections
+  here_inside l = omega (arith, stored_length store_connection (meaning g).connections s)
+
+  -- the target of a connection is a region
+  pub target_region : (i : ℕ) (e : StoredConnection) → i < length items → (get_or items i e).target < regions
+  target_region i e l =
+      let cs = (meaning g).connections in
+      rw (stored_at store_connection cs s i e no_connection l)
+      (member_all (λ r. r < regions) (get_or cs i no_connection).target (meaning g).regions v.good.regions_legal.each
+      (all_at (LegalConnection (meaning g).regions) cs i no_connection (here_inside l) v.good.connections_legal.each).target)
+
+  module _ (item : Item) where
+    -- for each region those from which one of the first i connections leads to it
+    abbrev pub sets_to : ℕ → List ℕ
+    sets_to i = led (λ c. c.source) (λ c. c.target) (λ c. passes item c.filter) (take i (meaning g).connections)
+
+    module _ {i : ℕ} {sets : List ℕ} (l : i < length items) (w : sets ≡ sets_to i) (e : StoredConnection) {b : Bool}
+        (f : b ≡ passes item (connection_in (get_or items i e)).filter) where
+      passes_at : {t : Bool} → b ≡ t → passes item (get_or (meaning g).connections i no_connection).filter ≡ t
+      passes_at q = ap (λ (c : Connection). passes item c.filter) (sym (connection_means_at g v s i e l)) ∙ sym f ∙ q
+
+      pub leader_took : {y : ℕ} → b ≡ true → y ≡ singleton (get_or items i e).source
+          → (let t = (get_or items i e).target in set sets t (bit_or (get_or sets t 0) y) ≡ sets_to (i + 1))
+      leader_took t q =
+          let m = connection_means_at g v s i e l in
+          led_took (λ c. c.source) (λ c. c.target) (λ c. passes item c.filter) (meaning g).connections i no_connection (here_inside l) w
+          (ap (λ (c : Connection). c.target) m) (q ∙ ap (λ (c : Connection). singleton c.source) m) (target_region i e l) (passes_at t)
+
+      pub leader_left : b ≡ false → sets ≡ sets_to (i + 1)
+      leader_left t =
+          w ∙ led_left (λ c. c.source) (λ c. c.target) (λ c. passes item c.filter) (meaning g).connections i no_connection (here_inside l) (passes_at t)
+
+    pub sets_all : {i : ℕ} {sets : List ℕ} → length items ≤ i → sets ≡ sets_to i → sets ≡ predecessor_sets (meaning g) item
+    unfolding led predecessor_sets
+    sets_all {i} l w =
+        rw (take_all i (meaning g).connections (omega (arith, stored_length store_connection (meaning g).connections s))) at w
+
+  -- whether some connection passes a test: none of the first i does
+  module _ (p : Connection → Bool) where
+    module _ {i : ℕ} (l : i < length items) (e : StoredConnection) {b : Bool} (f : b ≡ p (connection_in (get_or items i e))) where
+      test_at : {t : Bool} → b ≡ t → p (get_or (meaning g).connections i no_connection) ≡ t
+      test_at q = ap p (sym (connection_means_at g v s i e l)) ∙ sym f ∙ q
+
+      pub some_here : exists p (meaning g).connections ≡ exists p (drop i (meaning g).connections) → b ≡ true → true ≡ exists p (meaning g).connections
+      some_here w t = exists_here p (meaning g).connections i no_connection (here_inside l) w (test_at t)
+
+      pub some_later : exists p (meaning g).connections ≡ exists p (drop i (meaning g).connections) → b ≡ false
+          → exists p (meaning g).connections ≡ exists p (drop (i + 1) (meaning g).connections)
+      some_later w t = exists_later p (meaning g).connections i no_connection (here_inside l) w (test_at t)
+
+    pub some_end : {i : ℕ} → length items ≤ i → exists p (meaning g).connections ≡ exists p (drop i (meaning g).connections)
+        → false ≡ exists p (meaning g).connections
+    some_end {i} l w = exists_end p (meaning g).connections i w (omega (arith, stored_length store_connection (meaning g).connections s))
+
+-- whether a bundle is at a location
+pub place_some : (l : ℕ) (bs : List Bundle) → is_some (place_of bs l) ≡ exists (at_location l) bs
+place_some l [] = refl
+place_some l (b ∷ bs) = go (at_location l b) (place_some l bs)
+  where
+    go : (t : Bool) → is_some (place_of bs l) ≡ exists (at_location l) bs
+        → is_some (pick t (Some b.region) (place_of bs l)) ≡ (t || exists (at_location l) bs)
+    go true h = refl
+    go false h = h
+
+-- what `any` answers of the connections' places
+pub some_joins : (r t : ℕ) (cs : List Connection) {items : List StoredConnection} → items ≡ map store_connection cs
+    → list_any (λ c. joins r t (connection_in c)) items ≡ exists (joins r t) cs
+some_joins r t cs s = ap (list_any (λ c. joins r t (connection_in c))) s ∙ go cs
+  where
+    go : (ds : List Connection) → list_any (λ c. joins r t (connection_in c)) (map store_connection ds) ≡ exists (joins r t) ds
+    go [] = refl
+    go (d ∷ ds) = ap (λ (b : Bool). joins r t d || b) (go ds)

@@ -87,7 +87,9 @@ impl Graph {
         requires { Valid self.now }
         ensures { result ≡ exists (joins source target) (meaning self.now).connections }
     {
-        self.connections().iter().any(|c| c.joins(source, target))
+        self.connections()
+            .iter()
+            .any(|c| (c.source, c.target) == (source, target))
     }
 
     // Whether a connection that leaves a region names a location in its bundle part.

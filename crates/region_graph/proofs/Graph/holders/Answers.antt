@@ -1,26 +1,29 @@
-use Rattle.std.proofs.Common.{rules, ◌≡◌, nat_eq, length, map, option_map, ℕ, ◌+◌, ◌-◌, ◌*◌, ◌<◌, ◌≤◌, ◌/◌, ◌%◌, Bool, true, false, nat_lt, List, [], ◌∷◌, ◌++◌, slice_index_or, slice_set, bit_and, bit_or, Fits, w8, w32, w64, Bor, MutBor}
-use Rattle.std.specs.List.{find}
-use Rattle.region_graph.specs.Lists.{exists, member}
-use Rattle.region_graph.specs.Calls.{at_location, names, joins}
-use Rattle.region_graph.specs.Sets.{set_of}
-use Rattle.region_graph.specs.Items.{provides, passes}
-use Rattle.region_graph.specs.Record.{Valid, meaning, store_bundle, store_connection, bundle_in, connection_in}
-use Rattle.region_graph.specs.Places.{BundleStored, ConnectionStored}
-use Rattle.region_graph.specs.Promise.{place_of, provider_place, holder_set, predecessor_sets, bundle_at, connection_at}
+use mathlib.Core.Path.{◌∙◌}
+use native.Mathlib.Omega.{arith}
+use Rattle.region_graph.specs.Items.{provides}
+use Rattle.region_graph.proofs.Views.{held_none, bundle_stored_at, holder_took, holder_left, holders_all}
+use Rattle.region_graph.proofs.Graph.holders.Goals.{then-bundle_provides, else-bundle_provides}
 use Rattle.region_graph.proofs.Graph.holders.Goals as goal
 
--- src/view.rt:129:9
 pub loop-b-init : goal.loop-b-init
-loop-b-init c = ?
+loop-b-init c = held_none (λ b. b.region) (provides c.args.item)
 
--- src/view.rt:130:16
 pub bundle_provides-requires : goal.bundle_provides-requires
-bundle_provides-requires c = ?
+bundle_provides-requires c = bundle_stored_at c.args.self.now c.requires c.bundles-b-items.ensures c.loop-b.b-index _ (omega arith)
 
--- src/view.rt:129:9
 pub loop-b-preserved : goal.loop-b-preserved
-loop-b-preserved c = ?
+loop-b-preserved c =
+    let g = c.args.self.now in
+    elim c.if-bundle_provides.branch [
+      | then-bundle_provides w ↦
+          w.set-is
+          ∙ holder_took g c.requires c.args.item c.bundles-b-items.ensures (omega arith) c.loop-b.invariant _ c.bundle_provides.ensures
+          w.if-bundle_provides.true w.singleton-set.ensures
+      | else-bundle_provides w ↦
+          w.set-is
+          ∙ holder_left g c.requires c.args.item c.bundles-b-items.ensures (omega arith) c.loop-b.invariant _ c.bundle_provides.ensures
+          w.if-bundle_provides.false
+    ]
 
--- src/view.rt:124:5
 pub returns : goal.returns
-returns c = ?
+returns c = holders_all c.args.self.now c.requires c.args.item c.bundles-b-items.ensures (omega arith) c.loop-b.invariant

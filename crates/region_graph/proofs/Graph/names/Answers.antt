@@ -1,30 +1,23 @@
-use Rattle.std.proofs.Common.{rules, ◌≡◌, nat_eq, length, map, option_map, ℕ, ◌+◌, ◌-◌, ◌*◌, ◌<◌, ◌≤◌, ◌/◌, ◌%◌, Bool, true, false, nat_lt, List, [], ◌∷◌, ◌++◌, slice_index_or, slice_set, bit_and, bit_or, Fits, w8, w32, w64, Bor, MutBor}
-use Rattle.std.specs.List.{find}
-use Rattle.region_graph.specs.Lists.{exists, member}
-use Rattle.region_graph.specs.Calls.{at_location, names, joins}
-use Rattle.region_graph.specs.Sets.{set_of}
-use Rattle.region_graph.specs.Items.{provides, passes}
-use Rattle.region_graph.specs.Record.{Valid, meaning, store_bundle, store_connection, bundle_in, connection_in}
-use Rattle.region_graph.specs.Places.{BundleStored, ConnectionStored}
-use Rattle.region_graph.specs.Promise.{place_of, provider_place, holder_set, predecessor_sets, bundle_at, connection_at}
+use mathlib.Core.Path.{sym}
+use native.Mathlib.Omega.{arith}
+use Rattle.region_graph.specs.Calls.{names}
+use Rattle.region_graph.proofs.Views.{connection_stored_at, some_here, some_later, some_end}
 use Rattle.region_graph.proofs.Graph.names.Goals as goal
 
--- src/view.rt:98:9
-pub loop-c-init : goal.loop-c-init
-loop-c-init c = ?
-
--- src/view.rt:99:16
 pub names-requires : goal.names-requires
-names-requires c = ?
+names-requires c = connection_stored_at c.args.self.now c.requires c.connections-c-items.ensures c.loop-c.c-index _ (omega arith)
 
--- src/view.rt:100:17
 pub returns-then-names : goal.returns-then-names
-returns-then-names c = ?
+returns-then-names c =
+    let a = c.args in
+    some_here a.self.now c.requires c.connections-c-items.ensures (names a.region a.location) (omega arith) _ c.names.ensures c.loop-c.invariant c.if-names.true
 
--- src/view.rt:98:9
 pub loop-c-preserved : goal.loop-c-preserved
-loop-c-preserved c = ?
+loop-c-preserved c =
+    let a = c.args in
+    some_later a.self.now c.requires c.connections-c-items.ensures (names a.region a.location) (omega arith) _ c.names.ensures c.loop-c.invariant c.if-names.false
 
--- src/view.rt:94:5
 pub returns : goal.returns
-returns c = ?
+returns c =
+    let a = c.args in
+    some_end a.self.now c.requires c.connections-c-items.ensures (names a.region a.location) (omega arith) c.loop-c.invariant

@@ -1,34 +1,35 @@
-use Rattle.std.proofs.Common.{rules, ◌≡◌, nat_eq, length, map, option_map, ℕ, ◌+◌, ◌-◌, ◌*◌, ◌<◌, ◌≤◌, ◌/◌, ◌%◌, Bool, true, false, nat_lt, List, [], ◌∷◌, ◌++◌, slice_index_or, slice_set, bit_and, bit_or, Fits, w8, w32, w64, Bor, MutBor}
-use Rattle.std.specs.List.{find}
-use Rattle.region_graph.specs.Lists.{exists, member}
-use Rattle.region_graph.specs.Calls.{at_location, names, joins}
-use Rattle.region_graph.specs.Sets.{set_of}
-use Rattle.region_graph.specs.Items.{provides, passes}
-use Rattle.region_graph.specs.Record.{Valid, meaning, store_bundle, store_connection, bundle_in, connection_in}
-use Rattle.region_graph.specs.Places.{BundleStored, ConnectionStored}
-use Rattle.region_graph.specs.Promise.{place_of, provider_place, holder_set, predecessor_sets, bundle_at, connection_at}
+use mathlib.Core.Path.{◌∙◌}
+use native.Mathlib.Omega.{arith}
+use Rattle.region_graph.specs.Items.{passes}
+use Rattle.region_graph.proofs.Views.{led_none, connection_stored_at, target_region, leader_took, leader_left, sets_all}
+use Rattle.region_graph.proofs.Graph.predecessors.Goals.{then-connection_passes, else-connection_passes}
 use Rattle.region_graph.proofs.Graph.predecessors.Goals as goal
 
--- src/view.rt:143:9
 pub loop-c-init : goal.loop-c-init
-loop-c-init c = ?
+loop-c-init c = led_none (λ c. c.source) (λ c. c.target) (λ x. passes c.args.item x.filter)
 
--- src/view.rt:144:16
 pub connection_passes-requires : goal.connection_passes-requires
-connection_passes-requires c = ?
+connection_passes-requires c = connection_stored_at c.args.self.now c.requires c.connections-c-items.ensures c.loop-c.c-index _ (omega arith)
 
--- src/view.rt:145:17
 pub bounds-sets-c : goal.bounds-sets-c
-bounds-sets-c c = ?
+bounds-sets-c c = target_region c.args.self.now c.requires c.connections-c-items.ensures c.loop-c.c-index _ (omega arith)
 
--- src/view.rt:145:17
 pub bounds-sets-c-then-connection_passes : goal.bounds-sets-c-then-connection_passes
-bounds-sets-c-then-connection_passes c = ?
+bounds-sets-c-then-connection_passes c = target_region c.args.self.now c.requires c.connections-c-items.ensures c.loop-c.c-index _ (omega arith)
 
--- src/view.rt:143:9
 pub loop-c-preserved : goal.loop-c-preserved
-loop-c-preserved c = ?
+loop-c-preserved c =
+    let g = c.args.self.now in
+    elim c.if-connection_passes.branch [
+      | then-connection_passes w ↦
+          w.sets-is
+          ∙ leader_took g c.requires c.connections-c-items.ensures c.args.item (omega arith) c.loop-c.invariant _ c.connection_passes.ensures
+          w.if-connection_passes.true w.singleton.ensures
+      | else-connection_passes w ↦
+          w.sets-is
+          ∙ leader_left g c.requires c.connections-c-items.ensures c.args.item (omega arith) c.loop-c.invariant _ c.connection_passes.ensures
+          w.if-connection_passes.false
+    ]
 
--- src/view.rt:138:5
 pub returns : goal.returns
-returns c = ?
+returns c = sets_all c.args.self.now c.requires c.connections-c-items.ensures c.args.item (omega arith) c.loop-c.invariant

@@ -35,6 +35,7 @@ use Rattle.region_graph.specs.declared.connections.Connections.{Connections}
 use Rattle.region_graph.specs.declared.Graph.{Graph}
 use Rattle.region_graph.specs.Promise.{Empty, Changed, changed, Follows}
 use Rattle.region_graph.specs.declared.refusals.Refusal.{Refusal}
+use Rattle.region_graph.specs.declared.refusals.Refusal.TheVariants as Refusal
 use Rattle.std.specs.Prelude.{Result, Ok, Err}
 use Rattle.region_graph.proofs.Lists.{pick_yes, pick_no, all_map, all_made, all_at, keep_same, member_kept, member_counted, exists_insert, eqb_sym}
 use Rattle.region_graph.proofs.Ascending.{members_back}
@@ -422,8 +423,32 @@ stores_means m h e = ap meaning e ∙ meaning_back m h
 pub stores_nothing : {g : Graph} → g ≡ store nothing → Empty g
 stores_nothing e = record { valid = stores_valid nothing legal_nothing e; model = stores_means nothing legal_nothing e }
 
+-- no refusal has the number of an accepted call
+pub refusal_numbered : (x : Refusal) → refusal_number x ≡ not_refused → ⊥
+refusal_numbered Refusal.NotARegion e = omega (arith, e)
+refusal_numbered Refusal.RegionUsed e = omega (arith, e)
+refusal_numbered Refusal.NoSuchRegion e = omega (arith, e)
+refusal_numbered Refusal.EndsEqual e = omega (arith, e)
+refusal_numbered Refusal.Connected e = omega (arith, e)
+refusal_numbered Refusal.NotConnected e = omega (arith, e)
+refusal_numbered Refusal.ListTooLong e = omega (arith, e)
+refusal_numbered Refusal.ListOutOfOrder e = omega (arith, e)
+refusal_numbered Refusal.Installed e = omega (arith, e)
+refusal_numbered Refusal.Filtered e = omega (arith, e)
+refusal_numbered Refusal.Full e = omega (arith, e)
+refusal_numbered Refusal.NotInstalled e = omega (arith, e)
+refusal_numbered Refusal.NotAKind e = omega (arith, e)
+refusal_numbered Refusal.NoPlace e = omega (arith, e)
+refusal_numbered Refusal.NotAnArchive e = omega (arith, e)
+refusal_numbered Refusal.WrongLength e = omega (arith, e)
+refusal_numbered Refusal.BrokenLayout e = omega (arith, e)
+refusal_numbered Refusal.BrokenSheet e = omega (arith, e)
+refusal_numbered Refusal.NoEntry e = omega (arith, e)
+refusal_numbered Refusal.RangeReversed e = omega (arith, e)
+refusal_numbered Refusal.HasVersions e = omega (arith, e)
+
 -- a call, its answer, and the record that it leaves
-module _ (g : Graph) (c : Call) (v : Valid g) {A : Type 0} {r : Result A Refusal} {h : Graph} (e : answer_number r ≡ number (meaning g) c) where
+module _ (g : Graph) (c : Call) (v : Valid g) {A : Type 0} (r : Result A Refusal) {h : Graph} (e : answer_number r ≡ number (meaning g) c) where
   -- where it is refused, the record that it got
   pub refused : (answer_number r ≡ not_refused → ⊥) → h ≡ g → Follows g c (changed r h)
   refused u s =

@@ -87,7 +87,7 @@ impl Graph {
         if self.names(region, location) {
             return Err(Refusal::Filtered);
         }
-        if MOST_BUNDLES <= self.bundles.count {
+        if MOST_BUNDLES <= self.bundle_count() {
             return Err(Refusal::Full);
         }
         Ok(())
@@ -110,7 +110,7 @@ impl Graph {
         if !filter.ordered() {
             return Err(Refusal::RangeReversed);
         }
-        if MOST_CONNECTIONS <= self.connections.count {
+        if MOST_CONNECTIONS <= self.connection_count() {
             return Err(Refusal::Full);
         }
         Ok(())

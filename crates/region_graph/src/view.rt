@@ -89,7 +89,7 @@ impl Graph {
     {
         self.connections()
             .iter()
-            .any(|c| (c.source, c.target) == (source, target))
+            .any(|c| c.source == source && c.target == target)
     }
 
     // Whether a connection that leaves a region names a location in its bundle part.

@@ -6,8 +6,8 @@ use Prim.Native.Nat.{ℕ, suc, ◌+◌, ◌-◌, ◌≤◌, ◌<◌}
 use native.Mathlib.Numerals.{add-one}
 use native.Mathlib.Omega.{arith}
 use lib.ListN.{length, get_or, take, drop, set, replicate, length-append, length-replicate, length-map}
-use lib.Seq.{drop-cons, set_at, length-take-le}
-use Rattle.std.proofs.lemmas.List.{get_or_default}
+use lib.Seq.{paste, drop-cons, take-suc, set_at, length-take-le}
+use Rattle.std.proofs.lemmas.List.{get_or_default, drop-take}
 use Rattle.std.proofs.lemmas.List.Filters.{FiltersInPlace, FiltersInPlace-more_set, FiltersInPlace-more_no}
 use Rattle.region_graph.proofs.Arrays.{replicate_cons}
 
@@ -30,3 +30,14 @@ clearing_more {T} d {ys} {k} {i} y e h l =
     (set_at (take k d ++ replicate (i - k) y) (get_or d i y) (drop (suc i) d) y i m
     ∙ append_assoc (take k d) (replicate (i - k) y) (y ∷ drop (suc i) d)
     ∙ ap (λ (t : List T). take k d ++ t) (replicate_cons (i - k) y (drop (suc i) d)))
+
+-- the elements from a place on move up by one, and the place takes a new one
+pub placing : {T : Type 0} (xs : List T) (at count : ℕ) (y : T) → at ≤ count → count < length xs
+    → set (paste xs (at + 1) (drop at xs) (count - at)) at y ≡ take at xs ++ (y ∷ (drop at (take count xs) ++ drop (count + 1) xs))
+placing {T} xs at count y h l =
+    let n : at + 1 + (count - at) ≡ count + 1 = omega arith in
+    let m : at + (count - at) ≡ count = omega arith in
+    let k : length (take at xs) ≡ at = length-take-le at xs (omega arith) in
+    let r : drop at (take count xs) ≡ take (count - at) (drop at xs) = rw m at (drop-take at (count - at) xs) in
+    rw (n, r, add-one at, take-suc xs at y (omega arith), append_assoc, append_assoc)
+    (set_at (take at xs) (get_or xs at y) _ y at k)

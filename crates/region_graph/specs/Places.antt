@@ -78,6 +78,10 @@ BundlesStored bs = Stored store_bundles bundles_of (AtMost most_bundles ShortBun
 abbrev pub ConnectionsStored : Connections → Type 0
 ConnectionsStored cs = Stored store_connections connections_of (AtMost most_connections ShortConnection) cs
 
+-- what answers a test answers p
+abbrev pub Tests : {A : Type 0} → (A → Bool → Type 0) → (A → Bool) → Type 0
+Tests {A} Answers p = (x : A) (b : Bool) → Answers x b → b ≡ p x
+
 -- of the first `count` places those that pass are kept, the places that they leave hold `blank`, and the others are as they were
 abbrev pub Retained : {A : Type 0} → (A → Bool) → List A → ℕ → A → ℕ → List A → Type 0
 Retained p old count blank kept new =

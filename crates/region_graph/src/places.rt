@@ -1,18 +1,18 @@
 // Arrays whose first places are used, of any element: leaving some out, and putting one in.
 ghost use Rattle.std.specs.Prelude.{◌≡◌, ◌≤◌, ◌<◌, Bool, length};
-ghost use Rattle.std.specs.Fn.{ComputesKey};
-ghost use Rattle.region_graph.specs.Places.{Retained, Inserted};
+ghost use Rattle.std.specs.Fn.{FnReturnsAt, ComputesKey};
+ghost use Rattle.region_graph.specs.Places.{Tests, Retained, Inserted};
 
 // Keeps those of the first `count` places that pass, in their order. Each place that they leave takes `blank`. Says how many are kept.
-pub fn retain<T: Copy, F: FnMut(&T) -> bool>(
+pub fn retain<T: Copy, F: Fn(&T) -> bool>(
     items: &mut [T],
     count: usize,
     blank: T,
-    mut keeps: F,
+    keeps: F,
 ) -> usize
     requires in_bounds { count ≤ length items.old }
     requires callable { F.IsAlwaysCallable keeps }
-    ensures { (p : T → Bool) → ComputesKey F.FnMut p keeps → Retained p items.old count blank result items.new }
+    ensures { (p : T → Bool) → Tests (FnReturnsAt F.Fn keeps) p → Retained p items.old count blank result items.new }
 {
     let mut kept = 0;
     for i in 0..count {
@@ -21,7 +21,9 @@ pub fn retain<T: Copy, F: FnMut(&T) -> bool>(
             kept += 1;
         }
     }
-    items[kept..count].fill(blank);
+    for left in kept..count {
+        items[left] = blank;
+    }
     kept
 }
 

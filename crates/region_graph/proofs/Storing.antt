@@ -15,7 +15,7 @@ use Rattle.region_graph.specs.Lists.{All, exists, member, keep, position, insert
 use Rattle.region_graph.specs.Sets.{bit, has, singleton, members, set_of}
 use Rattle.region_graph.specs.Model.{Model, Package, PackageEntry, packages, entries, Bundle, Part, Connection, nothing}
 use Rattle.region_graph.specs.Model.{Sorted, SortedPart, Legal, LegalBundle, LegalConnection}
-use Rattle.region_graph.specs.Model.{Word, LegalEntry, entry_before}
+use Rattle.region_graph.specs.Model.{Word, Version, PackageFits, EntryFits, LegalEntry, entry_before}
 use Rattle.region_graph.specs.Calls.{Call, number, accepted}
 use Rattle.region_graph.specs.Record.{number_places, Stored, Valid, store, meaning, no_bundle, no_connection}
 use Rattle.region_graph.specs.Record.{Numbers, Provided, store_list, list_of, store_numbers, numbers_of, store_provided, provided_of, store_part, part_in}
@@ -40,7 +40,7 @@ use Rattle.std.specs.Prelude.{Result, Ok, Err}
 use Rattle.region_graph.proofs.Lists.{pick_yes, pick_no, all_map, all_made, all_at, keep_same, member_kept, member_counted, exists_insert, eqb_sym}
 use Rattle.region_graph.proofs.Ascending.{members_back}
 use Rattle.region_graph.proofs.Bits.{has_set, set_ext, set_join, set_leave}
-use Rattle.region_graph.proofs.Legal.{legal_accepted, legal_nothing, Words}
+use Rattle.region_graph.proofs.Legal.{legal_accepted, legal_nothing, PartAll, Words}
 use Rattle.region_graph.proofs.Arrays.{Filled, filled_none, filled_at, filled_inside, filled_found, filled_missed, drop_replicate}
 use Rattle.region_graph.proofs.Columns.{packages_whole, entries_whole}
 
@@ -423,6 +423,43 @@ stores_means m h e = ap meaning e ∙ meaning_back m h
 pub stores_nothing : {g : Graph} → g ≡ store nothing → Empty g
 stores_nothing e = record { valid = stores_valid nothing legal_nothing e; model = stores_means nothing legal_nothing e }
 
+-- where the places that store lists have 32 bits, or 16, so has what they store
+front_all : {A : Type 0} (P : ℕ → Type 0) (f : A → ℕ) (xs : List A) (rest : List ℕ) → ((i : ℕ) → P (get_or (map f xs ++ rest) i 0)) → All (λ x. P (f x)) xs
+front_all P f [] rest h = tt
+front_all P f (x ∷ xs) rest h = (h 0, front_all P f xs rest (λ i. h (suc i)))
+
+pub list_words : {most : ℕ} {n : NumberList most} (xs : List ℕ) → n ≡ store_list most xs → ((i : ℕ) → Word (get_or n.items i 0)) → All Word xs
+unfolding store_list
+list_words {most} xs e h = front_all Word (λ x. x) xs (replicate (most - length xs) 0) (rw e at h)
+
+pub packages_words : {p : Packages} (ps : List Package) → p ≡ store_packages ps → ((i : ℕ) → Word (get_or p.numbers i 0))
+    → ((i : ℕ) → Version (get_or p.versions i 0)) → All PackageFits ps
+unfolding store_packages
+packages_words ps e h k =
+    both ps (front_all Word (λ p. p.number) ps (replicate (most_provided - length ps) 0) (rw e at h))
+    (front_all Version (λ p. p.version) ps (replicate (most_provided - length ps) 0) (rw e at k))
+  where
+    both : (qs : List Package) → All (λ p. Word p.number) qs → All (λ p. Version p.version) qs → All PackageFits qs
+    both [] f g = tt
+    both (q ∷ qs) f g = (record { number = f.0; version = g.0 }, both qs f.1 g.1)
+
+pub part_words : {n : Numbers} (p : Part ℕ) → n ≡ store_part p → ((i : ℕ) → Word (get_or n.items i 0)) → PartAll Word p
+part_words (Part.listed xs) e h = list_words xs e h
+part_words Part.everything e h = tt
+
+pub package_part_words : {n : Entries} (p : Part PackageEntry) → n ≡ store_package_part p → ((i : ℕ) → Word (get_or n.numbers i 0))
+    → ((i : ℕ) → Version (get_or n.lowest i 0)) → ((i : ℕ) → Version (get_or n.highest i 0)) → PartAll EntryFits p
+unfolding store_entries
+package_part_words (Part.listed es) e h k l =
+    each es (front_all Word (λ x. x.number) es (replicate (most_listed - length es) 0) (rw e at h))
+    (front_all Version (λ x. x.lowest) es (replicate (most_listed - length es) 0) (rw e at k))
+    (front_all Version (λ x. x.highest) es (replicate (most_listed - length es) 0) (rw e at l))
+  where
+    each : (ds : List PackageEntry) → All (λ x. Word x.number) ds → All (λ x. Version x.lowest) ds → All (λ x. Version x.highest) ds → All EntryFits ds
+    each [] f g j = tt
+    each (d ∷ ds) f g j = (record { number = f.0; lowest = g.0; highest = j.0 }, each ds f.1 g.1 j.1)
+package_part_words Part.everything e h k l = tt
+
 -- no refusal has the number of an accepted call
 pub refusal_numbered : (x : Refusal) → refusal_number x ≡ not_refused → ⊥
 refusal_numbered Refusal.NotARegion e = omega (arith, e)
@@ -447,28 +484,30 @@ refusal_numbered Refusal.NoEntry e = omega (arith, e)
 refusal_numbered Refusal.RangeReversed e = omega (arith, e)
 refusal_numbered Refusal.HasVersions e = omega (arith, e)
 
--- a call, its answer, and the record that it leaves
-module _ (g : Graph) (c : Call) (v : Valid g) {A : Type 0} (r : Result A Refusal) {h : Graph} (e : answer_number r ≡ number (meaning g) c) where
+-- a call, what it answers, and the record that it leaves
+module _ (g : Graph) (c : Call) (v : Valid g) where
   -- where it is refused, the record that it got
-  pub refused : (answer_number r ≡ not_refused → ⊥) → h ≡ g → Follows g c (changed r h)
-  refused u s =
+  pub refused : (x : Refusal) → refusal_number x ≡ number (meaning g) c → {r : Result (Unit {0}) Refusal} → r ≡ Err x → Follows g c (changed r g)
+  refused x n {r} e =
+      let k : answer_number r ≡ refusal_number x = ap answer_number e in
       record {
-        valid = subst Valid (sym s) v;
-        number = e;
-        next = ap meaning s ∙ sym (pick_no (accepted (meaning g) c) (meaning g) (ne_eqb (number (meaning g) c) not_refused (λ z. u (e ∙ z))));
-        kept = λ f. s;
+        valid = v;
+        number = k ∙ n;
+        next = sym (pick_no (accepted (meaning g) c) (meaning g) (ne_eqb (number (meaning g) c) not_refused (λ z. refusal_numbered x (n ∙ z))));
+        kept = λ f. refl;
       }
 
   -- where it is accepted, the record that stores the model after it
-  pub accepts : Words c → answer_number r ≡ not_refused → h ≡ store (accepted (meaning g) c) → Follows g c (changed r h)
-  accepts w z s =
+  pub accepts : Words c → not_refused ≡ number (meaning g) c → {h : Graph} → h ≡ store (accepted (meaning g) c)
+      → Follows g c (changed {A = Unit {0}} (Ok tt) h)
+  accepts w n s =
       let m = accepted (meaning g) c in
-      let l : Legal m = legal_accepted (meaning g) c v.good w (sym e ∙ z) in
+      let l : Legal m = legal_accepted (meaning g) c v.good w (sym n) in
       record {
         valid = stores_valid m l s;
-        number = e;
-        next = stores_means m l s ∙ sym (pick_yes m (meaning g) (eq-eqb (number (meaning g) c) not_refused (sym e ∙ z)));
-        kept = λ f. absurd (f z);
+        number = n;
+        next = stores_means m l s ∙ sym (pick_yes m (meaning g) (eq-eqb (number (meaning g) c) not_refused (sym n)));
+        kept = λ f. absurd (f refl);
       }
 
 -- the promises settle the outcome: two records that meet them are one

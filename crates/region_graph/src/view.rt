@@ -87,9 +87,12 @@ impl Graph {
         requires { Valid self.now }
         ensures { result ≡ exists (joins source target) (meaning self.now).connections }
     {
-        self.connections()
-            .iter()
-            .any(|c| c.source == source && c.target == target)
+        for c in self.connections() {
+            if c.joins(source, target) {
+                return true;
+            }
+        }
+        false
     }
 
     // Whether a connection that leaves a region names a location in its bundle part.

@@ -67,11 +67,12 @@ returns c =
     let g = c.args.self.now in
     let x = handed_connection c.args.source c.args.target c.args.filter in
     let n = asked_on (meaning g) x c.in_ok-ask_ends.ensures refl c.in_ok-ask_connection.ensures in
+    let t = c.new-connection.type_inv in
     accepts g (Call.connect x) c.requires
     (
       list_words x.filter.bundles (ap (λ (z : StoredConnection). z.bundles) c.new-connection.ensures) (λ i. search rules),
       package_part_words x.filter.packages (ap (λ (z : StoredConnection). z.packages) c.new-connection.ensures)
-          (λ i. search rules) (λ i. search rules) (λ i. search rules),
+          (λ i. search rules) (λ i. search (rules, t)) (λ i. search (rules, t)),
       part_words x.filter.services (ap (λ (z : StoredConnection). z.services) c.new-connection.ensures) (λ i. search rules),
     )
     n

@@ -68,8 +68,8 @@ fn put_heads(places: &mut [u32], codes: &[u64], bits: u32) -> Option<()>
     Some(())
 }
 
-// Puts the version that stands above the lower bits of each code into the first places.
-fn put_versions(places: &mut [u16], codes: &[u64], bits: u32)
+// Puts the 16 bits that stand above the lower bits of each code into the first places.
+fn put_tails(places: &mut [u16], codes: &[u64], bits: u32)
     requires codes_in_bounds { length codes.now ≤ length places.old }
     requires bits_bound { bits < 64 }
     ensures { places.new ≡ put_into places.old (map (tail_from (2 ^ bits)) codes.now) }
@@ -112,7 +112,7 @@ fn packages_at(row: &[u64], at: usize) -> Option<Packages>
     let mut numbers = [0u32; MOST_PROVIDED];
     let mut versions = [0u16; MOST_PROVIDED];
     put_heads(&mut numbers, codes, VERSION_BITS)?;
-    put_versions(&mut versions, codes, 0);
+    put_tails(&mut versions, codes, 0);
     packages_ascending(&numbers[..count], &versions[..count]).then_some(Packages {
         count,
         numbers,
@@ -131,8 +131,8 @@ fn entries_at(row: &[u64], at: usize) -> Option<Entries>
     let mut lowest = [0u16; MOST_LISTED];
     let mut highest = [0u16; MOST_LISTED];
     put_heads(&mut numbers, codes, 2 * VERSION_BITS)?;
-    put_versions(&mut lowest, codes, VERSION_BITS);
-    put_versions(&mut highest, codes, 0);
+    put_tails(&mut lowest, codes, VERSION_BITS);
+    put_tails(&mut highest, codes, 0);
     if !entries_ascending(&numbers[..count], &lowest[..count], &highest[..count]) {
         return None;
     }

@@ -8,11 +8,11 @@ returns-in_err-put_heads c =
 
 pub returns-then-not-entries_ascending : goal.returns-then-not-entries_ascending
 returns-then-not-entries_ascending c =
-    entries_found c.args.row.now c.args.at c.in_ok-codes.ensures c.in_ok-put_heads.ensures c.put_versions.ensures c.put_versions-2.ensures
+    entries_found c.args.row.now c.args.at c.in_ok-codes.ensures c.in_ok-put_heads.ensures c.put_tails.ensures c.put_tails-2.ensures
     (sym c.if-not-entries_ascending.true ∙ c.entries_ascending.ensures) refl
 
 pub returns : goal.returns
 returns c =
     rw c.then_some.ensures
-    (entries_found c.args.row.now c.args.at c.in_ok-codes.ensures c.in_ok-put_heads.ensures c.put_versions.ensures c.put_versions-2.ensures
+    (entries_found c.args.row.now c.args.at c.in_ok-codes.ensures c.in_ok-put_heads.ensures c.put_tails.ensures c.put_tails-2.ensures
     (sym c.if-not-entries_ascending.false ∙ c.entries_ascending.ensures) c.entries_ordered.ensures)

@@ -32,13 +32,6 @@ pub struct Graph {
     connections: Connections,
 }
 
-// What a changing call hands back: the next graph, and 0 or the number of the question that was answered no.
-#[derive(Clone, Copy)]
-pub struct Changed {
-    pub graph: Graph,
-    pub number: u32,
-}
-
 // A number of one of the kinds 0 bundle, 1 package and 2 service, and a version, which counts for a package alone. A kind is a number since
 // the functions that take an item answer for every kind: of any other nothing is held and nothing passes.
 #[derive(Clone, Copy)]

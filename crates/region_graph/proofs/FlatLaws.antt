@@ -65,6 +65,16 @@ module _ (unit : ℕ) (codes : List ℕ) {old : List ℕ} where
     pub heads_end : length codes ≤ i → HeadsPut unit codes old (Some tt) new
     heads_end l = record { fit = rw (sym (every_done (word_head unit) codes i {b = true} s.fit l)); those = λ e. making_end s.making l }
 
+-- a value that is there, or not, by a test
+module _ {A : Type 0} (x : A) where
+  none_test : (b : Bool) → None ≡ then_some b x → b ≡ false
+  none_test true q = absurd (none-some x q)
+  none_test false q = refl
+
+  some_test : (b : Bool) {y : A} → Some y ≡ then_some b x → (b ≡ true) × (y ≡ x)
+  some_test true q = (refl, same_Some _ x q)
+  some_test false q = absurd (none-some _ (sym q))
+
 pub list_same : (row : List ℕ) (at : ℕ) (xs ys : List ℕ) → FlatList row at xs → FlatList row at ys → xs ≡ ys
 list_same row at xs ys h k = sym h.1 ∙ ap (λ (n : ℕ). take n (drop (at + 1) row)) (sym h.0 ∙ k.0) ∙ k.1
 
@@ -92,9 +102,13 @@ module _ {A : Type 0} (k : Coding A) (row : List ℕ) (at : ℕ) where
       is_out xs g h = ap (map k.out) (list_same row at codes (map k.code xs) r.there h) ∙ codes_back k xs g
 
       -- a head of more than 32 bits
-      pub coded_wide : words k codes ≡ false → (xs : List A) → Sorted k.before k.Good most xs → Listed xs → ⊥
-      coded_wide w xs g h =
-          false_true (sym w ∙ ap (words k) (list_same row at codes (map k.code xs) r.there h) ∙ codes_words k xs g.each)
+      module _ {old new : List ℕ} (f : HeadsPut k.unit codes old None new) where
+        pub coded_wide : (xs : List A) → Sorted k.before k.Good most xs → Listed xs → ⊥
+        coded_wide xs g h =
+            false_true (sym (none_test tt _ f.fit) ∙ ap (words k) (list_same row at codes (map k.code xs) r.there h) ∙ codes_words k xs g.each)
+
+        pub coded_none : {B : Type 0} {store : List A → B} {o : Option B} → o ≡ None → Decoded store (Sorted k.before k.Good most) Listed o
+        coded_none e = Decoded.none coded_wide e
 
       -- elements that are not right
       pub coded_wrong : right (map k.out codes) ≡ false → (xs : List A) → Sorted k.before k.Good most xs → Listed xs → ⊥
@@ -124,22 +138,12 @@ untested : {A : Type 0} (b : Bool) (xs : List A) → b ≡ (b && every (λ x. tr
 untested b [] = sym (and-true b)
 untested b (x ∷ xs) = untested b xs
 
--- a value that is there, or not, by a test
-module _ {A : Type 0} (x : A) where
-  none_test : (b : Bool) → None ≡ then_some b x → b ≡ false
-  none_test true q = absurd (none-some x q)
-  none_test false q = refl
-
-  some_test : (b : Bool) {y : A} → Some y ≡ then_some b x → (b ≡ true) × (y ≡ x)
-  some_test true q = (refl, same_Some _ x q)
-  some_test false q = absurd (none-some _ (sym q))
-
 module _ (row : List ℕ) (at : ℕ) where
   -- numbers
   module _ (old : List ℕ) {codes new : List ℕ} (r : CodesRead row at (length old) codes) where
     pub list_wide : {o : Option ℕ} → HeadsPut 1 codes old None new → o ≡ None → ListPut old row at o new
     list_wide f e =
-        Put.none (λ ns g h. coded_wide number_coded row at (length old) r (none_test tt _ f.fit) ns g (subst (FlatList row at) (sym (map_id ns)) h)) e
+        Put.none (λ ns g h. coded_wide number_coded row at (length old) r f ns g (subst (FlatList row at) (sym (map_id ns)) h)) e
 
     pub list_found : {t : Bool} → HeadsPut 1 codes old (Some tt) new → t ≡ ascends ltb (take (length codes) new)
         → ListPut old row at (then_some t (length codes)) new
@@ -163,9 +167,6 @@ module _ (row : List ℕ) (at : ℕ) where
 
   -- packages
   module _ {codes numbers : List ℕ} (r : CodesRead row at most_provided codes) where
-    pub packages_wide : {o : Option Packages} → HeadsPut (2 ^ 16) codes (replicate most_provided 0) None numbers → o ≡ None → PackagesDecoded row at o
-    packages_wide f e = Decoded.none (coded_wide package_coded row at most_provided r (none_test tt _ f.fit)) e
-
     pub packages_found : {versions : List ℕ} {t : Bool} → HeadsPut (2 ^ 16) codes (replicate most_provided 0) (Some tt) numbers
         → versions ≡ put_into (replicate most_provided 0) (map (tail_from 1) codes)
         → t ≡ ascends package_before (packages (take (length codes) numbers) (take (length codes) versions))
@@ -177,9 +178,6 @@ module _ (row : List ℕ) (at : ℕ) where
 
   -- entries
   module _ {codes numbers : List ℕ} (r : CodesRead row at most_listed codes) where
-    pub entries_wide : {o : Option Entries} → HeadsPut (2 ^ 32) codes (replicate most_listed 0) None numbers → o ≡ None → EntriesDecoded row at o
-    entries_wide f e = Decoded.none (coded_wide entry_coded row at most_listed r (none_test tt _ f.fit)) e
-
     pub entries_found : {lowest highest : List ℕ} {s t : Bool} → HeadsPut (2 ^ 32) codes (replicate most_listed 0) (Some tt) numbers
         → lowest ≡ put_into (replicate most_listed 0) (map (tail_from (2 ^ 16)) codes)
         → highest ≡ put_into (replicate most_listed 0) (map (tail_from 1) codes)
@@ -289,7 +287,7 @@ pub word_is : {E : Type 0} (n : ℕ) {m : ℕ} (r : Result ℕ E) → OkIff r (n
 word_is n (Ok l) k e = (k.0, sym (same_Some _ _ e ∙ k.1))
 word_is n (Err d) k e = absurd (none-some _ (sym e))
 
-module _ (x : ℕ) (row : List ℕ) where
+module _ (x : ℕ) where
   -- the number of a region
   abbrev Inside : ℕ → Type 0
   Inside r = member r (members x) ≡ true
@@ -297,76 +295,67 @@ module _ (x : ℕ) (row : List ℕ) where
   abbrev within : ℕ → Option ℕ
   within n = then_some (has x n) n
 
-  not_within : (n : ℕ) → None ≡ within n → (r : ℕ) → Inside r → n ≡ r → ⊥
-  not_within n e r g h = false_true (sym (none_test n _ e) ∙ ap (has x) h ∙ has_member x r ∙ g)
-
   is_within : (n : ℕ) {r : ℕ} → Some r ≡ within n → Inside r × (n ≡ r)
   is_within n {r} e = let t = some_test n _ e in (sym (has_member x r) ∙ ap (has x) t.1 ∙ t.0, sym t.1)
 
   -- a region that is not of the set
-  pub bundle_outside : {o : Option StoredBundle} → None ≡ within (get_or row 1 0) → o ≡ None
-      → Decoded store_bundle (LegalBundle (members x)) (FlatBundle row) o
-  bundle_outside e n = Decoded.none (λ y g h. not_within _ e y.region g.region h.second) n
+  pub outside : {A B : Type 0} {store : A → B} {Good Is : A → Type 0} (n : ℕ) (region : A → ℕ) → ((y : A) → Good y → Inside (region y))
+      → ((y : A) → Is y → n ≡ region y) → None ≡ within n → {o : Option B} → o ≡ None → Decoded store Good Is o
+  outside n region g h e {o} q =
+      Decoded.none (λ y l i. false_true (sym (none_test n _ e) ∙ ap (has x) (h y i) ∙ has_member x (region y) ∙ g y l)) q
 
-  pub source_outside : {o : Option StoredConnection} → None ≡ within (get_or row 0 0) → o ≡ None
-      → Decoded store_connection (LegalConnection (members x)) (FlatConnection row) o
-  source_outside e n = Decoded.none (λ y g h. not_within _ e y.source g.source h.first) n
+  module _ (row : List ℕ) where
+    pub bundle_found : {l r count : ℕ} {p : Packages} {items : List ℕ} → (get_or row 0 0 < 2 ^ 32) × (get_or row 0 0 ≡ l)
+        → Some r ≡ within (get_or row 1 0) → PackagesDecoded row 2 (Some p)
+        → ListPut (replicate most_provided 0) row (2 + (most_provided + 1)) (Some count) items
+        → Decoded store_bundle (LegalBundle (members x)) (FlatBundle row)
+        (Some (record { location = l; region = r; packages = p; services = record { count = count; items = items } }))
+    bundle_found {l} {r} w e p s =
+        let a = decoded_some p in
+        let b = provided_found row (2 + (most_provided + 1)) s in
+        let t = is_within (get_or row 1 0) e in
+        Decoded.found (record { location = l; region = r; packages = a.value; services = b.value })
+        (record { location = omega (arith, w.0, w.1); region = t.0; packages = a.good; services = b.good })
+        (record { first = w.1; second = t.1; parts = (a.is, (b.is, tt)) })
+        (λ i. Some (record { location = l; region = r; packages = a.stored i; services = b.stored i }))
 
-  pub target_outside : {o : Option StoredConnection} → None ≡ within (get_or row 1 0) → o ≡ None
-      → Decoded store_connection (LegalConnection (members x)) (FlatConnection row) o
-  target_outside e n = Decoded.none (λ y g h. not_within _ e y.target g.target h.second) n
+    pub connection_found : {y z n m : ℕ} {items others : List ℕ} {p : Entries} → Some y ≡ within (get_or row 0 0) → Some z ≡ within (get_or row 1 0)
+        → ListPut (replicate most_listed 0) row 2 (Some n) items → PackagePartDecoded row (2 + (most_listed + 1)) (Some p)
+        → PartPut (replicate most_listed 0) row (2 + 2 * (most_listed + 1)) (Some m) others
+        → Decoded store_connection (LegalConnection (members x)) (FlatConnection row)
+        (then_some (not (eqb y z)) (record {
+          source = y;
+          target = z;
+          bundles = record { count = n; items = items };
+          packages = p;
+          services = record { count = m; items = others };
+        }))
+    connection_found {y} {z} {n} {m} {items} {others} {p} u v b q s = go (eqb y z) refl
+      where
+        from : Inside y × (get_or row 0 0 ≡ y)
+        from = is_within (get_or row 0 0) u
 
-  pub bundle_found : {l r count : ℕ} {p : Packages} {items : List ℕ} → (get_or row 0 0 < 2 ^ 32) × (get_or row 0 0 ≡ l)
-      → Some r ≡ within (get_or row 1 0) → PackagesDecoded row 2 (Some p)
-      → ListPut (replicate most_provided 0) row (2 + (most_provided + 1)) (Some count) items
-      → Decoded store_bundle (LegalBundle (members x)) (FlatBundle row)
-      (Some (record { location = l; region = r; packages = p; services = record { count = count; items = items } }))
-  bundle_found {l} {r} w e p s =
-      let a = decoded_some p in
-      let b = provided_found row (2 + (most_provided + 1)) s in
-      let t = is_within (get_or row 1 0) e in
-      Decoded.found (record { location = l; region = r; packages = a.value; services = b.value })
-      (record { location = omega (arith, w.0, w.1); region = t.0; packages = a.good; services = b.good })
-      (record { first = w.1; second = t.1; parts = (a.is, (b.is, tt)) })
-      (λ i. Some (record { location = l; region = r; packages = a.stored i; services = b.stored i }))
+        to : Inside z × (get_or row 1 0 ≡ z)
+        to = is_within (get_or row 1 0) v
 
-  pub connection_found : {y z n m : ℕ} {items others : List ℕ} {p : Entries} → Some y ≡ within (get_or row 0 0) → Some z ≡ within (get_or row 1 0)
-      → ListPut (replicate most_listed 0) row 2 (Some n) items → PackagePartDecoded row (2 + (most_listed + 1)) (Some p)
-      → PartPut (replicate most_listed 0) row (2 + 2 * (most_listed + 1)) (Some m) others
-      → Decoded store_connection (LegalConnection (members x)) (FlatConnection row)
-      (then_some (not (eqb y z)) (record {
-        source = y;
-        target = z;
-        bundles = record { count = n; items = items };
-        packages = p;
-        services = record { count = m; items = others };
-      }))
-  connection_found {y} {z} {n} {m} {items} {others} {p} u v b q s = go (eqb y z) refl
-    where
-      from : Inside y × (get_or row 0 0 ≡ y)
-      from = is_within (get_or row 0 0) u
-
-      to : Inside z × (get_or row 1 0 ≡ z)
-      to = is_within (get_or row 1 0) v
-
-      go : (t : Bool) → eqb y z ≡ t → Decoded store_connection (LegalConnection (members x)) (FlatConnection row)
-          (then_some (not t) (record { source = y; target = z; bundles = numbers_made n items; packages = p; services = numbers_made m others }))
-      go true e =
-          Decoded.none
-          (λ c g h. false_true (sym g.differ ∙ eq-eqb _ _ (sym h.first ∙ from.1 ∙ eqb-true y z e ∙ sym to.1 ∙ h.second))) refl
-      go false e =
-          let a = numbers_found row 2 b in
-          let d = decoded_some q in
-          let f = part_found row (2 + 2 * (most_listed + 1)) s in
-          Decoded.found (record { source = y; target = z; filter = record { bundles = a.value; packages = d.value; services = f.value } })
-          (record {
-            source = from.0;
-            target = to.0;
-            differ = e;
-            filter = record { bundles = a.good; packages = d.good; services = f.good };
-          })
-          (record { first = from.1; second = to.1; parts = (a.is, (d.is, (f.is, tt))) })
-          (λ i. Some (record { source = y; target = z; bundles = a.stored i; packages = d.stored i; services = f.stored i }))
+        go : (t : Bool) → eqb y z ≡ t → Decoded store_connection (LegalConnection (members x)) (FlatConnection row)
+            (then_some (not t) (record { source = y; target = z; bundles = numbers_made n items; packages = p; services = numbers_made m others }))
+        go true e =
+            Decoded.none
+            (λ c g h. false_true (sym g.differ ∙ eq-eqb _ _ (sym h.first ∙ from.1 ∙ eqb-true y z e ∙ sym to.1 ∙ h.second))) refl
+        go false e =
+            let a = numbers_found row 2 b in
+            let d = decoded_some q in
+            let f = part_found row (2 + 2 * (most_listed + 1)) s in
+            Decoded.found (record { source = y; target = z; filter = record { bundles = a.value; packages = d.value; services = f.value } })
+            (record {
+              source = from.0;
+              target = to.0;
+              differ = e;
+              filter = record { bundles = a.good; packages = d.good; services = f.good };
+            })
+            (record { first = from.1; second = to.1; parts = (a.is, (d.is, (f.is, tt))) })
+            (λ i. Some (record { source = y; target = z; bundles = a.stored i; packages = d.stored i; services = f.stored i }))
 
 -- a row is that of one bundle or connection
 

@@ -170,9 +170,6 @@ module _ {B : Type 0} {k : Kind B} {width : ℕ} {key : B → ℕ} (law : KindLa
               f y gy (subst (λ (r : List ℕ). k.Is r y) first h.1)
               (leb-true least (key (k.put y)) (sym (t.next y gy) ∙ a)) (omega (arith, n, g.few, t.counted))
 
-      pub stuck_full : {o : Option ℕ} → i ≡ length old → o ≡ None → RowsPut k width rows old o new
-      stuck_full l e = stuck (λ y g h m r. omega (arith, l, r)) e
-
       pub stuck_bad : {o : Option ℕ} → Decoded k.put k.Good (k.Is row) None → o ≡ None → RowsPut k width rows old o new
       stuck_bad d e = stuck (λ y g h m r. decoded_none d y g h) e
 

@@ -1,10 +1,13 @@
 use mathlib.Core.Path.{refl, sym, ◌∙◌}
-use Rattle.region_graph.proofs.FlatLaws.{entries_wide, entries_found}
+use Rattle.region_graph.specs.Size.{most_listed}
+use Rattle.region_graph.proofs.Codes.{entry_coded}
+use Rattle.region_graph.proofs.FlatLaws.{coded_none, entries_found}
 use Rattle.region_graph.proofs.flat.entries_at.Goals as goal
 
 pub returns-in_err-put_heads : goal.returns-in_err-put_heads
 returns-in_err-put_heads c =
-    entries_wide c.args.row.now c.args.at c.in_ok-codes.ensures c.in_err-put_heads.ensures c.from_residual-in_err-put_heads.ensures
+    coded_none entry_coded c.args.row.now c.args.at most_listed c.in_ok-codes.ensures c.in_err-put_heads.ensures
+    c.from_residual-in_err-put_heads.ensures
 
 pub returns-then-not-entries_ascending : goal.returns-then-not-entries_ascending
 returns-then-not-entries_ascending c =

@@ -19,10 +19,9 @@ use Rattle.big_endian.specs.Bytes.{big, counted}
 use Rattle.region_archive.specs.Image.{body_in}
 use Rattle.big_endian.specs.Parsing.{Parsed, Unparsed}
 use Rattle.region_archive.specs.RecordFields.{Elem, most_records, LegalElems, record_bytes, section_bytes, elements}
-use Rattle.region_archive.specs.Sections.{RegionsRead, SectionRead, LegalIn, BodyRead, whole, broken}
+use Rattle.region_archive.specs.Sections.{RegionsStand, SectionStands, LegalIn, BodyRead, whole, broken}
 use Rattle.region_archive.specs.declared.record_fields.Section.{Section}
-use Rattle.region_archive.specs.declared.sections.RegionsAt.{RegionsAt}
-use Rattle.region_archive.specs.declared.sections.SectionAt.{SectionAt}
+use Rattle.region_archive.specs.declared.sections.Regions.{Regions}
 use Rattle.region_archive.proofs.CountedLists.{region_bytes, counted_same}
 use Rattle.region_archive.proofs.Records.{body_sections, section_elements}
 use Rattle.region_archive.proofs.Versions.{may_have, may_have_it, version_of, legal_elements, elements_legal}
@@ -123,31 +122,25 @@ pub record Sections (v : ℕ) (s : List ℕ) (at : ℕ) (rl bl cl : List ℕ) (e
   pub flat : FlatModel rl bl cl model
 
 -- the answers of the calls: the regions stand there
-module _ (v : ℕ) {s : List ℕ} {at : ℕ} {list : List ℕ} {x : RegionsAt} (a : RegionsRead s at list x) (i : x.ok ≡ true) where
+module _ (v : ℕ) {s : List ℕ} {at : ℕ} {list : List ℕ} {x : Regions} {mid : ℕ} (a : RegionsStand s at list x mid) where
   pub version_differs : {b : Bool} → b ≡ may_have v (members x.set) → b ≡ false → NoBody v s at
-  version_differs e u = no_version v (a.answer.found i) (sym e ∙ u)
+  version_differs e u = no_version v a.parsed (sym e ∙ u)
 
-  pub bundles_missing : {rows : List ℕ} {y : SectionAt} → SectionRead (Section.Bundles v) (members x.set) s x.next rows y → y.ok ≡ false
-      → NoBody v s at
-  bundles_missing b j = no_bundles v (a.answer.found i) (b.answer.missing j)
+  pub bundles_missing : Missing (Section.Bundles v) (members x.set) s mid → NoBody v s at
+  bundles_missing u = no_bundles v a.parsed u
 
   -- and the bundles do
-  module _ {rows : List ℕ} {y : SectionAt} (b : SectionRead (Section.Bundles v) (members x.set) s x.next rows y) (j : y.ok ≡ true)
-      {others : List ℕ} {z : SectionAt} (c : SectionRead (Section.Connections v) (members x.set) s y.next others z) where
-    pub connections_missing : z.ok ≡ false → NoBody v s at
-    connections_missing k = no_connections v (a.answer.found i) (b.answer.found j).parsed (c.answer.missing k)
+  module _ {rows : List ℕ} {count to : ℕ} (b : SectionStands (Section.Bundles v) (members x.set) s mid rows count to) where
+    pub connections_missing : Missing (Section.Connections v) (members x.set) s to → NoBody v s at
+    connections_missing u = no_connections v a.parsed b.read.parsed u
 
-    pub three_sections : {t : Bool} → t ≡ may_have v (members x.set) → t ≡ true → z.ok ≡ true
-        → Sections v s at (take x.count list) (take y.count rows) (take z.count others) z.next
-    three_sections d e k =
-        let p = a.answer.found i in
-        let q = b.answer.found j in
-        let t = c.answer.found k in
-        record {
-          model = record { regions = members x.set; bundles = q.value; connections = t.value };
-          parsed = whole_body v p q.parsed (sym d ∙ e) t.parsed;
-          flat = record { regions_are = sym (a.listed i); bundles_are = q.put; connections_are = t.put };
-        }
+    pub three_sections : {others : List ℕ} {more end : ℕ} → SectionStands (Section.Connections v) (members x.set) s to others more end
+        → {t : Bool} → t ≡ may_have v (members x.set) → t ≡ true → Sections v s at (take x.count list) (take count rows) (take more others) end
+    three_sections c d e = record {
+      model = record { regions = members x.set; bundles = b.read.value; connections = c.read.value };
+      parsed = whole_body v a.parsed b.read.parsed (sym d ∙ e) c.read.parsed;
+      flat = record { regions_are = sym a.listed; bundles_are = b.read.put; connections_are = c.read.put };
+    }
 
 -- the graph of these lists is the body's
 pub body_made : {v : ℕ} {s : List ℕ} {at : ℕ} {rl bl cl : List ℕ} {end : ℕ} → Sections v s at rl bl cl end → end ≡ length s

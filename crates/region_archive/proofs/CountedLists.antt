@@ -1,16 +1,14 @@
 -- Lists behind a count byte, of at most so many elements in order.
 use mathlib.Core.Path.{◌≡◌, refl, sym, ap, ◌∙◌}
-use mathlib.Core.Bool.{Bool, true, false}
 use mathlib.Core.List.{List, [], ◌∷◌, ◌++◌, append-nil}
 use Prim.Native.Nat.{ℕ, ◌/◌, ◌%◌, ◌≤◌, ◌<◌}
 use native.Mathlib.Omega.{arith}
-use borrow.Author.Tests.{eqb-true, eqb-false}
-use lib.Dec.{eqb, ltb}
+use lib.Dec.{ltb}
 use lib.ListN.{length, drop, length-append}
 use Rattle.region_graph.specs.Size.{regions}
 use Rattle.region_graph.specs.Model.{Sorted}
 use Rattle.big_endian.specs.Bytes.{big, counted}
-use Rattle.big_endian.specs.Parsing.{Parsed, Unparsed, Answer, AnswerInto}
+use Rattle.big_endian.specs.Parsing.{Parsed, Unparsed}
 use Rattle.big_endian.proofs.Delimits.{Delimits, big_same, head_same, tail_same}
 use Rattle.big_endian.proofs.Rows.{Elements, all_bytes, begins, Going, NoNext, going_past}
 use Rattle.region_archive.proofs.CountedReads.{byte_stands}
@@ -43,38 +41,27 @@ module _ {A : Type 0} (k : Elements A) (most : ℕ) where
       let z : b.rest ≡ [] = none_left b.rest (omega (arith, ap length b.split ∙ length-append xs b.rest)) in
       (sym (b.split ∙ ap (λ (l : List A). xs ++ l) z ∙ append-nil xs), b.left ∙ ap (λ (l : List A). all_bytes k l ++ t) z)
 
+  -- no count, and no list
+  pub counted_missing : most < 256 → (s : List ℕ) (from : ℕ) → Unparsed (λ m. m ≤ most) (big 1) s from → Unparsed InOrder (counted k.bytes) s from
+  counted_missing small s from u xs t h f =
+      let g : length xs ≡ length xs / 1 % 256 = omega (arith, h.few) in
+      u (length xs) (all_bytes k xs ++ t) h.few (f ∙ ap (λ (m : ℕ). m ∷ (all_bytes k xs ++ t)) g)
+
   -- a count, and the list behind it
-  module _ (small : most < 256) {s : List ℕ} {from : ℕ} {ok : Bool} {total mid : ℕ}
-      (a : Answer (λ m. m ≤ most) (big 1) s from ok total mid) where
-    pub counted_missing : ok ≡ false → Unparsed InOrder (counted k.bytes) s from
-    counted_missing e xs t h f =
-        let g : length xs ≡ length xs / 1 % 256 = omega (arith, h.few) in
-        a.missing e (length xs) (all_bytes k xs ++ t) h.few (f ∙ ap (λ (m : ℕ). m ∷ (all_bytes k xs ++ t)) g)
+  module _ (small : most < 256) {s : List ℕ} {from total mid : ℕ} (p : Parsed (λ m. m ≤ most) (big 1) s from total mid)
+      {xs : List A} {at least : ℕ} (g : Going k s mid xs at least) where
+    byte : drop from s ≡ total ∷ drop mid s
+    byte = byte_stands (omega (arith, p.is_good)) p
 
-    module _ (e : ok ≡ true) {xs : List A} {at least : ℕ} (g : Going k s mid xs at least) where
-      byte : drop from s ≡ total ∷ drop mid s
-      byte = byte_stands (omega (arith, (a.found e).is_good)) (a.found e)
+    pub counted_found : length xs ≡ total → Parsed InOrder (counted k.bytes) s from xs at
+    counted_found l = record {
+      is_good = record { few = omega (arith, p.is_good); each = g.every; ascend = g.ascend };
+      shape = byte ∙ (λ i. sym l i ∷ g.shape i);
+      ends = omega (arith, p.ends, g.ends);
+      room = g.room;
+    }
 
-      pub counted_found : length xs ≡ total → Parsed InOrder (counted k.bytes) s from xs at
-      counted_found l = record {
-        is_good = record { few = omega (arith, (a.found e).is_good); each = g.every; ascend = g.ascend };
-        shape = byte ∙ (λ i. sym l i ∷ g.shape i);
-        ends = omega (arith, (a.found e).ends, g.ends);
-        room = g.room;
-      }
-
-      pub counted_stuck : length xs < total → NoNext k s at least → Unparsed InOrder (counted k.bytes) s from
-      counted_stuck l u ys t h f =
-          let d : total ∷ drop mid s ≡ length ys ∷ (all_bytes k ys ++ t) = sym byte ∙ f in
-          going_past k g ys t (omega (arith, head_same d)) h.each h.ascend (tail_same d) u
-
-      -- the list or none, by whether all its elements were read
-      pub counted_answer : {n : ℕ} {is : List A → Type 0} → n ≡ length xs → n ≤ total → (n ≡ total → is xs)
-          → (n < total → NoNext k s at least) → AnswerInto InOrder (counted k.bytes) s from (eqb n total) is at
-      counted_answer {n} c l put u = record {
-        found = λ y. let f = eqb-true n total y in record { value = xs; parsed = counted_found (sym c ∙ f); put = put f };
-        missing = λ y.
-            let v = eqb-false n total y in
-            let f : n < total = omega arith in
-            counted_stuck (omega arith) (u f);
-      }
+    pub counted_stuck : length xs < total → NoNext k s at least → Unparsed InOrder (counted k.bytes) s from
+    counted_stuck l u ys t h f =
+        let d : total ∷ drop mid s ≡ length ys ∷ (all_bytes k ys ++ t) = sym byte ∙ f in
+        going_past k g ys t (omega (arith, head_same d)) h.each h.ascend (tail_same d) u

@@ -1,6 +1,6 @@
 -- One field more of a record is read into its row.
 use mathlib.Core.Path.{◌≡◌, refl, sym, ap, ◌∙◌, subst}
-use mathlib.Core.Bool.{Bool, false}
+use mathlib.Core.Bool.{Bool, true, false}
 use mathlib.Core.List.{List, [], ◌∷◌, ◌++◌, append-nil}
 use Prim.Native.Nat.{ℕ, zero, suc, ◌+◌, ◌-◌, ◌*◌, ◌%◌, ◌^◌, ◌≤◌, ◌<◌}
 use native.Mathlib.Nat.{mul-le-mul_right, suc-mul, mod-eq_of_lt}
@@ -8,13 +8,14 @@ use native.Mathlib.Omega.{arith}
 use lib.ListN.{length, take, drop, get_or, set, length-set, get_or-append}
 use lib.Seq.{length-take-le, drop-length, drop-drop, drop_at, get_or-take, get_or-append-add, get_or-set_same, get_or-set_other}
 use borrow.Rule.Slice.PartMut.{put_mid, Post-is}
+use Rattle.std.specs.Prelude.{Option, Some, None}
 use Rattle.region_graph.specs.Model.{Part}
 use Rattle.region_graph.specs.Flat.{Fields, FlatPart}
 use Rattle.region_graph.proofs.Lists.{false_true}
 use Rattle.big_endian.specs.Bytes.{big}
 use Rattle.region_archive.specs.Image.{part_bytes}
 use Rattle.region_archive.specs.Forms.{element_bytes, form_of}
-use Rattle.big_endian.specs.Parsing.{Parsed, Unparsed, ParsedInto}
+use Rattle.big_endian.specs.Parsing.{Parsed, Unparsed, ParsedInto, AnswerInto}
 use Rattle.big_endian.proofs.Digits.{small_within}
 use Rattle.big_endian.proofs.Delimits.{big_same}
 use Rattle.region_archive.specs.RecordFields.{SameTo, GoodTo, part_at, first_width, field_count, most_in, row_width, part_open}
@@ -22,85 +23,78 @@ use Rattle.region_archive.specs.RecordFields.{PartGood, first_good, second_good,
 use Rattle.region_archive.specs.Sections.{PartRead, FieldRead}
 use Rattle.region_archive.specs.declared.forms.Form.{Form}
 use Rattle.region_archive.specs.declared.record_fields.Section.{Section}
-use Rattle.region_archive.specs.declared.sections.FieldAt.{FieldAt}
 use Rattle.region_archive.proofs.Fits.{narrow_first}
-use Rattle.region_archive.proofs.CountedReads.{none_into}
+
+-- the first number is that of the fields in the row
+first_is : (s : Section) (old : List ℕ) (n : ℕ) {a : ℕ} → a ≡ get_or (set old 1 n) 0 0 % 2 ^ 32 → (x : Fields) → x.first < 256 ^ first_width s
+    → get_or old 0 0 ≡ x.first → a ≡ x.first
+first_is s old n low x l e =
+    low ∙ ap (λ (m : ℕ). m % 2 ^ 32) (get_or-set_other old 1 0 n 0 (λ i. omega arith) ∙ e) ∙ mod-eq_of_lt (small_within {w = 4} (narrow_first s) l)
+
+width_is : (s : Section) {bytes : List ℕ} {at w n next : ℕ} → w ≡ first_width s → Parsed (λ m. m < 256 ^ w) (big w) bytes at n next
+    → Parsed (λ m. m < 256 ^ first_width s) (big (first_width s)) bytes at n next
+width_is s {bytes} {at} {n = n} {next} f q = subst (λ (v : ℕ). Parsed (λ m. m < 256 ^ v) (big v) bytes at n next) f q
 
 -- the two numbers
 module _ {s : Section} {rs : List ℕ} {floor : ℕ} {bytes : List ℕ} {at : ℕ} {old : List ℕ} where
   -- the first number
   module _ {w : ℕ} (f : w ≡ first_width s) where
-    pub first_missing : Unparsed (λ m. m < 256 ^ w) (big w) bytes at → {next : ℕ}
-        → FieldRead s rs floor 0 bytes at old old (record { ok = false; next = next })
-    first_missing u = record {
-      size = refl;
-      answer = λ x g h. none_into (λ y r k e. none y r k.1.0 e);
-    }
+    pub first_missing : Unparsed (λ m. m < 256 ^ w) (big w) bytes at → FieldRead s rs floor 0 bytes at old old None
+    first_missing u = record { size = refl; answer = λ x g h y r k e. none y r k.1.0 e }
       where
         none : (y : Fields) (r : List ℕ) → y.first < 256 ^ first_width s → drop at bytes ≡ big (first_width s) y.first ++ r → ⊥
         none y r = subst (λ (v : ℕ). y.first < 256 ^ v → drop at bytes ≡ big v y.first ++ r → ⊥) f (u y.first r)
 
-    pub first_read : {n next : ℕ} → Parsed (λ m. m < 256 ^ w) (big w) bytes at n next → 1 ≤ length old → {b : Bool} → b ≡ first_good s rs floor n
-        → FieldRead s rs floor 0 bytes at old (set old 0 n) (record { ok = b; next = next })
-    first_read {n} {next} q h {b} e =
-        record {
-          size = length-set old 0 n;
-          answer = λ x g k.
-              record {
-                found = λ y.
-                    record {
-                      value = record { first = n; second = x.second; parts = x.parts };
-                      parsed = record { is_good = (tt, (p.is_good, sym e ∙ y)); shape = p.shape; ends = p.ends; room = p.room };
-                      put = (tt, get_or-set_same old 0 n 0 (omega arith));
-                    };
-                missing = λ y. other (sym y ∙ e) x;
-              };
-        }
-      where
-        p : Parsed (λ m. m < 256 ^ first_width s) (big (first_width s)) bytes at n next
-        p = subst (λ (v : ℕ). Parsed (λ m. m < 256 ^ v) (big v) bytes at n next) f q
-
-        other : false ≡ first_good s rs floor n → (x y : Fields) (r : List ℕ) → SameTo FieldSame 0 x y × FieldGood s rs floor 0 y
-            → drop at bytes ≡ big (first_width s) y.first ++ r → ⊥
-        other e x y r k i =
-            let d = big_same (first_width s) n y.first (drop next bytes) r p.is_good k.1.0 (sym p.shape ∙ i) in
-            false_true (e ∙ ap (first_good s rs floor) d.0 ∙ k.1.1)
-
-  -- the second number
-  pub second_missing : Unparsed (λ m. m < 256 ^ 1) (big 1) bytes at → {next : ℕ}
-      → FieldRead s rs floor 1 bytes at old old (record { ok = false; next = next })
-  second_missing u = record {
-    size = refl;
-    answer = λ x g h. none_into (λ y r k e. u y.second r k.1.0 e);
-  }
-
-  pub second_read : {n next : ℕ} → Parsed (λ m. m < 256 ^ 1) (big 1) bytes at n next → 2 ≤ length old → {a : ℕ} → a ≡ get_or old 0 0 % 2 ^ 32
-      → {b : Bool} → b ≡ second_good s rs floor a n → FieldRead s rs floor 1 bytes at old (set old 1 n) (record { ok = b; next = next })
-  second_read {n} {next} p h {a} low {b} f =
-      record {
-        size = length-set old 1 n;
+    module _ {n next : ℕ} (q : Parsed (λ m. m < 256 ^ w) (big w) bytes at n next) where
+      pub first_read : 1 ≤ length old → first_good s rs floor n ≡ true → FieldRead s rs floor 0 bytes at old (set old 0 n) (Some next)
+      first_read h e = let p = width_is s f q in record {
+        size = length-set old 0 n;
         answer = λ x g k.
-            let e : b ≡ second_good s rs floor x.first n = f ∙ ap (λ (a : ℕ). second_good s rs floor a n) (first_is x g.1.0 k.1) in
             record {
-              found = λ y.
-                  record {
-                    value = record { first = x.first; second = n; parts = x.parts };
-                    parsed = record { is_good = ((tt, refl), (p.is_good, sym e ∙ y)); shape = p.shape; ends = p.ends; room = p.room };
-                    put = ((tt, get_or-set_other old 1 0 n 0 (λ e. omega arith) ∙ k.1), get_or-set_same old 1 n 0 (omega arith));
-                  };
-              missing = λ y. other x (sym y ∙ e);
+              value = record { first = n; second = x.second; parts = x.parts };
+              parsed = record { is_good = (tt, (p.is_good, e)); shape = p.shape; ends = p.ends; room = p.room };
+              put = (tt, get_or-set_same old 0 n 0 (omega arith));
             };
       }
-    where
-      first_is : (x : Fields) → x.first < 256 ^ first_width s → get_or old 0 0 ≡ x.first → a ≡ x.first
-      first_is x l e = low ∙ ap (λ (m : ℕ). m % 2 ^ 32) e ∙ mod-eq_of_lt (small_within {w = 4} (narrow_first s) l)
 
-      other : (x : Fields) → false ≡ second_good s rs floor x.first n → (y : Fields) (r : List ℕ)
-          → SameTo FieldSame 1 x y × FieldGood s rs floor 1 y
-          → drop at bytes ≡ big 1 y.second ++ r → ⊥
-      other x e y r k i =
+      pub first_refused : first_good s rs floor n ≡ false → FieldRead s rs floor 0 bytes at old (set old 0 n) None
+      first_refused e = let p = width_is s f q in record {
+        size = length-set old 0 n;
+        answer = λ x g h y r k i.
+            let d = big_same (first_width s) n y.first (drop next bytes) r p.is_good k.1.0 (sym p.shape ∙ i) in
+            false_true (sym e ∙ ap (first_good s rs floor) d.0 ∙ k.1.1);
+      }
+
+  -- the second number
+  pub second_missing : Unparsed (λ m. m < 256 ^ 1) (big 1) bytes at → FieldRead s rs floor 1 bytes at old old None
+  second_missing u = record { size = refl; answer = λ x g h y r k e. u y.second r k.1.0 e }
+
+  module _ {n next : ℕ} (p : Parsed (λ m. m < 256 ^ 1) (big 1) bytes at n next) (h : 2 ≤ length old)
+      {a : ℕ} (low : a ≡ get_or (set old 1 n) 0 0 % 2 ^ 32) where
+    pub second_read : second_good s rs floor a n ≡ true → FieldRead s rs floor 1 bytes at old (set old 1 n) (Some next)
+    second_read e = record {
+      size = length-set old 1 n;
+      answer = λ x g k.
+          record {
+            value = record { first = x.first; second = n; parts = x.parts };
+            parsed =
+                record {
+                  is_good = ((tt, refl), (p.is_good, ap (λ (a : ℕ). second_good s rs floor a n) (sym (first_is s old n low x g.1.0 k.1)) ∙ e));
+                  shape = p.shape;
+                  ends = p.ends;
+                  room = p.room;
+                };
+            put = ((tt, get_or-set_other old 1 0 n 0 (λ e. omega arith) ∙ k.1), get_or-set_same old 1 n 0 (omega arith));
+          };
+    }
+
+    pub second_refused : second_good s rs floor a n ≡ false → FieldRead s rs floor 1 bytes at old (set old 1 n) None
+    second_refused e = record {
+      size = length-set old 1 n;
+      answer = λ x g l y r k i.
           let d = big_same 1 n y.second (drop next bytes) r p.is_good k.1.0 (sym p.shape ∙ i) in
-          false_true (e ∙ (λ j. second_good s rs floor (k.0.1 j) (d.0 j)) ∙ k.1.1)
+          false_true (sym e ∙ (λ j. second_good s rs floor ((first_is s old n low x g.1.0 l.1 ∙ k.0.1) j) (d.0 j)) ∙ k.1.1);
+    }
 
 -- a row whose places from some place on are new
 
@@ -195,20 +189,19 @@ module _ (s : Section) (rs : List ℕ) (floor : ℕ) (old sub : List ℕ) (j : �
         next : place i + (most_in s + 1) ≤ place j
         next = omega (arith, mul-le-mul_right (most_in s + 1) up, suc-mul i (most_in s + 1))
 
-    part_read : {bytes : List ℕ} {at : ℕ} {r : FieldAt} {lent : List ℕ}
+    part_read : {bytes : List ℕ} {at : ℕ} {r : Option ℕ} {lent : List ℕ}
         → PartRead (form_of s (suc (suc j))) (most_in s) (part_open s (suc (suc j))) bytes at lent sub r
         → length new ≡ length old → FieldRead s rs floor (suc (suc j)) bytes at old new r
     part_read {bytes} {at} {r} q size = record {
       size = size;
-      answer = λ x g k.
-          record { found = λ y. stands x g k (q.answer.found y); missing = λ y z t h e. q.answer.missing y (part_at z j) t h.1 e };
+      answer = λ x g k. into x g k r q.answer;
     }
       where
         stands : (x : Fields) → GoodTo (FieldGood s rs floor) (suc (suc j)) x → GoodTo (FlatField (most_in s) old) (suc (suc j)) x
-            → ParsedInto Good bytes_of bytes at (FlatPart sub 0) r.next
+            → {next : ℕ} → ParsedInto Good bytes_of bytes at (FlatPart sub 0) next
             → ParsedInto (λ y. SameTo FieldSame (suc (suc j)) x y × FieldGood s rs floor (suc (suc j)) y) (field_bytes s (suc (suc j))) bytes at
-            (GoodTo (FlatField (most_in s) new) (suc (suc (suc j)))) r.next
-        stands x g k v =
+            (GoodTo (FlatField (most_in s) new) (suc (suc (suc j)))) next
+        stands x g k {next} v =
             let p = v.value in
             let good = v.parsed.is_good in
             let e : get_or (put_part x.parts j p) j (Part.listed []) ≡ p = put_same x.parts j p in
@@ -217,7 +210,7 @@ module _ (s : Section) (rs : List ℕ) (floor : ℕ) (old sub : List ℕ) (j : �
               parsed =
                   record {
                     is_good = (same_with x p j (omega arith), subst Good (sym e) good);
-                    shape = v.parsed.shape ∙ ap (λ (t : Part ℕ). bytes_of t ++ drop r.next bytes) (sym e);
+                    shape = v.parsed.shape ∙ ap (λ (t : Part ℕ). bytes_of t ++ drop next bytes) (sym e);
                     ends = v.parsed.ends ∙ ap (λ (t : Part ℕ). at + length (bytes_of t)) (sym e);
                     room = v.parsed.room;
                   };
@@ -228,6 +221,13 @@ module _ (s : Section) (rs : List ℕ) (floor : ℕ) (old sub : List ℕ) (j : �
                     (λ n l. ap (take n) (back (place j) old sub room)) (part_open s (suc (suc j))) p good v.put),
               );
             }
+
+        into : (x : Fields) → GoodTo (FieldGood s rs floor) (suc (suc j)) x → GoodTo (FlatField (most_in s) old) (suc (suc j)) x
+            → (o : Option ℕ) → AnswerInto Good bytes_of bytes at (FlatPart sub 0) o
+            → AnswerInto (λ y. SameTo FieldSame (suc (suc j)) x y × FieldGood s rs floor (suc (suc j)) y) (field_bytes s (suc (suc j))) bytes at
+            (GoodTo (FlatField (most_in s) new) (suc (suc (suc j)))) o
+        into x g k None u = λ z t h e. u (part_at z j) t h.1 e
+        into x g k (Some next) v = stands x g k v
 
 -- the place of a part is within the row
 abbrev pub part_place : ℕ → ℕ → ℕ
@@ -244,7 +244,7 @@ place_room s e k h l = subst (λ (m : ℕ). (part_place m k + (m + 1) ≤ row_wi
 
 -- a part was put to its places
 module _ {s : Section} {rs : List ℕ} {floor : ℕ} {bytes : List ℕ} {at : ℕ} (old : List ℕ) {m k : ℕ} (e : m ≡ most_in s) (two : 2 ≤ k) where
-  pub part_put : part_place m k ≤ length old → {lent sub : List ℕ} {r : FieldAt}
+  pub part_put : part_place m k ≤ length old → {lent sub : List ℕ} {r : Option ℕ}
       → PartRead (form_of s k) (most_in s) (part_open s k) bytes at lent sub r
       → length (put_mid (part_place m k) (length old - part_place m k) old sub) ≡ length old
       → FieldRead s rs floor k bytes at old (put_mid (part_place m k) (length old - part_place m k) old sub) r

@@ -14,7 +14,7 @@ use Rattle.region_graph.specs.Lists.{pick}
 use Rattle.region_graph.proofs.Lists.{and_yes, and_fst, and_snd, false_true}
 use Rattle.big_endian.specs.Bytes.{big}
 use Rattle.big_endian.specs.Numbers.{longest}
-use Rattle.big_endian.specs.Parsing.{Parsed, Unparsed, Answer}
+use Rattle.big_endian.specs.Parsing.{Parsed, Unparsed}
 use Rattle.big_endian.proofs.Delimits.{Delimits, big_same}
 use Rattle.big_endian.proofs.Rows.{Elements, NoNext}
 use Rattle.big_endian.proofs.Tested.{Tested, tested_le, tested_lt, tested_both, tested_as}
@@ -157,51 +157,37 @@ module _ {f : Form} (h : FormFits f) where
       let small : c < 2 ^ 63 * unit f = lt_of_lt_of_le ((div-lt_iff_lt-mul h.scaled).0 g.small) h.keys in
       rw add-one (lt_of_le_of_lt ((div-lt_iff_lt-mul h.units).1 small) (ltb-true (2 ^ 63) (2 ^ 64) refl))
 
-module _ {f : Form} {s : List ℕ} {at least : ℕ} where
-  -- the answer about the next code at a place: its bytes are not there
-  pub code_missing : {ok : Bool} → ok ≡ false → Unparsed (λ n. n < 256 ^ f.width) (big f.width) s at → {x next : ℕ}
-      → Answer (NextCode f least) (element_bytes f) s at ok x next
-  code_missing e u = record {
-    found = λ g. false_true (sym e ∙ g);
-    missing = λ g z r k i. u (z / scale f) r k.good.small i;
-  }
+-- the bytes of the next code are not there
+pub code_missing : (f : Form) (s : List ℕ) (at least : ℕ) → Unparsed (λ n. n < 256 ^ f.width) (big f.width) s at
+    → Unparsed (NextCode f least) (element_bytes f) s at
+code_missing f s at least u z r k i = u (z / scale f) r k.good.small i
 
-  -- or they are
-  pub code_read : FormFits f → {n next : ℕ} → Parsed (λ m. m < 256 ^ f.width) (big f.width) s at n next → {ok : Bool}
-      → ok ≡ code_next f least (n * scale f + f.rest) → Answer (NextCode f least) (element_bytes f) s at ok (n * scale f + f.rest) next
-  code_read h {n} {next} p {ok} e = record {
-    found = λ y.
-        record {
-          is_good = record { good = good (sym e ∙ y); high = leb-true least (code_key f code) (and_fst _ (lower_ordered f code) (sym e ∙ y)) };
-          shape = p.shape ∙ ap (λ (m : ℕ). big f.width m ++ drop next s) (sym written);
-          ends = p.ends ∙ ap (λ (m : ℕ). at + length (big f.width m)) (sym written);
-          room = p.room;
-        };
-    missing = λ y. other (sym y ∙ e);
-  }
-    where
-      code : ℕ
-      code = n * scale f + f.rest
+code_written : {f : Form} → FormFits f → {n code : ℕ} → code ≡ n * scale f + f.rest → code / scale f ≡ n
+code_written {f} h {n} c = ap (λ (m : ℕ). m / scale f) c ∙ digits_div n h.rested
 
-      written : code / scale f ≡ n
-      written = digits_div n h.rested
-
-      good : code_next f least code ≡ true → CodeGood f code
-      good y = record {
-        small = subst (λ (m : ℕ). m < 256 ^ f.width) (sym written) p.is_good;
-        unwritten = digits_mod n h.rested;
+-- or they are
+module _ {f : Form} (s : List ℕ) (at least : ℕ) (h : FormFits f) {n next : ℕ} (p : Parsed (λ n. n < 256 ^ f.width) (big f.width) s at n next)
+    {code : ℕ} (c : code ≡ n * scale f + f.rest) where
+  pub code_stands : code_next f least code ≡ true → Parsed (NextCode f least) (element_bytes f) s at code next
+  code_stands y = record {
+    is_good = record {
+      good = record {
+        small = subst (λ (m : ℕ). m < 256 ^ f.width) (sym (code_written h c)) p.is_good;
+        unwritten = ap (λ (m : ℕ). m % scale f) c ∙ digits_mod n h.rested;
         ordered = and_snd (leb least (code_key f code)) (lower_ordered f code) y;
-      }
+      };
+      high = leb-true least (code_key f code) (and_fst _ (lower_ordered f code) y);
+    };
+    shape = p.shape ∙ ap (λ (m : ℕ). big f.width m ++ drop next s) (sym (code_written h c));
+    ends = p.ends ∙ ap (λ (m : ℕ). at + length (big f.width m)) (sym (code_written h c));
+    room = p.room;
+  }
 
-      other : false ≡ code_next f least code → Unparsed (NextCode f least) (element_bytes f) s at
-      other y z r k i =
-          let d = big_same f.width n (z / scale f) (drop next s) r p.is_good k.good.small (sym p.shape ∙ i) in
-          let same : z ≡ code = code_is f (sym d.0) k.good.unwritten in
-          false_true (y ∙ ap (code_next f least) (sym same) ∙ and_yes (le-leb least (code_key f z) k.high) k.good.ordered)
-
-  -- the answer as the loop over a list's elements takes it
-  pub code_stands : {x next : ℕ} → Parsed (NextCode f least) (element_bytes f) s at x next → Parsed (CodeGood f) (element_bytes f) s at x next
-  code_stands p = record { is_good = p.is_good.good; shape = p.shape; ends = p.ends; room = p.room }
+  pub code_refused : code_next f least code ≡ false → Unparsed (NextCode f least) (element_bytes f) s at
+  code_refused y z r k i =
+      let d = big_same f.width n (z / scale f) (drop next s) r p.is_good k.good.small (sym p.shape ∙ i) in
+      let same : z ≡ code = code_is f (sym d.0) k.good.unwritten ∙ sym c in
+      false_true (sym y ∙ ap (code_next f least) (sym same) ∙ and_yes (le-leb least (code_key f z) k.high) k.good.ordered)
 
 pub no_next_code : (f : Form) (s : List ℕ) (at least : ℕ) → Unparsed (NextCode f least) (element_bytes f) s at → NoNext (codes f) s at least
 no_next_code f s at least u z r h l e = u z r (record { good = h; high = l }) e

@@ -6,6 +6,7 @@ use Prim.Native.Nat.{ℕ, ◌+◌, ◌≤◌, ◌<◌}
 use native.Mathlib.Omega.{arith}
 use lib.ListN.{length, take, drop, get_or, set, length-set, length-drop}
 use lib.Seq.{length-take-le, drop-set-add, get_or-set_same, get_or-set_other}
+use Rattle.std.specs.Prelude.{Option, Some, None}
 use Rattle.region_graph.specs.Size.{most_listed, everything_sign}
 use Rattle.region_graph.specs.Model.{Part}
 use Rattle.region_graph.specs.Flat.{FlatPart}
@@ -13,7 +14,7 @@ use Rattle.region_graph.proofs.Lists.{false_true}
 use Rattle.big_endian.specs.Bytes.{big, counted}
 use Rattle.region_archive.specs.Image.{part_bytes}
 use Rattle.region_archive.specs.Forms.{element_bytes, code_key, CodeGood, Coded}
-use Rattle.big_endian.specs.Parsing.{Parsed, Unparsed, Answer, ParsedInto, AnswerInto}
+use Rattle.big_endian.specs.Parsing.{Parsed, Unparsed, ParsedInto, AnswerInto}
 use Rattle.big_endian.proofs.Digits.{drop_byte}
 use Rattle.big_endian.proofs.Delimits.{head_same}
 use Rattle.big_endian.proofs.Rows.{Going, NoNext, going_none, going_more}
@@ -51,20 +52,19 @@ module _ {f : Form} {s : List ℕ} {mid total size n : ℕ} {row : List ℕ} {to
         (going_more (codes f) g.going p l);
   }
 
-  module _ {most : ℕ} (small : most < 256) {at : ℕ} {ok : Bool} (a : Answer (λ m. m ≤ most) (big 1) s at ok total mid) (counts : ok ≡ true)
-      (room : n < size) where
+  module _ {most : ℕ} (small : most < 256) {at : ℕ} (p : Parsed (λ m. m ≤ most) (big 1) s at total mid) (room : n < size) where
     long : length (take n (drop 1 row)) ≡ n
     long = length-take-le n (drop 1 row) (omega (arith, length-drop 1 row, g.size_is))
 
     pub list_end : n ≡ total → ParsedInto (Coded f most) (counted (element_bytes f)) s at (λ xs. FlatPart row 0 (Part.listed xs)) to
     list_end e = record {
       value = take n (drop 1 row);
-      parsed = counted_found (codes f) most small a counts g.going (long ∙ e);
+      parsed = counted_found (codes f) most small p g.going (long ∙ e);
       put = (g.first ∙ sym (long ∙ e), ap (λ (k : ℕ). take k (drop 1 row)) long);
     }
 
     pub list_stuck : n < total → NoNext (codes f) s to least → Unparsed (Coded f most) (counted (element_bytes f)) s at
-    list_stuck h u = counted_stuck (codes f) most small a counts g.going (omega (arith, long)) u
+    list_stuck h u = counted_stuck (codes f) most small p g.going (omega (arith, long)) u
 
 -- the first byte is not that of the sign
 pub not_everything : (s : List ℕ) (at : ℕ) → (at < length s → get_or s at 0 ≡ 255 → ⊥) → (r : List ℕ) → drop at s ≡ 255 ∷ r → ⊥
@@ -73,33 +73,27 @@ not_everything s at u r e =
     u h (head_same (sym (drop_byte s at h) ∙ e))
 
 -- a part that stands at a place, by its first byte
-module _ (f : Form) {most : ℕ} (few : most ≤ most_listed) (all : Bool) {s : List ℕ} {at : ℕ} where
-  pub part_sign : drop at s ≡ 255 ∷ drop (at + 1) s → at < length s → (row : List ℕ) → get_or row 0 0 ≡ everything_sign
-      → AnswerInto (PartGood f most all) (part_bytes (element_bytes f)) s at all (FlatPart row 0) (at + 1)
-  part_sign e h row i = record {
-    found = λ b. record { value = Part.everything; parsed = record { is_good = b; shape = e; ends = refl; room = omega arith }; put = i };
-    missing = other;
-  }
-    where
-      other : all ≡ false → (p : Part ℕ) (r : List ℕ) → PartGood f most all p → drop at s ≡ part_bytes (element_bytes f) p ++ r → ⊥
-      other b (Part.listed xs) r g k = omega (arith, g.few, head_same (sym e ∙ k))
-      other b Part.everything r g k = false_true (sym b ∙ g)
+module _ (f : Form) {most : ℕ} (few : most ≤ most_listed) (all : Bool) (s : List ℕ) (at : ℕ) where
+  module _ (e : drop at s ≡ 255 ∷ drop (at + 1) s) where
+    pub part_sign : at < length s → all ≡ true → (row : List ℕ) → get_or row 0 0 ≡ everything_sign
+        → ParsedInto (PartGood f most all) (part_bytes (element_bytes f)) s at (FlatPart row 0) (at + 1)
+    part_sign h b row i =
+        record { value = Part.everything; parsed = record { is_good = b; shape = e; ends = refl; room = omega arith }; put = i }
 
-  pub part_from_list : ((r : List ℕ) → drop at s ≡ 255 ∷ r → ⊥) → (row : List ℕ) {ok : Bool} {next : ℕ}
-      → AnswerInto (Coded f most) (counted (element_bytes f)) s at ok (λ xs. FlatPart row 0 (Part.listed xs)) next
-      → AnswerInto (PartGood f most all) (part_bytes (element_bytes f)) s at ok (FlatPart row 0) next
-  part_from_list u row {ok} {next} a = record {
-    found = λ e.
-        let v = a.found e in
-        let p = v.parsed in
-        record {
-          value = Part.listed v.value;
-          parsed = record { is_good = p.is_good; shape = p.shape; ends = p.ends; room = p.room };
-          put = v.put;
-        };
-    missing = other;
-  }
+    pub part_closed : all ≡ false → Unparsed (PartGood f most all) (part_bytes (element_bytes f)) s at
+    part_closed b (Part.listed xs) r g k = omega (arith, g.few, head_same (sym e ∙ k))
+    part_closed b Part.everything r g k = false_true (sym b ∙ g)
+
+  pub part_from_list : ((r : List ℕ) → drop at s ≡ 255 ∷ r → ⊥) → (row : List ℕ) (o : Option ℕ)
+      → AnswerInto (Coded f most) (counted (element_bytes f)) s at (λ xs. FlatPart row 0 (Part.listed xs)) o
+      → AnswerInto (PartGood f most all) (part_bytes (element_bytes f)) s at (FlatPart row 0) o
+  part_from_list u row (Some next) v = record { value = Part.listed v.value; parsed = of_list v.parsed; put = v.put }
     where
-      other : ok ≡ false → (p : Part ℕ) (r : List ℕ) → PartGood f most all p → drop at s ≡ part_bytes (element_bytes f) p ++ r → ⊥
-      other e (Part.listed ys) r h i = a.missing e ys r h i
-      other e Part.everything r h i = u r i
+      of_list : {xs : List ℕ} → Parsed (Coded f most) (counted (element_bytes f)) s at xs next
+          → Parsed (PartGood f most all) (part_bytes (element_bytes f)) s at (Part.listed xs) next
+      of_list p = record { is_good = p.is_good; shape = p.shape; ends = p.ends; room = p.room }
+  part_from_list u row None none = other
+    where
+      other : (p : Part ℕ) (r : List ℕ) → PartGood f most all p → drop at s ≡ part_bytes (element_bytes f) p ++ r → ⊥
+      other (Part.listed ys) r h i = none ys r h i
+      other Part.everything r h i = u r i

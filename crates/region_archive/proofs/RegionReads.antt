@@ -1,10 +1,8 @@
 -- The loop over the regions of an archive.
 use mathlib.Core.Path.{◌≡◌, sym, ap, ◌∙◌, subst}
-use mathlib.Core.Bool.{Bool, true, false}
 use mathlib.Core.List.{List}
 use Prim.Native.Nat.{ℕ, ◌+◌, ◌^◌, ◌≤◌, ◌<◌}
 use native.Mathlib.Omega.{arith}
-use borrow.Author.Tests.{eqb-true, eqb-false}
 use lib.Bits.{bit_or}
 use lib.Dec.{eqb}
 use lib.ListN.{length, take, drop, set, length-set}
@@ -12,16 +10,16 @@ use lib.Seq.{length-take-le, take-set-le, get_or-set_same}
 use Rattle.region_graph.specs.Size.{regions}
 use Rattle.region_graph.specs.Lists.{member}
 use Rattle.region_graph.specs.Sets.{singleton, set_of, members}
-use Rattle.region_graph.proofs.Lists.{eqb_sym, false_true}
+use Rattle.region_graph.proofs.Lists.{eqb_sym}
 use Rattle.region_graph.proofs.Bits.{set_none}
 use Rattle.region_graph.proofs.Storing.{regions_back}
 use Rattle.region_graph.proofs.Views.{set_took}
 use Rattle.region_graph.specs.Decoded.{GoodRegions}
 use Rattle.big_endian.specs.Bytes.{big, counted}
-use Rattle.big_endian.specs.Parsing.{Parsed, Unparsed, Answer}
+use Rattle.big_endian.specs.Parsing.{Parsed, Unparsed}
 use Rattle.big_endian.proofs.Delimits.{big_same}
 use Rattle.big_endian.proofs.Rows.{Going, NoNext, going_none, going_more}
-use Rattle.region_archive.specs.Sections.{RegionsRead}
+use Rattle.region_archive.specs.Sections.{RegionsStand}
 use Rattle.region_archive.proofs.CountedReads.{take_set}
 use Rattle.region_archive.proofs.CountedLists.{region_bytes, counted_missing, counted_found, counted_stuck}
 
@@ -59,36 +57,29 @@ no_region {s} {region = region} {next} {least} p u z r h l e =
     let low : region < least = u (omega arith) in
     omega arith
 
--- the answer, by the count and by whether all regions were read
-module _ {s : List ℕ} {from : ℕ} {ok : Bool} {total mid : ℕ} (a : Answer (λ m. m ≤ regions) (big 1) s from ok total mid) where
-  pub regions_missing : ok ≡ false → {list : List ℕ} {next : ℕ} → RegionsRead s from list (record { ok = false; next = next; count = 0; set = 0 })
-  regions_missing e = record {
+-- the count is not there
+pub regions_missing : (s : List ℕ) (from : ℕ) → Unparsed (λ m. m ≤ regions) (big 1) s from → Unparsed GoodRegions (counted (big 1)) s from
+regions_missing s from u = counted_missing region_bytes regions (omega arith) s from u
+
+module _ {s : List ℕ} {from total mid : ℕ} (p : Parsed (λ m. m ≤ regions) (big 1) s from total mid) {list : List ℕ} {x at least n : ℕ}
+    (w : Regions s mid list x at least n) (room : n ≤ length list) where
+  long : length (take n list) ≡ n
+  long = length-take-le n list room
+
+  -- a region is not there
+  pub regions_stuck : n < total → NoNext region_bytes s at least → Unparsed GoodRegions (counted (big 1)) s from
+  regions_stuck h u = counted_stuck region_bytes regions (omega arith) p w.going (omega (arith, long)) u
+
+  -- all of them are
+  pub regions_end : n ≡ total → {count : ℕ} → count ≡ n → RegionsStand s from list (record { set = x; count = count }) at
+  regions_end f e = record {
     room = omega arith;
-    answer = record { found = λ y. false_true y; missing = λ _. counted_missing region_bytes regions (omega arith) a e };
-    listed = λ y. false_true y;
+    parsed = subst (λ (rs : List ℕ). Parsed GoodRegions (counted (big 1)) s from rs at) those whole;
+    listed = ap (λ (m : ℕ). take m list) e ∙ those;
   }
-
-  pub regions_end : ok ≡ true → {list : List ℕ} {x at least n : ℕ} → Regions s mid list x at least n → n ≤ total → n ≤ length list
-      → (n < total → NoNext region_bytes s at least) → RegionsRead s from list (record { ok = eqb n total; next = at; count = n; set = x })
-  regions_end e {list} {x} {at} {n = n} w l room u =
-      record {
-        room = room;
-        answer =
-            record {
-              found = λ y. let f = eqb-true n total y in subst (λ (rs : List ℕ). Parsed GoodRegions (counted (big 1)) s from rs at) (those f) (whole f);
-              missing = λ y.
-                  let v = eqb-false n total y in
-                  let h : n < total = omega arith in
-                  counted_stuck region_bytes regions (omega arith) a e w.going (omega (arith, long)) (u h);
-            };
-        listed = λ y. those (eqb-true n total y);
-      }
     where
-      long : length (take n list) ≡ n
-      long = length-take-le n list room
+      whole : Parsed GoodRegions (counted (big 1)) s from (take n list) at
+      whole = counted_found region_bytes regions (omega arith) p w.going (long ∙ f)
 
-      whole : n ≡ total → Parsed GoodRegions (counted (big 1)) s from (take n list) at
-      whole f = counted_found region_bytes regions (omega arith) a e w.going (long ∙ f)
-
-      those : n ≡ total → take n list ≡ members x
-      those f = sym (ap members w.set_is ∙ regions_back (take n list) (whole f).is_good)
+      those : take n list ≡ members x
+      those = sym (ap members w.set_is ∙ regions_back (take n list) whole.is_good)

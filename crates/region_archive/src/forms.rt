@@ -4,7 +4,7 @@ ghost use Rattle.big_endian.specs.Parsing.{Answer};
 ghost use Rattle.region_archive.specs.Forms.{element_bytes, code_key, code_next, NextCode, FormFits, list_form, «form_of»};
 
 use crate::record_fields::Section;
-use big_endian::{LongAt, long_at};
+use big_endian::{At, long_at};
 
 // A code has the bytes of what is left of it without the lowest bits that are skipped, so many as the width says; the bits that are skipped
 // are the rest. The codes of a list ascend by what is left without the lower bits.
@@ -81,28 +81,26 @@ pub fn list_form(list: ListOf) -> Form
 }
 
 // What the list in a field of a record has.
+#[tactic(auto, unfolding(crate::specs::Forms::form_of))]
 pub fn field_list(section: Section, field: usize) -> ListOf
     ensures { list_form result ≡ form_of section field }
 {
     match section {
-        Section::Bundles(version) => {
-            if field != PACKAGES {
-                return ListOf::Numbers;
-            }
+        Section::Bundles(version) if field == PACKAGES => {
             if version < VERSIONED {
-                return ListOf::BarePackages;
+                ListOf::BarePackages
+            } else {
+                ListOf::Packages
             }
-            ListOf::Packages
         }
-        Section::Connections(version) => {
-            if field != PACKAGE_PART {
-                return ListOf::Numbers;
-            }
+        Section::Connections(version) if field == PACKAGE_PART => {
             if version < VERSIONED {
-                return ListOf::BareEntries;
+                ListOf::BareEntries
+            } else {
+                ListOf::Entries
             }
-            ListOf::Entries
         }
+        _ => ListOf::Numbers,
     }
 }
 
@@ -110,8 +108,7 @@ pub fn field_list(section: Section, field: usize) -> ListOf
 pub fn form_of(section: Section, field: usize) -> Form
     ensures { (result ≡ form_of section field) × FormFits result }
 {
-    let list = field_list(section, field);
-    list_form(list)
+    list_form(field_list(section, field))
 }
 
 // The key of a code: what is left of it without the lower bits.
@@ -128,27 +125,22 @@ fn code_next(form: Form, least: u64, code: u64) -> bool
     ensures { result ≡ code_next form least code }
 {
     let key = code_key(form, code);
-    if key < least {
-        return false;
-    }
     let lower = code - (key << form.lower);
-    lower / HALF <= lower % HALF
+    least <= key && lower / HALF <= lower % HALF
 }
 
 // The code of the element at a place, where it may stand there.
-pub fn code_at(bytes: &[u8], at: usize, form: Form, least: u64) -> LongAt
+pub fn code_at(bytes: &[u8], at: usize, form: Form, least: u64) -> Option<At<u64>>
     requires { (at ≤ length bytes.now) × FormFits form }
-    ensures { Answer (NextCode form least) (element_bytes form) bytes.now at result.ok result.number result.next }
+    ensures { Answer (NextCode form least) (element_bytes form) bytes.now at result }
 {
-    let read = long_at(bytes, at, form.width);
-    if !read.ok {
-        return read;
+    let read = long_at(bytes, at, form.width)?;
+    let code = (read.value << form.skipped) + form.rest;
+    if !code_next(form, least, code) {
+        return None;
     }
-    let code = (read.number << form.skipped) + form.rest;
-    let ok = code_next(form, least, code);
-    LongAt {
-        ok,
+    Some(At {
+        value: code,
         next: read.next,
-        number: code,
-    }
+    })
 }

@@ -4,19 +4,17 @@ ghost use Rattle.text_lines.specs.Written.{WrittenAt};
 ghost use Rattle.big_endian.specs.Bytes.{big};
 ghost use Rattle.big_endian.specs.Parsing.{Answer};
 
-use big_endian::{NumberAt, number_at};
+use big_endian::{At, number_at};
 
 // Writes the low bytes of a number, the last one first; hands back the place after them.
 pub fn put_number(buffer: &mut [u8], at: usize, width: usize, number: usize) -> usize
     requires { at + width ≤ length buffer.old }
     ensures { WrittenAt buffer.old buffer.new at (big width number) result }
 {
-    let mut left = width;
     let mut rest = number;
-    while 0 < left {
-        left -= 1;
+    for left in (0..width).rev() {
         buffer[at + left] = (rest % 256) as u8;
-        rest = rest / 256;
+        rest /= 256;
     }
     at + width
 }
@@ -35,19 +33,19 @@ pub fn put_element(buffer: &mut [u8], at: usize, width: usize, number: usize) ->
 }
 
 // The byte at a place, where it counts at most so many.
-pub fn count_at(bytes: &[u8], at: usize, most: usize) -> NumberAt
+pub fn count_at(bytes: &[u8], at: usize, most: usize) -> Option<At<usize>>
     requires { (at ≤ length bytes.now) × (most < 256) }
-    ensures { Answer (λ n. n ≤ most) (big 1) bytes.now at result.ok result.number result.next }
+    ensures { Answer (λ n. n ≤ most) (big 1) bytes.now at result }
 {
-    let count = number_at(bytes, at, 1);
-    if most < count.number as usize {
-        return NumberAt {
-            ok: false,
-            next: at,
-            number: 0,
-        };
+    let count = number_at(bytes, at, 1)?;
+    let value = count.value as usize;
+    if most < value {
+        return None;
     }
-    count
+    Some(At {
+        value,
+        next: count.next,
+    })
 }
 
 // The low 32 bits of a number.

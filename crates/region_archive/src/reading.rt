@@ -2,6 +2,7 @@
 ghost use Rattle.std.specs.Prelude.{◌≡◌};
 ghost use Rattle.region_graph.specs.Record.{Valid};
 ghost use Rattle.region_graph.specs.Calls.{first_no};
+ghost use Rattle.region_graph.specs.Refusals.{answer_number};
 ghost use Rattle.region_graph.specs.Promise.{Empty};
 ghost use Rattle.region_archive.specs.File.{oldest, opens, front_questions};
 ghost use Rattle.region_archive.specs.Image.{latest};
@@ -13,7 +14,7 @@ use crate::sections::{regions_at, section_at};
 use crate::version::{LATEST, OLDEST, has_version};
 use big_endian::number_at;
 use region_graph::flat::{BUNDLE_WIDTH, CONNECTION_WIDTH};
-use region_graph::refusals::{BROKEN_LAYOUT, NOT_AN_ARCHIVE, NOT_REFUSED, WRONG_LENGTH};
+use region_graph::refusals::{BROKEN_LAYOUT, NOT_REFUSED, Refusal};
 use region_graph::size::{MOST_BUNDLES, MOST_CONNECTIONS, REGIONS};
 use region_graph::{Changed, Graph};
 
@@ -21,28 +22,20 @@ use region_graph::{Changed, Graph};
 pub fn opens(bytes: &[u8], oldest: usize, latest: usize) -> bool
     ensures { result ≡ opens oldest latest bytes.now }
 {
-    if bytes.len() < FRONT {
-        return false;
-    }
-    let first = bytes[0] as usize;
-    if first < oldest {
-        return false;
-    }
-    first <= latest
+    FRONT <= bytes.len() && oldest <= usize::from(bytes[0]) && usize::from(bytes[0]) <= latest
 }
 
-// The number that the version and the length field give.
-fn front(bytes: &[u8]) -> u32
-    ensures { result ≡ first_no (front_questions oldest latest bytes.now) }
+// Whether the version and the length field are those of an archive.
+fn front(bytes: &[u8]) -> Result<(), Refusal>
+    ensures { answer_number result ≡ first_no (front_questions oldest latest bytes.now) }
 {
     if !opens(bytes, OLDEST, LATEST) {
-        return NOT_AN_ARCHIVE;
+        return Err(Refusal::NotAnArchive);
     }
-    let size = number_at(bytes, 1, 4);
-    if size.number as usize != bytes.len() - FRONT {
-        return WRONG_LENGTH;
+    match number_at(bytes, 1, 4) {
+        Some(size) if size.value as usize == bytes.len() - FRONT => Ok(()),
+        _ => Err(Refusal::WrongLength),
     }
-    NOT_REFUSED
 }
 
 // A refusal's number and the empty graph.
@@ -62,39 +55,46 @@ fn refused(number: u32) -> Changed
 pub fn read(bytes: &[u8]) -> Changed
     ensures { Reads bytes.now result }
 {
-    let number = front(bytes);
-    if number != NOT_REFUSED {
-        return refused(number);
+    if let Err(refusal) = front(bytes) {
+        return refused(refusal.number());
     }
-    let first = bytes[0] as usize;
+    let version = usize::from(bytes[0]);
     let mut list = [0u32; REGIONS];
     let mut bundles = [0u64; MOST_BUNDLES * BUNDLE_WIDTH];
     let mut connections = [0u64; MOST_CONNECTIONS * CONNECTION_WIDTH];
-    let regions = regions_at(bytes, FRONT, &mut list);
-    if !regions.ok {
+    let Some(regions) = regions_at(bytes, FRONT, &mut list) else {
+        return refused(BROKEN_LAYOUT);
+    };
+    let set = regions.value.set;
+    if !has_version(set, version) {
         return refused(BROKEN_LAYOUT);
     }
-    let set = regions.set;
-    if !has_version(set, first) {
+    let Some(b) = section_at(
+        bytes,
+        regions.next,
+        Section::Bundles(version),
+        set,
+        &mut bundles,
+    ) else {
         return refused(BROKEN_LAYOUT);
-    }
-    let kind = Section::Bundles(first);
-    let b = section_at(bytes, regions.next, kind, set, &mut bundles);
-    if !b.ok {
+    };
+    let Some(c) = section_at(
+        bytes,
+        b.next,
+        Section::Connections(version),
+        set,
+        &mut connections,
+    ) else {
         return refused(BROKEN_LAYOUT);
-    }
-    let kind = Section::Connections(first);
-    let c = section_at(bytes, b.next, kind, set, &mut connections);
-    if !c.ok {
-        return refused(BROKEN_LAYOUT);
-    }
+    };
     if c.next != bytes.len() {
         return refused(BROKEN_LAYOUT);
     }
-    let l = regions.count;
-    let m = b.count;
-    let n = c.count;
-    Graph::of_flat(&list[..l], &bundles[..m], &connections[..n])
+    Graph::of_flat(
+        &list[..regions.value.count],
+        &bundles[..b.value],
+        &connections[..c.value],
+    )
 }
 
 // The graph whose image the bytes are, or a refusal's number and the graph that was at hand.

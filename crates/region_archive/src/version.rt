@@ -17,21 +17,16 @@ const LATE: usize = 2;
 const EARLY_SETS: u64 = 65536;
 
 // The version before the latest of the image of a graph with these regions.
+#[tactic(auto, using(crate::proofs::Versions::early, crate::proofs::Versions::late))]
 pub fn older_version(set: u64) -> usize
     ensures { result ≡ Image.older_version (members set) }
 {
-    if set < EARLY_SETS {
-        return EARLY;
-    }
-    LATE
+    if set < EARLY_SETS { EARLY } else { LATE }
 }
 
 // Whether a file of a version that is read may have these regions.
 pub fn has_version(set: u64, version: usize) -> bool
     ensures { result ≡ (eqb version Image.latest || eqb version (Image.older_version (members set))) }
 {
-    if version == LATEST {
-        return true;
-    }
-    version == older_version(set)
+    version == LATEST || version == older_version(set)
 }

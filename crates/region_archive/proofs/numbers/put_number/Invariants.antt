@@ -4,6 +4,3 @@ use Rattle.region_archive.proofs.numbers.put_number.Given as goal
 
 abbrev pub invariant-loop-left : goal.invariant-loop-left
 invariant-loop-left l = (l.left ≤ l.width) × Lower l.initial.buffer l.buffer l.at l.width l.number l.left l.rest
-
-abbrev pub decreases-loop-left : goal.decreases-loop-left
-decreases-loop-left l = l.left

@@ -1,13 +1,7 @@
 use mathlib.Core.Path.{◌≡◌}
-use Prim.Native.Nat.{◌-◌, ◌≤◌}
 use lib.ListN.{length}
-use Rattle.region_graph.specs.Size.{regions}
 use Rattle.region_archive.proofs.RegionReads.{Regions}
 use Rattle.region_archive.proofs.sections.regions_at.Given as goal
 
 abbrev pub invariant-loop-n : goal.invariant-loop-n
-invariant-loop-n l =
-    (l.n ≤ l.total) × ((l.total ≤ regions) × ((length l.list ≡ length l.initial.list) × Regions l.bytes l.initial.at l.list l.set l.at l.least l.n))
-
-abbrev pub decreases-loop-n : goal.decreases-loop-n
-decreases-loop-n l = l.total - l.n
+invariant-loop-n l = (length l.list ≡ length l.initial.list) × Regions l.bytes l.initial.at l.list l.set l.at l.least l.n

@@ -1,126 +1,50 @@
-use mathlib.Core.Path.{◌≡◌, refl, sym, ap, ◌∙◌, subst}
-use mathlib.Core.Bool.{Bool}
-use mathlib.Core.List.{List}
-use Prim.Native.Nat.{ℕ, ◌+◌, ◌-◌, ◌≤◌}
+use mathlib.Core.Path.{◌≡◌, refl, sym, ap, ◌∙◌}
+use Prim.Native.Nat.{ℕ, ◌+◌, ◌-◌, ◌*◌, ◌≤◌}
 use native.Mathlib.Nat.{mul-le-mul_right}
 use native.Mathlib.Omega.{arith}
-use borrow.Author.Tests.{not-true, not-false}
-use borrow.Rule.Slice.PartMut.{mid_of, mid_len, take_put, same_len_mid}
+use borrow.Rule.Slice.PartMut.{mid_len, same_len_mid}
 use lib.ListN.{length}
-use lib.Seq.{length-take-le}
-use Rattle.big_endian.specs.Bytes.{big}
-use Rattle.big_endian.specs.Parsing.{Answer}
-use Rattle.region_archive.specs.RecordFields.{field_count, row_width, most_records}
-use Rattle.region_archive.specs.declared.record_fields.Section.{Section}
-use Rattle.region_archive.proofs.RecordReads.{from_bytes, FieldsRead, fields_start, fields_more, lengthless, no_field, misfit}
-use Rattle.region_archive.proofs.SectionReads.{RecordRead, recording_start, recording_more, order_is, row_room, mid_put}
-use Rattle.region_archive.proofs.SectionReads.{section_missing, section_end}
+use Rattle.region_archive.specs.RecordFields.{row_width}
+use Rattle.region_archive.proofs.RecordReads.{from_bytes}
+use Rattle.region_archive.proofs.SectionReads.{row_room, recording_start, recording_more, order_is, section_missing, section_stuck, section_end}
 use Rattle.region_archive.proofs.sections.section_at.Goals as goal
-use Rattle.region_archive.proofs.sections.section_at.Goals.{else-records-test, then-records-test+then-not-length}
-use Rattle.region_archive.proofs.sections.section_at.Goals.{then-records-test+else-not-length+then-fields-test+then-not-read}
-use Rattle.region_archive.proofs.sections.section_at.Goals.{then-records-test+else-not-length+else-fields-test+then-to-stop}
 
--- the answer about the count, with the section's limit
-counted : (section : Section) {s : List ℕ} {from most number next : ℕ} {ok : Bool} → most ≡ most_records section
-    → Answer (λ m. m ≤ most) (big 1) s from ok number next → Answer (λ m. m ≤ most_records section) (big 1) s from ok number next
-counted section {s} {from} {most} {number} {next} {ok} e = subst (λ (l : ℕ). Answer (λ m. m ≤ l) (big 1) s from ok number next) e
-
-pub returns-then-not-count : goal.returns-then-not-count
-returns-then-not-count c =
+pub returns-in_err-count : goal.returns-in_err-count
+returns-in_err-count c =
     let a = c.args in
-    section_missing (from_bytes a.section a.regions a.bytes.now) (counted a.section c.most_records-most.ensures c.count_at-count.ensures)
-    (not-true _ c.if-not-count.true)
+    rw c.from_residual.ensures
+    (section_missing (from_bytes a.section a.regions a.bytes.now) a.from (rw c.most_records.ensures at c.in_err-count.ensures))
 
-pub records-init : goal.records-init
-records-init c =
-    let p = (counted c.args.section c.most_records-most.ensures c.count_at-count.ensures).found (not-false _ c.if-not-count.false) in
-    (omega arith, (p.is_good, (refl, recording_start p.room)))
+pub loop-n-init : goal.loop-n-init
+loop-n-init c = (refl, recording_start c.in_ok-count.ensures.room)
 
-pub fields-init : goal.fields-init
-fields-init c =
-    let p = c.length_at-length.ensures.found (not-false _ c.if-not-length.false) in
-    let r = c.length_at-length.result in
-    (omega arith, (refl, (refl, fields_start (omega (arith, p.forward, length-take-le r.stop c.args.bytes.now p.room)))))
+pub returns-in_err-at : goal.returns-in_err-at
+returns-in_err-at c =
+    rw c.from_residual-in_err-at.ensures
+    (section_stuck c.loop-n.invariant.1 (rw c.most_records.ensures at c.in_ok-count.ensures) c.loop-n-test.true c.in_err-at.ensures.answer)
 
-pub fields-preserved : goal.fields-preserved
-fields-preserved c =
+pub loop-n-preserved : goal.loop-n-preserved
+loop-n-preserved c =
     let a = c.args in
-    let l = c.records.invariant in
-    let v = c.fields in
-    let base = c.records.base in
-    let end = base + c.width-wide.result in
-    let w = c.width-wide.ensures in
-    let h = row_room a.section l.1.1.1.base_is (omega (arith, l.1.0, c.records-test.true)) in
-    let reached : end ≤ length v.rows = omega (arith, h, c.requires.1, l.1.1.0, v.invariant.1.1.0, w) in
-    let sub = c.field_at-read.new.row in
-    let r = c.field_at-read.ensures in
-    let inside : base ≤ length v.rows = omega (arith, reached) in
-    let s = c.length_at-length.result in (
-      omega (arith, c.fields-test.true),
-      (
-        take_put base (end - base) v.rows sub inside ∙ v.invariant.1.0,
-        (
-          same_len_mid base (end - base) v.rows sub r.size ∙ v.invariant.1.1.0,
-          subst
-              (λ (row : List ℕ).
-              FieldsRead (from_bytes a.section a.regions a.bytes.now) c.records.least s.stop s.next (v.field + 1) row c.field_at-read.result.next)
-              (sym (mid_put base end v.rows sub inside (r.size ∙ mid_len base end v.rows reached)))
-              (fields_more v.invariant.1.1.1 r (not-false _ c.if-not-read.false)),
-        ),
-      ),
-    )
-
--- all fields of a record were read
-pub records-preserved : goal.records-preserved
-records-preserved c =
-    let a = c.args in
-    let source = from_bytes a.section a.regions a.bytes.now in
-    let l = c.records.invariant in
-    let v = c.fields in
-    let base = c.records.base in
-    let end = base + c.width-wide.result in
-    let w = c.width-wide.ensures in
-    let h = row_room a.section l.1.1.1.base_is (omega (arith, l.1.0, c.records-test.true)) in
-    let r = c.length_at-length.result in
-    let all : v.field ≡ field_count a.section = omega (arith, c.field_count-fields.ensures, v.invariant.0, c.fields-test.false) in
-    let done : RecordRead source c.records.at c.records.least r base end v.rows v.to =
-    record {
-      stands = c.length_at-length.ensures.found (not-false _ c.if-not-length.false);
-      fields = subst (λ (j : ℕ). FieldsRead source c.records.least r.stop r.next j (mid_of base (end - base) v.rows) v.to) all v.invariant.1.1.1;
-      ends = ap (λ (n : ℕ). base + n) w;
-      room = omega (arith, h, c.requires.1, l.1.1.0, v.invariant.1.1.0, w);
-    } in
-    let ordered = order_is done c.low_word-first.ensures c.low_word-second.ensures c.field_key-least.ensures in (
-      omega (arith, c.records-test.true),
-      (l.1.0, (v.invariant.1.1.0 ∙ l.1.1.0, recording_more done l.1.1.1 c.if-to-stop.false v.invariant.1.0 ordered)),
+    let l = c.loop-n in
+    let w = c.width-wide.result in
+    let p = rw c.most_records.ensures at c.in_ok-count.ensures in
+    let reached : (l.n + 1) * w ≤ length l.rows =
+    rw c.width-wide.ensures (omega (arith, row_room a.section {n = l.n} (omega (arith, p.is_good, c.loop-n-test.true)), c.requires.1, l.invariant.0)) in
+    let r = c.in_ok-at.ensures in
+    let x = r.answer in (
+      same_len_mid (l.n * w) ((l.n + 1) * w - l.n * w) l.rows c.record_at.new.row r.size ∙ l.invariant.0,
+      recording_more l.invariant.1 x c.width-wide.ensures reached (r.size ∙ mid_len (l.n * w) ((l.n + 1) * w) l.rows reached)
+          (order_is (from_bytes a.section a.regions a.bytes.now) x.value x.parsed.is_good.0 x.put c.low_word.ensures c.low_word-in-loop-n.ensures
+          c.field_key-least.ensures),
     )
 
 pub returns : goal.returns
 returns c =
     let a = c.args in
-    let l = c.records.invariant in
-    let base = c.records.base in
-    let kept = c.records-test.auto.rows ∙ l.1.1.0 in
-    let n : c.records.n ≤ most_records a.section = omega (arith, l.0, l.1.0) in
-    let room : base ≤ length c.records-test.rows =
-    omega (arith, l.1.1.1.base_is, mul-le-mul_right (row_width a.section) n, c.requires.1, kept) in
-    section_end (from_bytes a.section a.regions a.bytes.now) (counted a.section c.most_records-most.ensures c.count_at-count.ensures)
-    (not-false _ c.if-not-count.false) l.1.1.1 l.0 room
-    (λ e.
-    elim c.records-test.branch [
-      | else-records-test w ↦ w.rows-is
-      | then-records-test+then-not-length w ↦ absurd (omega (arith, e, w.records-test.true))
-      | then-records-test+else-not-length+then-fields-test+then-not-read w ↦ absurd (omega (arith, e, w.records-test.true))
-      | then-records-test+else-not-length+else-fields-test+then-to-stop w ↦ absurd (omega (arith, e, w.records-test.true))
-    ])
-    (λ h.
-    elim c.records-test.branch [
-      | else-records-test w ↦ absurd (omega (arith, h, w.records-test.false))
-      | then-records-test+then-not-length w ↦ lengthless (w.length_at-length.ensures.missing (not-true _ w.if-not-length.true))
-      | then-records-test+else-not-length+then-fields-test+then-not-read w ↦
-          no_field (w.length_at-length.ensures.found (not-false _ w.if-not-length.false)) w.fields.invariant.1.1.1 w.field_at-read.ensures
-          (not-true _ w.if-not-read.true) (omega (arith, w.fields-test.true, c.field_count-fields.ensures))
-      | then-records-test+else-not-length+else-fields-test+then-to-stop w ↦
-          misfit (w.length_at-length.ensures.found (not-false _ w.if-not-length.false)) w.fields.invariant.1.1.1
-          (omega (arith, w.fields.invariant.0, w.fields-test.false, c.field_count-fields.ensures)) w.if-to-stop.true
-    ])
+    let l = c.loop-n in
+    let p = rw c.most_records.ensures at c.in_ok-count.ensures in
+    let all : l.n ≡ c.in_ok-count.count.value = omega arith in
+    let room : c.in_ok-count.count.value * row_width a.section ≤ length l.rows =
+    omega (arith, mul-le-mul_right (row_width a.section) p.is_good, c.requires.1, l.invariant.0) in
+    rw c.width-wide.ensures (section_end l.invariant.1 p all (ap (λ (n : ℕ). n * row_width a.section) (sym all)) room)

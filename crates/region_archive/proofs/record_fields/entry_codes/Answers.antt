@@ -1,4 +1,4 @@
-use mathlib.Core.Path.{sym, ap}
+use mathlib.Core.Path.{sym, ap, ◌∙◌}
 use Prim.Native.Nat.{◌<◌}
 use native.Mathlib.Omega.{arith}
 use lib.ListN.{length}
@@ -6,7 +6,7 @@ use Rattle.region_graph.specs.Model.{entries}
 use Rattle.region_graph.specs.Flat.{entry_code}
 use Rattle.region_graph.proofs.Arrays.{filled_none}
 use Rattle.region_graph.proofs.Columns.{no_range, entries_length, entries_at}
-use Rattle.region_archive.proofs.Fits.{coded_next}
+use Rattle.region_archive.proofs.Fits.{coded_next, coded_all}
 use Rattle.region_archive.proofs.record_fields.entry_codes.Goals as goal
 
 pub loop-i-init : goal.loop-i-init
@@ -24,5 +24,10 @@ loop-i-preserved c =
       omega arith,
       h.1,
       coded_next entry_code es no_range i inside (omega (arith, c.requires.0)) h.2
-          (ap entry_code (sym (entries_at a.numbers.now a.lowest.now a.highest.now i inside))),
+          (c.entry_code.ensures ∙ ap entry_code (sym (entries_at a.numbers.now a.lowest.now a.highest.now i inside))),
     )
+
+pub returns : goal.returns
+returns c =
+    let a = c.args in
+    coded_all entry_code (entries a.numbers.now a.lowest.now a.highest.now) no_range (omega (arith, c.loop-i.invariant.1)) c.loop-i.invariant.2

@@ -1,5 +1,5 @@
 use mathlib.Core.Path.{◌≡◌}
-use Prim.Native.Nat.{◌-◌, ◌≤◌}
+use Prim.Native.Nat.{◌≤◌}
 use lib.ListN.{length, take}
 use Rattle.region_graph.specs.Size.{most_listed}
 use Rattle.region_graph.specs.Model.{entries}
@@ -11,6 +11,3 @@ abbrev pub invariant-loop-i : goal.invariant-loop-i
 invariant-loop-i l =
     (l.i ≤ length l.numbers) × (length (entries l.numbers l.lowest l.highest) ≡ length l.numbers)
     × Filled entry_code 0 most_listed l.codes l.i (take l.i (entries l.numbers l.lowest l.highest))
-
-abbrev pub decreases-loop-i : goal.decreases-loop-i
-decreases-loop-i l = length l.numbers - l.i

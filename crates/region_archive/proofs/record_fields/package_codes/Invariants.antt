@@ -1,5 +1,5 @@
 use mathlib.Core.Path.{◌≡◌}
-use Prim.Native.Nat.{◌-◌, ◌≤◌}
+use Prim.Native.Nat.{◌≤◌}
 use lib.ListN.{length, take}
 use Rattle.region_graph.specs.Size.{most_listed}
 use Rattle.region_graph.specs.Model.{packages}
@@ -11,6 +11,3 @@ abbrev pub invariant-loop-i : goal.invariant-loop-i
 invariant-loop-i l =
     (l.i ≤ length l.numbers) × (length (packages l.numbers l.versions) ≡ length l.numbers)
     × Filled package_code 0 most_listed l.codes l.i (take l.i (packages l.numbers l.versions))
-
-abbrev pub decreases-loop-i : goal.decreases-loop-i
-decreases-loop-i l = length l.numbers - l.i

@@ -9,7 +9,7 @@ use Rattle.region_archive.proofs.record_fields.widened.Goals as goal
 pub loop-i-preserved : goal.loop-i-preserved
 loop-i-preserved c =
     let a = c in
-    (omega arith, filled_next a.args.items.now a.loop-i.i 0 (omega arith) a.loop-i.invariant.1 (omega arith))
+    (omega arith, rw c.from.ensures (filled_next a.args.items.now a.loop-i.i 0 (omega arith) a.loop-i.invariant.1 (omega arith)))
 
 pub returns : goal.returns
 returns c =
@@ -20,6 +20,3 @@ returns c =
 
 pub loop-i-init : goal.loop-i-init
 loop-i-init c = (omega arith, filled_none)
-
-pub overflow_cast-codes : goal.overflow_cast-codes
-overflow_cast-codes c = omega (arith, c.type_inv.items c.loop-i.i)

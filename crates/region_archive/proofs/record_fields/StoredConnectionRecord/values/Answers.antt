@@ -1,10 +1,10 @@
 use mathlib.Core.Path.{refl, ◌∙◌}
 use Rattle.region_archive.proofs.Fits.{list_part, list_in, numbers_fits, numbers_part, entries_fits, entries_part}
-use Rattle.region_archive.proofs.record_fields.connection_values.Goals as goal
+use Rattle.region_archive.proofs.record_fields.StoredConnectionRecord.values.Goals as goal
 
 pub returns : goal.returns
 returns c =
-    let x = c.args.c in
+    let x = c.args.self.now in
     let h = c.requires in
     let bundles = list_part h.bundles in
     let named = c.widened-named.ensures in

@@ -9,7 +9,7 @@ use lib.Seq.{take_all, take-length}
 use Rattle.region_graph.specs.Lists.{concat_map}
 use Rattle.text_lines.specs.Written.{WrittenAt}
 use Rattle.region_graph.proofs.Lists.{concat_next, concat_within}
-use Rattle.text_lines.proofs.Writes.{wrote_none, wrote_then, wrote_is, wrote_before, wrote_length, wrote_room}
+use Rattle.text_lines.proofs.Writes.{wrote_none, wrote_then, wrote_is, wrote_before, wrote_room}
 use Rattle.big_endian.specs.Bytes.{big, counted}
 use Rattle.big_endian.proofs.Digits.{big_one, div_next}
 
@@ -40,11 +40,6 @@ pub wrote_counted : {A : Type 0} (f : A → List ℕ) (xs : List A) {old mid new
     → n < 256 → ys ≡ concat_map f xs → WrittenAt old mid at (big 1 n) to → WrittenAt mid new to ys end → WrittenAt old new at (counted f xs) end
 wrote_counted f xs {n = n} {ys} e h g v w =
     wrote_is (ap (λ (l : List ℕ). l ++ ys) (big_one n h) ∙ ap (λ (m : ℕ). m ∷ ys) e ∙ ap (λ (l : List ℕ). length xs ∷ l) g) (wrote_then v w)
-
--- k places are left behind what was written
-pub wrote_leaves : {old new : List ℕ} {at : ℕ} {xs : List ℕ} {next : ℕ} → WrittenAt old new at xs next → (k : ℕ)
-    → at + (length xs + k) ≤ length old → next + k ≤ length new
-wrote_leaves w k h = omega (arith, w.ends, wrote_length w)
 
 -- the lower bytes of a number stand from `left` places on, and `rest` is the number above them
 pub record Lower (old new : List ℕ) (at width number left rest : ℕ) : Type 0 where

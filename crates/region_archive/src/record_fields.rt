@@ -1,8 +1,7 @@
 // A record of an archive as a value: two numbers and up to three parts.
-ghost use Rattle.std.specs.Prelude.{◌≡◌, map, ℕ, ◌+◌, ◌*◌, ◌≤◌, length};
+ghost use Rattle.std.specs.Prelude.{◌≡◌, List, ℕ, ◌+◌, ◌*◌, ◌≤◌, ◌<◌, length, slice_index};
 ghost use Rattle.region_graph.specs.Size.{most_listed};
-ghost use Rattle.region_graph.specs.Model.{packages, entries};
-ghost use Rattle.region_graph.specs.Flat.{Fields, package_code, entry_code, fields_of_bundle, fields_of_connection};
+ghost use Rattle.region_graph.specs.Flat.{Fields, fields_of_bundle, fields_of_connection};
 ghost use Rattle.region_graph.specs.Record.{bundle_in, connection_in};
 ghost use Rattle.region_archive.specs.RecordFields.{field_key, field_count, «first_width», most_records, most_in, row_width, layout_of};
 ghost use Rattle.region_archive.specs.RecordFields.{as_codes, BundleFits, ConnectionFits, ValuesAre};
@@ -54,49 +53,17 @@ fn entry_code(number: u32, lowest: u16, highest: u16) -> u64
     package_code(number, lowest) * VERSIONS + u64::from(highest)
 }
 
-// Numbers as codes, in as many places as a part has.
-fn widened(count: usize, items: &[u32]) -> Codes
-    requires { length items.now ≤ most_listed }
-    ensures { result ≡ as_codes count items.now }
+// The codes that a function gives for the first places, and 0 in the others.
+fn in_places<F: Fn(usize) -> u64>(count: usize, used: usize, code: F) -> Codes
+    requires few { used ≤ most_listed }
+    requires callable { (i : ℕ) → i < used → F.pre code i }
+    ensures { (xs : List ℕ) × (length xs ≡ used) × ((i : ℕ) → i < used → F.post code i (slice_index xs i)) × (result ≡ as_codes count xs) }
 {
-    let mut codes = [0u64; MOST_LISTED];
-    for (i, number) in items.iter().enumerate() {
-        codes[i] = u64::from(*number);
+    let mut items = [0; MOST_LISTED];
+    for i in 0..used {
+        items[i] = code(i);
     }
-    Codes {
-        count,
-        items: codes,
-    }
-}
-
-// The codes of packages.
-fn package_codes(count: usize, numbers: &[u32], versions: &[u16]) -> Codes
-    requires { (length numbers.now ≤ most_listed) × (length versions.now ≡ length numbers.now) }
-    ensures { result ≡ as_codes count (map package_code (packages numbers.now versions.now)) }
-{
-    let mut codes = [0u64; MOST_LISTED];
-    for (i, number) in numbers.iter().enumerate() {
-        codes[i] = package_code(*number, versions[i]);
-    }
-    Codes {
-        count,
-        items: codes,
-    }
-}
-
-// The codes of entries of a package part.
-fn entry_codes(count: usize, numbers: &[u32], lowest: &[u16], highest: &[u16]) -> Codes
-    requires { (length numbers.now ≤ most_listed) × ((length lowest.now ≡ length numbers.now) × (length highest.now ≡ length numbers.now)) }
-    ensures { result ≡ as_codes count (map entry_code (entries numbers.now lowest.now highest.now)) }
-{
-    let mut codes = [0u64; MOST_LISTED];
-    for (i, number) in numbers.iter().enumerate() {
-        codes[i] = entry_code(*number, lowest[i], highest[i]);
-    }
-    Codes {
-        count,
-        items: codes,
-    }
+    Codes { count, items }
 }
 
 // What the records of a section are: how many fields each has, the bytes of the first one, the most numbers in a list, the most records,
@@ -212,8 +179,15 @@ impl Record for StoredBundle {
 
     fn values(&self) -> FieldValues {
         let packages = &self.packages;
-        let provided = package_codes(packages.count, &packages.numbers, &packages.versions);
-        let published = widened(self.services.count, &self.services.items);
+        let services = &self.services;
+        let provided = in_places(packages.count, MOST_PROVIDED, |i| {
+            package_code(packages.numbers[i], packages.versions[i])
+        });
+        let published = in_places(
+            services.count,
+            MOST_PROVIDED,
+            |i| u64::from(services.items[i]),
+        );
         FieldValues {
             first: self.location,
             second: self.region,
@@ -237,14 +211,15 @@ impl Record for StoredConnection {
 
     fn values(&self) -> FieldValues {
         let entries = &self.packages;
-        let named = widened(self.bundles.count, &self.bundles.items);
-        let passed = entry_codes(
-            entries.count,
-            &entries.numbers,
-            &entries.lowest,
-            &entries.highest,
-        );
-        let offered = widened(self.services.count, &self.services.items);
+        let named = in_places(self.bundles.count, MOST_LISTED, |i| {
+            u64::from(self.bundles.items[i])
+        });
+        let passed = in_places(entries.count, MOST_LISTED, |i| {
+            entry_code(entries.numbers[i], entries.lowest[i], entries.highest[i])
+        });
+        let offered = in_places(self.services.count, MOST_LISTED, |i| {
+            u64::from(self.services.items[i])
+        });
         FieldValues {
             first: self.source,
             second: self.target,

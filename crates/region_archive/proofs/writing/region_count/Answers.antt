@@ -13,7 +13,7 @@ pub returns : goal.returns
 returns c =
     let x = c.args.set in
     let e =
-    count_from_yields_List c.filter.result _ c.count.ensures.ran
+    count_from_yields_List c.filter.result c.count.result c.count.ensures.ran
     (YieldsList-from_filter _ (has x) (YieldsList-from_range 0 64 64 c.filter.ensures.source refl) c.filter.ensures.closure (λ x r q k. search (rules, tests)))
     ∙ ap length (members_filtered x) in
     (e, omega (arith, e, members_few x))

@@ -2,43 +2,39 @@
 use mathlib.Core.Path.{◌≡◌, refl, sym, ap, ◌∙◌, subst}
 use mathlib.Core.Bool.{Bool, true, false}
 use mathlib.Core.List.{List, [], ◌∷◌, ◌++◌, map}
-use Prim.Native.Nat.{ℕ, zero, suc, ◌+◌, ◌-◌, ◌*◌, ◌/◌, ◌^◌, ◌≤◌, ◌<◌, min}
-use native.Mathlib.Nat.{add-zero, lt_of_lt_of_le}
-use native.Mathlib.Decide.{ℕ_discrete}
+use Prim.Native.Nat.{ℕ, zero, suc, ◌+◌, ◌-◌, ◌*◌, ◌/◌, ◌≤◌, ◌<◌, min}
+use native.Mathlib.Decide.{ℕ_discrete, dec_lt}
 use native.Mathlib.Omega.{arith}
-use borrow.Author.Tests.{eq-eqb, ne_eqb, leb-true}
-use lib.Arith.{digits_lt}
-use lib.Dec.{eqb, leb}
-use lib.ListN.{length, take, get_or, set, replicate, length-map}
-use lib.Seq.{length-take-le, take-append-le, take_all}
-use Rattle.region_graph.specs.Size.{most_listed, most_provided, most_bundles, everything_sign}
+use borrow.Author.Tests.{eq-eqb, ne_eqb}
+use lib.Dec.{eqb}
+use lib.ListN.{length, take, get_or, replicate, length-map}
+use lib.Seq.{length-take-le, take-append-le}
+use Rattle.std.proofs.lemmas.List.{same_lists, get_or_append_left, get_or_push, get_or_default, get_or-map}
+use Rattle.region_graph.specs.Size.{most_listed, most_provided, everything_sign}
 use Rattle.region_graph.specs.Model.{Package, PackageEntry, packages, entries, Bundle, Part, Connection}
 use Rattle.region_graph.specs.Lists.{pick}
 use Rattle.region_graph.specs.Flat.{package_code, entry_code, map_part}
 use Rattle.region_graph.specs.Record.{places, store_packages, packages_of, store_entries, entries_of, store_package_part, package_part_in}
-use Rattle.region_graph.specs.Record.{Valid, meaning, number_places, numbers_of, store_numbers, store_provided, provided_of}
-use Rattle.region_graph.specs.Record.{store_part, part_in, store_bundle, store_connection, no_bundle, no_connection}
+use Rattle.region_graph.specs.Record.{number_places, numbers_of, store_numbers, store_provided, provided_of}
+use Rattle.region_graph.specs.Record.{store_part, part_in, store_bundle, store_connection}
 use Rattle.region_graph.specs.Places.{Short, ShortPart, ShortBundle, ShortConnection}
-use Rattle.region_graph.specs.Promise.{bundle_at, connection_at}
-use Rattle.region_graph.specs.declared.Graph.{Graph}
 use Rattle.region_graph.specs.declared.numbers.Numbers.{Numbers}
 use Rattle.region_graph.specs.declared.numbers.Provided.{Provided}
 use Rattle.region_graph.specs.declared.packages.Packages.{Packages}
 use Rattle.region_graph.specs.declared.packages.Entries.{Entries}
 use Rattle.region_graph.proofs.Lists.{concat_length}
-use Rattle.region_graph.proofs.Arrays.{Filled, filled_length, filled_next, map_take}
-use Rattle.region_graph.proofs.Columns.{packages_length, entries_length}
-use Rattle.region_graph.proofs.Storing.{map_id, bundles_stored, connections_stored}
+use Rattle.region_graph.proofs.Arrays.{Filled, filled_length, map_take}
+use Rattle.region_graph.proofs.Columns.{no_package, no_range, packages_length, packages_at, entries_length, entries_at}
+use Rattle.region_graph.proofs.Storing.{map_id}
 use Rattle.big_endian.specs.Bytes.{counted}
 use Rattle.big_endian.proofs.Digits.{big_length}
 use Rattle.region_archive.specs.Forms.{element_bytes, scale}
 use Rattle.region_archive.specs.RecordFields.{as_codes, codes_of, counted_part, part_of, CodesFit, CodePartFits}
 use Rattle.region_archive.specs.RecordFields.{ListFits, NumbersFit, ProvidedFits, PartFits, PackagesFit, EntriesFit, BundleFits, ConnectionFits}
-use Rattle.region_archive.specs.RecordFields.{first_width, field_count, elements}
+use Rattle.region_archive.specs.RecordFields.{first_width, field_count}
 use Rattle.region_archive.specs.declared.forms.Form.{Form}
 use Rattle.region_archive.specs.declared.record_fields.Codes.{Codes}
 use Rattle.region_archive.specs.declared.record_fields.Section.{Section}
-use Rattle.region_archive.proofs.Pieces.{all_or}
 
 -- a short list that is stored fits
 places_fit : (most : ℕ) (xs : List ℕ) → Short most xs → ListFits most (length xs) (number_places most xs)
@@ -111,29 +107,50 @@ take_entries (suc n) (x ∷ ns) (l ∷ ls) [] = refl
 take_entries (suc n) (x ∷ ns) (l ∷ ls) (h ∷ hs) =
     ap (λ (t : List PackageEntry). record { number = x; lowest = l; highest = h } ∷ t) (take_entries n ns ls hs)
 
--- 16 bits more leave a number of 64 bits
-pub code_above : {a m : ℕ} → a < m → leb (m * 65536) (2 ^ 64) ≡ true → a * 65536 < 2 ^ 64
-code_above {a} {m} h e =
-    lt_of_lt_of_le (subst (λ (n : ℕ). n < m * 65536) (add-zero (a * 65536)) (digits_lt {r = 0} {c = 65536} h (omega arith))) (leb-true (m * 65536) (2 ^ 64) e)
+-- what holds of each number so far, and of one more
+pub posts_more : (P : ℕ → ℕ → Type 0) (xs : List ℕ) (r : ℕ) {i : ℕ} → i ≡ length xs → ((k : ℕ) → k < i → P k (get_or xs k 0)) → P i r
+    → (k : ℕ) → k < i + 1 → P k (get_or (xs ++ (r ∷ [])) k 0)
+posts_more P xs r {i} e h p k l = go (dec_lt k i)
+  where
+    go : Dec (k < i) → P k (get_or (xs ++ (r ∷ [])) k 0)
+    go (yes m) = subst (P k) (sym (get_or_append_left xs (r ∷ []) 0 k (omega (arith, e)))) (h k m)
+    go (no m) =
+        let same : k ≡ i = omega arith in
+        let last : get_or (xs ++ (r ∷ [])) k 0 ≡ r = get_or_push xs r 0 k (omega (arith, e)) in
+        subst (P k) (sym last) (subst (λ (n : ℕ). P n r) (sym same) p)
 
-pub code_whole : {a r m : ℕ} → a < m → r < 65536 → leb (m * 65536) (2 ^ 64) ≡ true → a * 65536 + r < 2 ^ 64
-code_whole {m = m} h k e = lt_of_lt_of_le (digits_lt h k) (leb-true (m * 65536) (2 ^ 64) e)
+-- codes of the elements of a list, by what each is
+pub codes_are : {A : Type 0} (code : A → ℕ) (ys : List A) (d : A) (xs : List ℕ) (n : ℕ) → length xs ≡ length ys
+    → ((k : ℕ) → k < length ys → get_or xs k 0 ≡ code (get_or ys k d)) → as_codes n xs ≡ as_codes n (map code ys)
+codes_are code ys d xs n e h =
+    ap (as_codes n)
+    (same_lists xs (map code ys) (e ∙ sym (length-map ys code))
+    (λ k z l. let m : k < length ys = omega (arith, e) in
+    get_or_default xs k z 0 l ∙ h k m ∙ sym (get_or-map code ys k d z m)))
 
--- codes in places, one more
-module _ {A : Type 0} (code : A → ℕ) {codes : List ℕ} (xs : List A) (d : A) where
-  pub coded_next : (i : ℕ) → i < length xs → i < most_listed → Filled code 0 most_listed codes i (take i xs) → {c : ℕ} → c ≡ code (get_or xs i d)
-      → Filled code 0 most_listed (set codes i c) (i + 1) (take (i + 1) xs)
-  coded_next i l r h e =
-      subst (λ (c : ℕ). Filled code 0 most_listed (set codes i c) (i + 1) (take (i + 1) xs)) (sym e) (filled_next xs i d l h r)
+-- of numbers, of packages and of entries
+pub numbers_coded : (ns xs : List ℕ) (n : ℕ) → length xs ≡ length ns → ((k : ℕ) → k < length ns → get_or xs k 0 ≡ get_or ns k 0)
+    → as_codes n xs ≡ as_codes n ns
+numbers_coded ns xs n e h = codes_are (λ x. x) ns 0 xs n e h ∙ ap (as_codes n) (map_id ns)
 
-  -- all of them
-  pub coded_all : {n i : ℕ} → length xs ≤ i → Filled code 0 most_listed codes i (take i xs)
-      → ◌≡◌ {A = Codes} (record { count = n; items = codes }) (as_codes n (map code xs))
-  coded_all {n} {i} l h =
-      let e : codes ≡ number_places most_listed (map code xs) =
-      h.shape ∙ ap (places code 0 most_listed) (take_all i xs l)
-      ∙ (λ j. sym (map_id (map code xs)) j ++ replicate (most_listed - sym (length-map xs code) j) 0) in
-      λ j. record { count = n; items = e j }
+pub packages_coded : (p : Packages) → PackagesFit p → (xs : List ℕ) → length xs ≡ most_provided
+    → ((k : ℕ) → k < most_provided → get_or xs k 0 ≡ get_or p.numbers k 0 * 65536 + get_or p.versions k 0)
+    → as_codes p.count xs ≡ as_codes p.count (map package_code (packages p.numbers p.versions))
+packages_coded p h xs e each =
+    let ps = packages p.numbers p.versions in
+    let long : length ps ≡ most_provided = packages_length p.numbers p.versions ∙ (λ i. min (h.numbers.size i) (h.versions.size i)) in
+    codes_are package_code ps no_package xs p.count (e ∙ sym long)
+    (λ k l. each k (omega (arith, long)) ∙ ap package_code (sym (packages_at p.numbers p.versions k l)))
+
+pub entries_coded : (p : Entries) → EntriesFit p → (xs : List ℕ) → length xs ≡ most_listed
+    → ((k : ℕ) → k < most_listed → get_or xs k 0 ≡ (get_or p.numbers k 0 * 65536 + get_or p.lowest k 0) * 65536 + get_or p.highest k 0)
+    → as_codes p.count xs ≡ as_codes p.count (map entry_code (entries p.numbers p.lowest p.highest))
+entries_coded p h xs e each =
+    let es = entries p.numbers p.lowest p.highest in
+    let long : length es ≡ most_listed =
+    entries_length p.numbers p.lowest p.highest ∙ (λ i. min (min (h.numbers.size i) (h.lowest.size i)) (h.highest.size i)) in
+    codes_are entry_code es no_range xs p.count (e ∙ sym long)
+    (λ k l. each k (omega (arith, long)) ∙ ap entry_code (sym (entries_at p.numbers p.lowest p.highest k l)))
 
 module _ (p : Packages) (h : PackagesFit p) {r : Codes} (e : r ≡ as_codes p.count (map package_code (packages p.numbers p.versions))) where
   codes_long : length (map package_code (packages p.numbers p.versions)) ≡ most_provided
@@ -244,18 +261,6 @@ connection_fits c h = record {
   services = part_fits c.filter.services h.services;
 }
 
--- the bundle and the connection at any place of a valid graph have short lists
-pub bundle_short : (g : Graph) → Valid g → (i : ℕ) → ShortBundle (bundle_at (meaning g) i)
-unfolding meaning
-bundle_short g v i =
-    all_or ShortBundle (meaning g).bundles i no_bundle (record { packages = omega arith; services = omega arith }) (bundles_stored g v).good.each
-
-pub connection_short : (g : Graph) → Valid g → (i : ℕ) → ShortConnection (connection_at (meaning g) i)
-unfolding meaning
-connection_short g v i =
-    let none : ShortConnection no_connection = record { bundles = omega arith; packages = omega arith; services = omega arith } in
-    all_or ShortConnection (meaning g).connections i no_connection none (connections_stored g v).good.each
-
 -- a list takes one byte, and as many as the form says for each element
 pub list_size : (f : Form) (n : Codes) → CodesFit n → length (counted (element_bytes f) (codes_of n)) ≡ 1 + n.count * f.width
 list_size f n h =
@@ -270,8 +275,3 @@ few_fields (Section.Connections v) = omega arith
 pub narrow_first : (s : Section) → first_width s ≤ 4
 narrow_first (Section.Bundles v) = omega arith
 narrow_first (Section.Connections v) = omega arith
-
--- a section of a valid graph has few records
-pub few_elements : (g : Graph) → Valid g → (s : Section) → length (elements s (meaning g)) ≤ most_bundles
-few_elements g v (Section.Bundles w) = v.good.bundles_legal.few
-few_elements g v (Section.Connections w) = omega (arith, v.good.connections_legal.few)

@@ -15,9 +15,8 @@ use Rattle.big_endian.specs.Bytes.{big, counted}
 use Rattle.big_endian.proofs.Digits.{big_length, big_one}
 use Rattle.region_archive.specs.Image.{body_in, image_in, unversioned, older_image}
 use Rattle.region_archive.specs.RecordFields.{section_bytes}
-use Rattle.region_archive.specs.Promise.{archived, placed_outcome, older_outcome}
+use Rattle.region_archive.specs.Promise.{Written, archived, placed_outcome, older_outcome}
 use Rattle.region_archive.specs.declared.record_fields.Section.TheVariants as Section
-use Rattle.region_archive.specs.declared.Written.{Written}
 use Rattle.region_archive.proofs.Records.{body_sections}
 
 -- regions take one byte each, and one for their count

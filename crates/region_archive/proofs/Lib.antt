@@ -4,7 +4,6 @@ pub mod Writes
 pub mod FormLaws
 pub mod Versioned
 pub mod Fits
-pub mod Placed
 pub mod PlainLaws
 pub mod CountedReads
 pub mod CountedLists
@@ -13,6 +12,7 @@ pub mod RecordLaws
 pub mod Versions
 pub mod ModelReaders
 pub mod Records
+pub mod Placed
 pub mod Members
 pub mod Images
 pub mod Taking

@@ -1,17 +1,18 @@
--- The regions of a valid graph, met one number after the other in its set.
-use mathlib.Core.Path.{◌≡◌, sym, ap, ◌∙◌}
-use mathlib.Core.Bool.{Bool, true, false}
+-- The members of a set of regions, met one number after the other, and the regions of a valid graph.
+use mathlib.Core.Path.{◌≡◌, refl, sym, ap, ◌∙◌}
+use mathlib.Core.Bool.{Bool, true, false, cond}
 use mathlib.Core.List.{List, [], ◌∷◌, ◌++◌}
 use Prim.Native.Nat.{ℕ, ◌+◌, ◌≤◌, ◌<◌}
 use native.Mathlib.Omega.{arith}
 use lib.ListN.{length, get_or, take, drop, length-append, take-append-drop}
 use lib.Seq.{take_all}
+use Rattle.std.specs.List.{filter, range_with_len}
 use Rattle.region_graph.specs.Size.{regions}
-use Rattle.region_graph.specs.Lists.{keep, count_from, member, concat_map}
+use Rattle.region_graph.specs.Lists.{pick, keep, count_from, member, concat_map}
 use Rattle.region_graph.specs.Sets.{has, set_of, members}
 use Rattle.region_graph.specs.Record.{Valid, meaning}
 use Rattle.region_graph.specs.declared.Graph.{Graph}
-use Rattle.region_graph.proofs.Lists.{keep_append, keep_took, keep_left, concat_length, count_length, count_at}
+use Rattle.region_graph.proofs.Lists.{keep_append, keep_length, keep_took, keep_left, concat_length, count_length, count_at}
 use Rattle.region_graph.proofs.Storing.{regions_stored}
 use Rattle.big_endian.specs.Bytes.{big}
 use Rattle.big_endian.proofs.Digits.{big_length}
@@ -46,29 +47,40 @@ module _ (x i : ℕ) (h : i < regions) where
   pub met_left : has x i ≡ false → met x (i + 1) ≡ met x i
   met_left e = keep_left (has x) (count_from 0 regions) i 0 inside (ap (has x) at ∙ e)
 
-module _ (g : Graph) (v : Valid g) {x : ℕ} (e : x ≡ set_of (λ r. member r (meaning g).regions)) where
-  -- the members of a valid graph's set of regions are its regions
-  pub set_members : members x ≡ (meaning g).regions
-  unfolding meaning
-  set_members = ap members (e ∙ sym (regions_stored g v))
+-- all of them
+pub met_all : (x i : ℕ) → regions ≤ i → met x i ≡ members x
+unfolding members
+met_all x i h = ap (keep (has x)) (take_all i (count_from 0 regions) (rw count_length h))
 
-  pub met_all : (i : ℕ) → regions ≤ i → met x i ≡ (meaning g).regions
-  unfolding members
-  met_all i h = ap (keep (has x)) (take_all i (count_from 0 regions) (rw count_length h)) ∙ set_members
+-- a member is one more than those below it
+met_fewer : (x i : ℕ) → i < regions → has x i ≡ true → length (met x i) + 1 ≤ length (members x)
+unfolding members
+met_fewer x i h t = kept_before (has x) (count_from 0 regions) i i (met_took x i h t)
 
-  -- a region is one more than those below it
-  met_fewer : (i : ℕ) → i < regions → has x i ≡ true → length (met x i) + 1 ≤ length (members x)
-  unfolding members
-  met_fewer i h t = kept_before (has x) (count_from 0 regions) i i (met_took x i h t)
+-- it is within the bytes of all
+pub met_byte : (x i : ℕ) → i < regions → has x i ≡ true → length (concat_map (big 1) (met x i)) + 1 ≤ length (concat_map (big 1) (members x))
+met_byte x i h t =
+    omega (arith, concat_length (big 1) 1 (big_length 1) (met x i), concat_length (big 1) 1 (big_length 1) (members x), met_fewer x i h t)
 
-  -- it is within the bytes of all
-  pub met_byte : (i : ℕ) → i < regions → has x i ≡ true
-      → length (concat_map (big 1) (met x i)) + 1 ≤ length (concat_map (big 1) (meaning g).regions)
-  met_byte i h t =
-      omega (
-        arith,
-        concat_length (big 1) 1 (big_length 1) (met x i),
-        concat_length (big 1) 1 (big_length 1) (meaning g).regions,
-        met_fewer i h t,
-        ap length set_members,
-      )
+-- the numbers that are in a set, by the word of std
+pub members_filtered : (x : ℕ) → filter (has x) (range_with_len 0 regions) ≡ members x
+unfolding members
+members_filtered x = go (count_from 0 regions)
+  where
+    step : (b : Bool) (r : ℕ) {l m : List ℕ} → l ≡ m → cond b (r ∷ l) l ≡ pick b (r ∷ m) m
+    step true r e = ap (λ (n : List ℕ). r ∷ n) e
+    step false r e = e
+
+    go : (l : List ℕ) → filter (has x) l ≡ keep (has x) l
+    go [] = refl
+    go (r ∷ l) = step (has x r) r (go l)
+
+-- no more than there are regions
+pub members_few : (x : ℕ) → length (members x) ≤ regions
+unfolding members
+members_few x = omega (arith, keep_length (has x) (count_from 0 regions), count_length 0 regions)
+
+-- the members of a valid graph's set of regions are its regions
+pub set_members : (g : Graph) → Valid g → {x : ℕ} → x ≡ set_of (λ r. member r (meaning g).regions) → members x ≡ (meaning g).regions
+unfolding meaning
+set_members g v e = ap members (e ∙ sym (regions_stored g v))

@@ -1,32 +1,27 @@
--- Packages, entries and elements without versions: tests of columns, and a loop that asks a test of the elements in the places of an array.
+-- Packages, entries, bundles and connections without versions: tests of columns.
 use mathlib.Core.Path.{◌≡◌, refl, sym, ap, ap₂, ◌∙◌}
-use mathlib.Core.Bool.{Bool, true, false, not, ◌&&◌, and-false}
+use mathlib.Core.Bool.{Bool, true, false, ◌&&◌, and-false}
 use mathlib.Core.List.{List, [], ◌∷◌, map}
-use Prim.Native.Nat.{ℕ, ◌+◌, ◌≤◌, ◌<◌}
+use Prim.Native.Nat.{ℕ, ◌≤◌}
 use native.Mathlib.Omega.{arith}
 use lib.Dec.{eqb}
-use lib.ListN.{length, get_or, take, drop}
+use lib.ListN.{length, take}
 use lib.Seq.{take_all}
-use borrow.Author.Tests.{not-true, not-false, ne_eqb}
+use borrow.Author.Tests.{ne_eqb}
 use Rattle.region_graph.specs.Size.{everything_sign}
 use Rattle.region_graph.specs.Lists.{every}
-use Rattle.region_graph.specs.Model.{packages, entries}
+use Rattle.region_graph.specs.Model.{packages, entries, Bundle, Connection}
 use Rattle.region_graph.specs.Calls.{of_listed}
-use Rattle.region_graph.specs.Record.{meaning, packages_of, entries_of, package_part_in}
-use Rattle.region_graph.specs.declared.Graph.{Graph}
+use Rattle.region_graph.specs.Record.{bundle_in, connection_in, packages_of, entries_of, package_part_in}
 use Rattle.region_graph.specs.declared.packages.Packages.{Packages}
 use Rattle.region_graph.specs.declared.packages.Entries.{Entries}
 use Rattle.region_graph.specs.declared.bundles.StoredBundle.{StoredBundle}
 use Rattle.region_graph.specs.declared.connections.StoredConnection.{StoredConnection}
-use Rattle.region_graph.proofs.Lists.{every_map, every_stop, every_later, every_end}
+use Rattle.region_graph.proofs.Lists.{every_map}
 use Rattle.region_graph.proofs.Columns.{packages_length, package_versions, entries_length, entry_lowest, entry_highest}
-use Rattle.region_graph.proofs.Storing.{bundles_each, connections_each, short_connections}
-use Rattle.region_graph.proofs.PlaceLoops.{Storage, Reading, bundle_storage, connection_storage, reading_to, reading_inside, reading_test, places_read}
-use Rattle.region_archive.specs.Image.{plain_package, full_range}
+use Rattle.region_archive.specs.Image.{plain_package, full_range, plain_bundle, plain_connection}
 use Rattle.region_archive.specs.RecordFields.{PackagesFit, EntriesFit}
-use Rattle.region_archive.specs.declared.record_fields.Section.TheVariants as Section
 use Rattle.region_archive.proofs.Fits.{list_counted, part_list}
-use Rattle.region_archive.proofs.Placed.{Placed, bundles_placed, connections_placed}
 
 -- two tests of every element
 every_both : {A : Type 0} (p q : A → Bool) (xs : List A) → every (λ x. p x && q x) xs ≡ (every p xs && every q xs)
@@ -74,53 +69,11 @@ entries_plain e h u =
     (sym (entries_every (take e.count e.numbers) (take e.count e.lowest) (take e.count e.highest)
     (n ∙ list_counted (part_list h.lowest u)) (n ∙ list_counted (part_list h.highest u))))
 
--- a loop asks a test of the elements in the first places of an array, one after the other, and has come to place i: all pass where the rest does
-pub record Checking {A B : Type 0} (r : Storage A B) (p : A → Bool) (items : List B) (count i : ℕ) : Type 0 where
-  pub upto : i ≤ count
-  pub few : count ≤ r.size
-  pub rest : (let xs = map r.means (take count items) in every p xs ≡ every p (drop i xs))
+-- the same of bundles and of connections, by what they are stored as
+pub bundles_plain : (bs : List StoredBundle) {m : List Bundle} → map bundle_in bs ≡ m
+    → every (λ b. plain_bundle (bundle_in b)) bs ≡ every plain_bundle m
+bundles_plain bs e = sym (every_map bundle_in plain_bundle bs) ∙ ap (every plain_bundle) e
 
-module _ {A B : Type 0} {r : Storage A B} {items : List B} {count : ℕ} {xs : List A} (w : Reading r items count xs 0) where
-  pub checking_start : {p : A → Bool} → Checking r p items count 0
-  checking_start = record { upto = omega arith; few = w.few; rest = refl }
-
-  module _ {p : A → Bool} {i : ℕ} (k : Checking r p items count i) where
-    elements_left : every p xs ≡ every p (drop i xs)
-    elements_left = rw (places_read w) at k.rest
-
-    module _ (l : i < count) (e : B) {b : Bool} (f : b ≡ p (r.means (get_or items i e))) where
-      reading_here : Reading r items count xs i
-      reading_here = reading_to w k.upto
-
-      -- the element at the place fails
-      pub checking_stop : not b ≡ true → false ≡ every p xs
-      checking_stop t = every_stop p xs i r.none (reading_inside reading_here l) elements_left (reading_test reading_here l p e f (not-true b t))
-
-      -- it passes
-      pub checking_next : not b ≡ false → Checking r p items count (i + 1)
-      checking_next t = record {
-        upto = omega arith;
-        few = k.few;
-        rest = rw (places_read w) (every_later p xs i r.none (reading_inside reading_here l) elements_left (reading_test reading_here l p e f (not-false b t)));
-      }
-
-    -- all have passed
-    pub checking_end : count ≤ i → true ≡ every p xs
-    checking_end l = every_end p xs i elements_left (omega (arith, w.filled.counted))
-
--- the places of a graph hold its bundles and its connections
-module _ {g : Graph} {bs : List StoredBundle} {cs : List StoredConnection} {n v : ℕ} where
-  pub bundles_read : Placed g (Section.Bundles v) bs cs n → Reading bundle_storage bs n (meaning g).bundles 0
-  bundles_read p =
-      let f = bundles_placed p in
-      record { filled = f; back = bundles_each (meaning g).bundles; inside = omega arith; few = omega (arith, f.counted, f.room) }
-
-  pub connections_read : Placed g (Section.Connections v) bs cs n → Reading connection_storage cs n (meaning g).connections 0
-  connections_read p =
-      let f = connections_placed p in
-      record {
-        filled = f;
-        back = connections_each (meaning g).connections (short_connections p.valid.good);
-        inside = omega arith;
-        few = omega (arith, f.counted, f.room);
-      }
+pub connections_plain : (cs : List StoredConnection) {m : List Connection} → map connection_in cs ≡ m
+    → every (λ c. plain_connection (connection_in c)) cs ≡ every plain_connection m
+connections_plain cs e = sym (every_map connection_in plain_connection cs) ∙ ap (every plain_connection) e

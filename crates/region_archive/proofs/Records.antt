@@ -4,7 +4,7 @@ use mathlib.Core.List.{List, [], ◌∷◌, ◌++◌, map, append_assoc}
 use Prim.Native.Nat.{ℕ, zero, suc, ◌-◌, ◌≤◌, ◌<◌}
 use native.Mathlib.Omega.{arith}
 use lib.Dec.{ltb}
-use lib.ListN.{length, get_or}
+use lib.ListN.{length, get_or, length-map}
 use Rattle.region_graph.specs.Size.{regions}
 use Rattle.region_graph.specs.Lists.{All, concat_map}
 use Rattle.region_graph.specs.Model.{Model, Bundle, Connection, Part, LegalBundle, LegalConnection, Legal, Word, SortedPart}
@@ -122,9 +122,24 @@ body_sections v m l =
     (λ c h. sym (connection_record v c h)) m.connections l.connections_legal.each in
     λ i. counted (big 1) m.regions ++ (bundles i ++ connections i)
 
--- a value with the fields of an element has the element's record
-pub values_record : (s : Section) (e : FieldValues) (x : Elem s) → ValuesAre s e x → sized 2 (fields_bytes s) (fields_in e) ≡ record_bytes s x
-values_record s e x h = ap (λ (l : List ℕ). big 2 (length l) ++ l) (same_bytes s (fields_in e) (fields_of s x) h.same)
+-- a value with such fields has their record
+pub values_record : (s : Section) (e : FieldValues) (f : Fields) → ValuesAre s e f → sized 2 (fields_bytes s) (fields_in e) ≡ sized 2 (fields_bytes s) f
+values_record s e f h = ap (λ (l : List ℕ). big 2 (length l) ++ l) (same_bytes s (fields_in e) f h.same)
+
+-- and that of the element at a place with such fields
+pub item_record : {A : Type 0} (fields : A → Fields) (xs : List A) {s t : Section} {e : FieldValues} {x : A} (i : ℕ) → t ≡ s → x ≡ get_or xs i x
+    → ValuesAre s e (fields x) → sized 2 (fields_bytes t) (fields_in e) ≡ sized 2 (λ r. fields_bytes s (fields r)) (get_or xs i x)
+item_record fields xs {s} {t} {e} {x} i k is h =
+    ap (λ (u : Section). sized 2 (fields_bytes u) (fields_in e)) k ∙ values_record s e (fields x) h
+    ∙ ap (λ y. sized 2 (λ r. fields_bytes s (fields r)) y) is
+
+-- the records of what elements are stored as are those of the elements
+pub counted_map : {A B : Type 0} (h : B → List ℕ) (g : A → B) (xs : List A) → counted (λ x. h (g x)) xs ≡ counted h (map g xs)
+counted_map {A} h g xs = λ i. sym (length-map xs g) i ∷ go xs i
+  where
+    go : (ys : List A) → concat_map (λ x. h (g x)) ys ≡ concat_map h (map g ys)
+    go [] = refl
+    go (y ∷ ys) = ap (λ (l : List ℕ). h (g y) ++ l) (go ys)
 
 -- the bytes of the two fields that are numbers
 pub first_field : (s : Section) (f : Fields) {k : ℕ} → k ≡ 0 → field_bytes s k f ≡ big (first_width s) f.first

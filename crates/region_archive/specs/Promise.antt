@@ -1,6 +1,7 @@
 -- What the public calls of the archive promise.
-use Rattle.std.specs.Prelude.{◌≡◌, List, [], ◌∷◌, ◌++◌, ℕ, eqb, leb, length}
-use Rattle.region_graph.specs.Refusals.{not_refused, not_installed, not_a_kind, no_place, has_versions}
+use Rattle.std.specs.Prelude.{◌≡◌, List, [], ◌∷◌, ◌++◌, ℕ, eqb, leb, length, Result, Ok, Err}
+use Rattle.region_graph.specs.Refusals.{not_refused, not_installed, not_a_kind, no_place, has_versions, refusal_number}
+use Rattle.region_graph.specs.declared.refusals.Refusal.{Refusal}
 use Rattle.region_graph.specs.Lists.{pick}
 use Rattle.region_graph.specs.Model.{Model}
 use Rattle.region_graph.specs.Calls.{Question, ask, first_no}
@@ -11,7 +12,15 @@ use Rattle.region_graph.specs.declared.Changed.{Changed}
 use Rattle.region_routes.specs.Hooks.{Returned, Outcome, written, is_installed, judged, item, sees_from}
 use Rattle.region_archive.specs.Image.{image, unversioned, older_image}
 use Rattle.region_archive.specs.File.{FileMeaning, read_model, read_questions, read_number}
-use Rattle.region_archive.specs.declared.Written.{Written}
+
+-- what a write answers: the image's length, or a refusal's number
+pub data Written : Type 0 where
+  Bytes : ℕ → Written
+  Refused : ℕ → Written
+
+abbrev pub written_answer : Result ℕ Refusal → Written
+written_answer (Ok n) = Written.Bytes n
+written_answer (Err r) = Written.Refused (refusal_number r)
 
 -- what document 01 says is returned for each answer of a write: 0 and the length, or the refusal's number
 abbrev pub written_as : Written → Returned

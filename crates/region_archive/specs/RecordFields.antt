@@ -18,6 +18,7 @@ use Rattle.region_archive.specs.Forms.{element_bytes, Coded, form_of}
 use Rattle.region_archive.specs.declared.forms.Form.{Form}
 use Rattle.region_archive.specs.declared.record_fields.Codes.{Codes}
 use Rattle.region_archive.specs.declared.record_fields.FieldValues.{FieldValues}
+use Rattle.region_archive.specs.declared.record_fields.Layout.{Layout}
 use Rattle.region_archive.specs.declared.record_fields.Section.{Section}
 
 -- values whose bytes are those of fields, one after the other: their first k fields
@@ -92,6 +93,16 @@ key s x = field_key s (fields_of s x).first (fields_of s x).second
 abbrev pub most_records : Section → ℕ
 most_records (Section.Bundles v) = most_bundles
 most_records (Section.Connections v) = most_connections
+
+-- all of these in one
+abbrev pub layout_of : Section → Layout
+layout_of s = record {
+  fields = field_count s;
+  first_width = first_width s;
+  most_in = most_in s;
+  most_records = most_records s;
+  width = row_width s;
+}
 
 -- their order
 abbrev pub element_before : (s : Section) → Elem s → Elem s → Bool
@@ -178,10 +189,14 @@ pub record ValuesFit (e : FieldValues) : Type 0 where
 abbrev pub fields_in : FieldValues → Fields
 fields_in e = record { first = e.first; second = e.second; parts = map part_of e.parts }
 
--- the value has the fields of an element
-pub record ValuesAre (s : Section) (e : FieldValues) (x : Elem s) : Type 0 where
+-- the value has such fields, for a record of a section
+pub record ValuesAre (s : Section) (e : FieldValues) (f : Fields) : Type 0 where
   pub fits : ValuesFit e
-  pub same : SameFields s (fields_in e) (fields_of s x)
+  pub same : SameFields s (fields_in e) f
+
+-- records with their count, each as its fields after their length
+abbrev pub records_bytes : {A : Type 0} → Section → (A → Fields) → List A → List ℕ
+records_bytes s fields xs = counted (sized 2 (λ x. fields_bytes s (fields x))) xs
 
 -- what the reader asks of a record field by field, in a graph with regions rs, where orders are at least `floor`
 

@@ -1,5 +1,5 @@
 // Whether a graph has versions: an older image has none, and stands for version 0 of a package and every version of an entry.
-ghost use Rattle.std.specs.Prelude.{◌≡◌, eqb};
+ghost use Rattle.std.specs.Prelude.{◌≡◌, eqb, All};
 ghost use Rattle.region_graph.specs.Lists.{every};
 ghost use Rattle.region_graph.specs.Record.{Valid, meaning, bundle_in, connection_in};
 ghost use Rattle.region_archive.specs.Image;
@@ -19,77 +19,45 @@ const HIGHEST: u16 = 65535;
 fn all_are(versions: &[u16], version: u16) -> bool
     ensures { result ≡ every (λ v. eqb v version) versions.now }
 {
-    let mut i: usize = 0;
-    while i < versions.len() {
-        if versions[i] != version {
-            return false;
-        }
-        i += 1;
-    }
-    true
+    versions.iter().all(|v| *v == version)
 }
 
 // Whether all packages of a bundle have version 0.
-fn plain_bundle(b: StoredBundle) -> bool
-    requires { BundleFits b }
-    ensures { result ≡ Image.plain_bundle (bundle_in b) }
+fn plain_bundle(bundle: &StoredBundle) -> bool
+    requires { BundleFits bundle.now }
+    ensures { result ≡ Image.plain_bundle (bundle_in bundle.now) }
 {
-    let count = b.packages.count;
-    let versions = b.packages.versions;
-    all_are(&versions[..count], NO_VERSION)
+    let packages = &bundle.packages;
+    all_are(&packages.versions[..packages.count], NO_VERSION)
 }
 
 // Whether all entries of a connection's package part run from 0 to 65535.
-fn plain_connection(c: StoredConnection) -> bool
-    requires { ConnectionFits c }
-    ensures { result ≡ Image.plain_connection (connection_in c) }
+fn plain_connection(connection: &StoredConnection) -> bool
+    requires { ConnectionFits connection.now }
+    ensures { result ≡ Image.plain_connection (connection_in connection.now) }
 {
-    let count = c.packages.count;
-    if count == EVERYTHING {
-        return true;
-    }
-    let lowest = c.packages.lowest;
-    let highest = c.packages.highest;
-    if !all_are(&lowest[..count], LOWEST) {
-        return false;
-    }
-    all_are(&highest[..count], HIGHEST)
+    let entries = &connection.packages;
+    let count = entries.count;
+    count == EVERYTHING
+        || all_are(&entries.lowest[..count], LOWEST) && all_are(&entries.highest[..count], HIGHEST)
 }
 
-// Whether all bundles of a graph are such.
-fn plain_bundles(graph: Graph) -> bool
-    requires { Valid graph }
-    ensures { result ≡ every Image.plain_bundle (meaning graph).bundles }
+// Whether all bundles are such.
+fn plain_bundles(bundles: &[StoredBundle]) -> bool
+    requires { All BundleFits bundles.now }
+    ensures { result ≡ every (λ b. Image.plain_bundle (bundle_in b)) bundles.now }
 {
-    let places = graph.bundle_places();
-    let total = graph.bundle_count();
-    let mut i: usize = 0;
-    while i < total {
-        let b = places[i];
-        if !plain_bundle(b) {
-            return false;
-        }
-        i += 1;
-    }
-    true
+    bundles.iter().all(|bundle| plain_bundle(bundle))
 }
 
-// Whether all connections of a graph are such.
-fn plain_connections(graph: Graph) -> bool
-    requires { Valid graph }
-    ensures { result ≡ every Image.plain_connection (meaning graph).connections }
+// Whether all connections are such.
+fn plain_connections(connections: &[StoredConnection]) -> bool
+    requires { All ConnectionFits connections.now }
+    ensures { result ≡ every (λ c. Image.plain_connection (connection_in c)) connections.now }
 {
-    let places = graph.connection_places();
-    let total = graph.connection_count();
-    let mut i: usize = 0;
-    while i < total {
-        let c = places[i];
-        if !plain_connection(c) {
-            return false;
-        }
-        i += 1;
-    }
-    true
+    connections
+        .iter()
+        .all(|connection| plain_connection(connection))
 }
 
 // Whether a graph has no versions. It is a call of its own, so that its copies are off the stack when the image is written.
@@ -98,8 +66,6 @@ pub fn unversioned(graph: Graph) -> bool
     requires { Valid graph }
     ensures { result ≡ Image.unversioned (meaning graph) }
 {
-    if !plain_bundles(graph) {
-        return false;
-    }
-    plain_connections(graph)
+    plain_bundles(&graph.bundle_places()[..graph.bundle_count()])
+        && plain_connections(&graph.connection_places()[..graph.connection_count()])
 }

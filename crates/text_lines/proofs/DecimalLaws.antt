@@ -2,7 +2,7 @@
 use mathlib.Core.Path.{◌≡◌, refl, sym, ap, ◌∙◌, subst}
 use mathlib.Core.Bool.{Bool, true, false}
 use mathlib.Core.List.{List, [], ◌∷◌}
-use Prim.Native.Nat.{ℕ, zero, suc, ◌+◌, ◌-◌, ◌*◌, ◌/◌, ◌%◌, ◌^◌, ◌≤◌, ◌<◌}
+use Prim.Native.Nat.{ℕ, zero, suc, ◌+◌, ◌-◌, ◌*◌, ◌/◌, ◌%◌, ◌^◌, ◌≤◌, ◌<◌, max}
 use native.Mathlib.Nat.{pow-suc, div-one, div-eq_of_lt, div-div-eq-div-mul}
 use native.Mathlib.Decide.{dec_lt}
 use native.Mathlib.Omega.{arith}
@@ -72,33 +72,13 @@ count_few (suc k) (suc j) n h = go (ltb n 10) (count_few k j (n / 10) less)
 pub decimal_few : (j n : ℕ) → n < 10 ^ suc j → length (decimal n) ≤ suc j
 decimal_few j n h = omega (arith, decimal_length n, count_few most_digits j n h)
 
--- the digits counted so far, and those of what is left
-pub record Counting (number count rest : ℕ) : Type 0 where
-  pub left : ℕ
-  pub within : count + left ≡ most_digits
-  pub small : rest < 10 ^ suc left
-  pub counted : digit_count most_digits number + 1 ≡ count + digit_count (suc left) rest
-
--- before the loop, after a turn of it, and at its end
-pub counting_start : (n : ℕ) → n < 2 ^ 32 → Counting n 1 n
-counting_start n h = record { left = 9; within = refl; small = omega arith; counted = omega arith }
-
-pub counting_more : {n count rest : ℕ} → Counting n count rest → 10 ≤ rest → Counting n (count + 1) (rest / 10)
-counting_more {n} {count} {rest} c h = go c.left c.within c.small c.counted
-  where
-    go : (k : ℕ) → count + k ≡ most_digits → rest < 10 ^ suc k → digit_count most_digits n + 1 ≡ count + digit_count (suc k) rest
-        → Counting n (count + 1) (rest / 10)
-    go zero w s d = absurd (omega arith)
-    go (suc k) w s d =
-        record {
-          left = k;
-          within = omega arith;
-          small = let e = pow-suc 10 (suc k) in omega (arith, e);
-          counted = omega (arith, count_more (suc k) rest h);
-        }
-
-pub counting_end : {n count rest : ℕ} → Counting n count rest → rest < 10 → count ≡ digit_count most_digits n
-counting_end {n} {count} {rest} c h = omega (arith, c.counted, count_one c.left rest h)
+-- a number from 10 ^ j on and below 10 ^ (j + 1) has j + 1 digits, and 0 has one
+pub count_is : (k j n : ℕ) → j < k → 10 ^ j ≤ max n 1 → max n 1 < 10 * 10 ^ j → j + 1 ≡ digit_count k n
+count_is zero j n l lo hi = absurd (omega arith)
+count_is (suc k) zero n l lo hi = omega (arith, count_one k n (omega arith))
+count_is (suc k) (suc j) n l lo hi =
+    let e = pow-suc 10 j in
+    omega (arith, count_is k j (n / 10) (omega arith) (omega (arith, e)) (omega (arith, e)), count_more k n (omega (arith, e)))
 
 -- what is left of a number above one digit more
 digit_next : (n k : ℕ) → n / 10 ^ k / 10 ≡ n / 10 ^ suc k

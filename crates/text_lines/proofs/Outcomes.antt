@@ -1,11 +1,10 @@
 -- Puts and writes: where there is room a put is a write, and so puts one after the other compose as writes do.
 use mathlib.Core.Path.{◌≡◌, sym, ap, ◌∙◌}
-use mathlib.Core.Bool.{Bool, true, false, not}
+use mathlib.Core.Bool.{Bool, true, false}
 use mathlib.Core.List.{List, ◌++◌}
-use Prim.Native.Nat.{ℕ, ◌+◌, ◌-◌, ◌≤◌}
-use native.Mathlib.Decide.{dec_le}
+use Prim.Native.Nat.{ℕ, ◌+◌, ◌≤◌}
 use native.Mathlib.Omega.{arith}
-use borrow.Author.Tests.{le-leb, lt-leb, leb-true, not-true, not-false}
+use borrow.Author.Tests.{le-leb, leb-true}
 use lib.Dec.{leb}
 use lib.ListN.{length, take, drop}
 use Rattle.region_graph.proofs.Lists.{pick_yes, pick_no}
@@ -13,32 +12,24 @@ use Rattle.text_lines.specs.Outcome.{PutAnswer, put, put_outcome}
 use Rattle.text_lines.specs.Written.{WrittenAt}
 use Rattle.text_lines.proofs.Writes.{wrote_then, room_first, room_rest}
 
--- room after a place that is in the buffer
-pub room_after : (size at count : ℕ) → at ≤ size → leb count (size - at) ≡ leb (at + count) size
-room_after size at count h = go (dec_le count (size - at))
-  where
-    go : Dec (count ≤ size - at) → leb count (size - at) ≡ leb (at + count) size
-    go (yes l) = le-leb count (size - at) l ∙ sym (le-leb (at + count) size (omega arith))
-    go (no l) = lt-leb count (size - at) (omega arith) ∙ sym (lt-leb (at + count) size (omega arith))
-
 -- what the test of room says of a place
-pub has_place : (n size : ℕ) {room : Bool} → room ≡ leb n size → not room ≡ false → n ≤ size
-has_place n size {room} e f = leb-true n size (sym e ∙ not-false room f)
+pub has_place : (n size : ℕ) {room : Bool} → room ≡ leb n size → room ≡ true → n ≤ size
+has_place n size e f = leb-true n size (sym e ∙ f)
 
 -- the outcome where there is room
 abbrev whole : List ℕ → ℕ → List ℕ → PutAnswer
 whole entry at xs = put (at + length xs) (take at entry ++ (xs ++ drop (at + length xs) entry))
 
-put_whole : (entry : List ℕ) (at : ℕ) (xs : List ℕ) → at + length xs ≤ length entry → put_outcome entry at xs ≡ whole entry at xs
+pub put_whole : (entry : List ℕ) (at : ℕ) (xs : List ℕ) → at + length xs ≤ length entry → put_outcome entry at xs ≡ whole entry at xs
 unfolding put_outcome
 put_whole entry at xs h = pick_yes (whole entry at xs) (put at entry) (le-leb (at + length xs) (length entry) h)
 
 -- where the test says that there is no room for n bytes, a text of n bytes is not written
-pub put_none : (entry : List ℕ) (at : ℕ) (xs : List ℕ) {n : ℕ} {room : Bool} → length xs ≡ n → room ≡ leb (at + n) (length entry) → not room ≡ true
+pub put_none : (entry : List ℕ) (at : ℕ) (xs : List ℕ) {n : ℕ} {room : Bool} → length xs ≡ n → room ≡ leb (at + n) (length entry) → room ≡ false
     → put at entry ≡ put_outcome entry at xs
 unfolding put_outcome
-put_none entry at xs {room = room} e f g =
-    sym (pick_no (whole entry at xs) (put at entry) (ap (λ (k : ℕ). leb (at + k) (length entry)) e ∙ sym f ∙ not-true room g))
+put_none entry at xs e f g =
+    sym (pick_no (whole entry at xs) (put at entry) (ap (λ (k : ℕ). leb (at + k) (length entry)) e ∙ sym f ∙ g))
 
 module _ {entry exit : List ℕ} {at next : ℕ} {xs : List ℕ} where
   -- where there is room, a put is a write

@@ -1,12 +1,13 @@
 -- Laws of `WrittenAt`: writes one after the other are one write.
 use mathlib.Core.Path.{◌≡◌, refl, sym, ap, ◌∙◌, subst}
 use mathlib.Core.List.{List, [], ◌∷◌, ◌++◌, append_assoc}
-use Prim.Native.Nat.{ℕ, suc, ◌+◌, ◌≤◌, ◌<◌}
+use Prim.Native.Nat.{ℕ, suc, ◌+◌, ◌-◌, ◌≤◌, ◌<◌}
 use native.Mathlib.Numerals.{add-one}
 use native.Mathlib.Nat.{add-zero}
 use native.Mathlib.Omega.{arith}
-use lib.ListN.{length, get_or, take, drop, set, length-append, length-drop, take-append-drop}
-use lib.Seq.{set_split, take_at, drop_at, take-append-le, take_all, take-suc, take-take, drop-append-add, drop-drop, length-take-le}
+use lib.ListN.{length, take, drop, set, length-append, length-drop, take-append-drop}
+use lib.Seq.{set_split, take_at, drop_at, take-append-le, take-take, drop-append-add, drop-drop, length-take-le}
+use borrow.Rule.Slice.PartMut.{put_mid}
 use Rattle.text_lines.specs.Written.{WrittenAt}
 
 -- no bytes are written at any place
@@ -91,31 +92,6 @@ wrote_before {old} {new} {from} {at} {next} {xs} b e v =
     back : drop (suc at) new ≡ xs ++ drop next old
     back = ap (drop (suc at)) w.shape ∙ drop_at (take (suc at) old) (xs ++ drop next old) (suc at) long
 
--- a loop has written the first i bytes of a text that has room
-pub record Writing (xs old : List ℕ) (at i : ℕ) (new : List ℕ) : Type 0 where
-  pub upto : i ≤ length xs
-  pub fits : at + length xs ≤ length old
-  pub wrote : WrittenAt old new at (take i xs) (at + i)
-
-module _ {xs old : List ℕ} {at : ℕ} where
-  pub writing_start : at + length xs ≤ length old → Writing xs old at 0 old
-  writing_start h = record { upto = omega arith; fits = h; wrote = rw add-zero (wrote_none old at (omega arith)) }
-
-  module _ {i : ℕ} {new : List ℕ} (w : Writing xs old at i new) where
-    pub writing_inside : i < length xs → at + i < length new
-    writing_inside h = omega (arith, wrote_length w.wrote, w.fits)
-
-    pub writing_next : i < length xs → Writing xs old at (i + 1) (set new (at + i) (get_or xs i 0))
-    writing_next h =
-        let b = get_or xs i 0 in
-        let v = wrote_then w.wrote (wrote_byte new (at + i) b (writing_inside h)) in
-        let e : at + i + 1 ≡ at + (i + 1) = omega arith in
-        let f : take i xs ++ (b ∷ []) ≡ take (i + 1) xs = sym (take-suc xs i 0 h) ∙ ap (λ (k : ℕ). take k xs) (sym (add-one i)) in
-        record { upto = omega arith; fits = w.fits; wrote = subst (λ (k : ℕ). WrittenAt old (set new (at + i) b) at (take (i + 1) xs) k) e (wrote_is f v) }
-
-    pub writing_end : length xs ≤ i → WrittenAt old new at xs (at + i)
-    writing_end l = wrote_is (take_all i xs l) w.wrote
-
 -- where there is room for two pieces, there is for the first, and once it is written for the second
 pub room_first : (xs ys : List ℕ) (at n : ℕ) → at + length (xs ++ ys) ≤ n → at + length xs ≤ n
 room_first xs ys at n h = omega (arith, length-append xs ys)
@@ -123,3 +99,10 @@ room_first xs ys at n h = omega (arith, length-append xs ys)
 pub room_rest : {old new xs : List ℕ} {at to : ℕ} (ys : List ℕ) → WrittenAt old new at xs to → at + length (xs ++ ys) ≤ length old
     → to + length ys ≤ length new
 room_rest {xs = xs} ys w h = omega (arith, length-append xs ys, w.ends, wrote_length w)
+
+-- a list copied to a place
+pub wrote_copy : {old xs ys : List ℕ} {at : ℕ} → ys ≡ xs → at + length xs ≤ length old
+    → WrittenAt old (put_mid at (at + length xs - at) old ys) at xs (at + length xs)
+wrote_copy {old} {xs} {ys} {at} e h =
+    let k : at + length xs - at ≡ length xs = omega arith in
+    record { shape = rw (e, k, drop-drop (length xs) at old); ends = refl; room = h }

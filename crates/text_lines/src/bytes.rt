@@ -6,10 +6,7 @@ ghost use Rattle.text_lines.specs.Outcome.{put, put_outcome};
 pub fn has_room(length: usize, at: usize, count: usize) -> bool
     ensures { result ≡ leb (at + count) length }
 {
-    if length < at {
-        return false;
-    }
-    count <= length - at
+    at <= length && count <= length - at
 }
 
 // Writes bytes; hands back the place after them.
@@ -19,10 +16,7 @@ pub fn put_bytes(buffer: &mut [u8], at: usize, bytes: &[u8]) -> usize
     if !has_room(buffer.len(), at, bytes.len()) {
         return at;
     }
-    let mut i: usize = 0;
-    while i < bytes.len() {
-        buffer[at + i] = bytes[i];
-        i += 1;
-    }
-    at + i
+    let next = at + bytes.len();
+    buffer[at..next].copy_from_slice(bytes);
+    next
 }

@@ -10,13 +10,7 @@ use crate::bytes::has_room;
 fn digits(number: u32) -> usize
     ensures { result ≡ digit_count most_digits number }
 {
-    let mut count: usize = 1;
-    let mut rest = number;
-    while 10 <= rest {
-        rest = rest / 10;
-        count += 1;
-    }
-    count
+    number.max(1).ilog10() as usize + 1
 }
 
 // Writes the last digits of a number, the last one first.
@@ -24,12 +18,10 @@ fn put_digits(buffer: &mut [u8], at: usize, width: usize, number: u32)
     requires { at + width ≤ length buffer.old }
     ensures { WrittenAt buffer.old buffer.new at (last_digits width number) (at + width) }
 {
-    let mut left = width;
     let mut rest = number;
-    while 0 < left {
-        left -= 1;
+    for left in (0..width).rev() {
         buffer[at + left] = (rest % 10) as u8 + b'0';
-        rest = rest / 10;
+        rest /= 10;
     }
 }
 

@@ -1,8 +1,22 @@
-use Rattle.region_graph.proofs.Lists.{and_stop, and_last}
+use native.Mathlib.Omega.{arith}
+use Rattle.std.proofs.lemmas.Grind.{common_steps}
+use Rattle.region_archive.proofs.Placed.{bundles_taken, bundles_fit, connections_taken, connections_fit}
+use Rattle.region_archive.proofs.PlainLaws.{bundles_plain, connections_plain}
 use Rattle.region_archive.proofs.plain.unversioned.Goals as goal
 
-pub returns-then-not-plain_bundles : goal.returns-then-not-plain_bundles
-returns-then-not-plain_bundles c = and_stop _ c.plain_bundles.ensures c.if-not-plain_bundles.true-raw
+pub plain_bundles-requires : goal.plain_bundles-requires
+plain_bundles-requires c = bundles_fit c.args.graph c.requires c.bundle_places.ensures c.bundle_count.ensures
 
-pub returns : goal.returns
-returns c = and_last _ c.plain_bundles.ensures c.if-not-plain_bundles.false-raw c.plain_connections.ensures
+pub plain_connections-requires : goal.plain_connections-requires
+plain_connections-requires c = connections_fit c.args.graph c.requires c.connection_places.ensures c.connection_count.ensures
+
+pub returns-then-plain_bundles : goal.returns-then-plain_bundles
+returns-then-plain_bundles c =
+    let b = bundles_plain _ (bundles_taken c.args.graph c.requires c.bundle_places.ensures c.bundle_count.ensures) in
+    let d = connections_plain _ (connections_taken c.args.graph c.requires c.connection_places.ensures c.connection_count.ensures) in
+    grind (arith, common_steps, b, d)
+
+pub returns-else-plain_bundles : goal.returns-else-plain_bundles
+returns-else-plain_bundles c =
+    let b = bundles_plain _ (bundles_taken c.args.graph c.requires c.bundle_places.ensures c.bundle_count.ensures) in
+    grind (arith, common_steps, b)

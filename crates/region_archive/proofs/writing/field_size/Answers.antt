@@ -13,15 +13,15 @@ pub returns-in-0 : goal.returns-in-0
 returns-in-0 c =
     let s = c in
     let k = s.args.section in
-    let e = ap length (first_field k (fields_in s.args.values) c.in-0.is) ∙ big_length (first_width k) s.args.values.first in
+    let e = ap length (first_field k (fields_in s.args.values.now) c.in-0.is) ∙ big_length (first_width k) s.args.values.now.first in
     (c.first_width.ensures ∙ sym e, omega (arith, c.first_width.ensures, narrow_first k))
 
 pub returns-in_default : goal.returns-in_default
 returns-in_default c =
-    let inside : c.args.field - 2 < length c.args.values.parts =
+    let inside : c.args.field - 2 < length c.args.values.now.parts =
     omega (arith, few_fields c.args.section, c.requires.field_within, c.requires.values_fit.size) in
     let s = c in
-    let e = part_field s.args.section s.args.values s.args.field _ (omega arith) inside c.form_of-form.ensures.0 in
+    let e = part_field s.args.section s.args.values.now s.args.field _ (omega arith) inside c.form_of.ensures.0 in
     (c.part_size.ensures.0 ∙ sym (ap length e), c.part_size.ensures.1)
 
 pub offset_bounds-values-field : goal.offset_bounds-values-field
@@ -32,7 +32,7 @@ bounds-values-field c = omega (arith, few_fields c.args.section, c.requires.fiel
 
 pub part_size-requires : goal.part_size-requires
 part_size-requires c =
-    let inside : c.args.field - 2 < length c.args.values.parts =
+    let inside : c.args.field - 2 < length c.args.values.now.parts =
     omega (arith, few_fields c.args.section, c.requires.field_within, c.requires.values_fit.size) in
     let s = c in
-    (c.form_of-form.ensures.1, all_at CodePartFits s.args.values.parts _ _ inside s.requires.values_fit.each)
+    (c.form_of.ensures.1, all_at CodePartFits s.args.values.now.parts _ _ inside s.requires.values_fit.each)

@@ -12,29 +12,26 @@ use Rattle.region_archive.proofs.writing.part_size.Goals as goal
 pub returns-then-part-eq-EVERYTHING : goal.returns-then-part-eq-EVERYTHING
 returns-then-part-eq-EVERYTHING c =
     let a = c.args in
-    (ap (λ (p : Part ℕ). length (part_bytes (element_bytes a.form) p)) (sym (part_all a.part.count a.part.items c.if-part-eq-EVERYTHING.true)), omega arith)
+    let p = a.part.now in
+    (ap (λ (q : Part ℕ). length (part_bytes (element_bytes a.form) q)) (sym (part_all p.count p.items c.if-part-eq-EVERYTHING.true)), omega arith)
 
-pub returns : goal.returns
-returns c =
-    let small : (let a = c.args in a.part.count * a.form.width ≤ 128) =
-    let s = c in mul-le-mul (s.requires.1.count c.if-part-eq-EVERYTHING.false) s.requires.0.wide in
-    let e = c in
-    let s = e in
-    let a = s.args in
-    let list = part_list s.requires.1 e.if-part-eq-EVERYTHING.false in (
-      sym (ap (λ (p : Part ℕ). length (part_bytes (element_bytes a.form) p)) (part_listed a.part.count a.part.items e.if-part-eq-EVERYTHING.false)
-          ∙ list_size a.form a.part list),
-      omega (arith, small),
+small : (n w : ℕ) → n ≤ 16 → w ≤ 8 → n * w ≤ 128
+small n w h k = mul-le-mul h k
+
+pub returns-else-part-eq-EVERYTHING : goal.returns-else-part-eq-EVERYTHING
+returns-else-part-eq-EVERYTHING c =
+    let a = c.args in
+    let p = a.part.now in
+    let listed = c.if-part-eq-EVERYTHING.false in (
+      sym (ap (λ (q : Part ℕ). length (part_bytes (element_bytes a.form) q)) (part_listed p.count p.items listed)
+          ∙ list_size a.form p (part_list c.requires.1 listed)),
+      omega (arith, small p.count a.form.width (c.requires.1.count listed) c.requires.0.wide),
     )
 
 pub overflow_mul-result : goal.overflow_mul-result
 overflow_mul-result c =
-    let small : (let a = c.args in a.part.count * a.form.width ≤ 128) =
-    let s = c in mul-le-mul (s.requires.1.count c.if-part-eq-EVERYTHING.false) s.requires.0.wide in
-    omega (arith, small)
+    omega (arith, small c.args.part.now.count c.args.form.width (c.requires.1.count c.if-part-eq-EVERYTHING.false) c.requires.0.wide)
 
 pub overflow_add-result : goal.overflow_add-result
 overflow_add-result c =
-    let small : (let a = c.args in a.part.count * a.form.width ≤ 128) =
-    let s = c in mul-le-mul (s.requires.1.count c.if-part-eq-EVERYTHING.false) s.requires.0.wide in
-    omega (arith, small)
+    omega (arith, small c.args.part.now.count c.args.form.width (c.requires.1.count c.if-part-eq-EVERYTHING.false) c.requires.0.wide)

@@ -11,15 +11,15 @@ use Rattle.region_archive.proofs.writing.put_field.Goals as goal
 pub put_part-requires-clause-part_in_bounds : goal.put_part-requires-clause-part_in_bounds
 put_part-requires-clause-part_in_bounds c =
     let a = c.args in
-    let inside : a.field - 2 < length a.values.parts = omega (arith, few_fields a.section, c.requires.field_within.0, c.requires.values_fit.size) in
+    let inside : a.field - 2 < length a.values.now.parts = omega (arith, few_fields a.section, c.requires.field_within.0, c.requires.values_fit.size) in
     omega (
       arith,
-      ap length (part_field a.section a.values a.field (record { count = 0; items = [] }) (omega arith) inside c.form_of-form.ensures.0),
+      ap length (part_field a.section a.values.now a.field (record { count = 0; items = [] }) (omega arith) inside c.form_of.ensures.0),
       c.requires.field_within.1,
     )
 
 pub returns-in_default : goal.returns-in_default
 returns-in_default c =
     let a = c.args in
-    let inside : a.field - 2 < length a.values.parts = omega (arith, few_fields a.section, c.requires.field_within.0, c.requires.values_fit.size) in
-    wrote_is (sym (part_field a.section a.values a.field _ (omega arith) inside c.form_of-form.ensures.0)) c.put_part.ensures
+    let inside : a.field - 2 < length a.values.now.parts = omega (arith, few_fields a.section, c.requires.field_within.0, c.requires.values_fit.size) in
+    wrote_is (sym (part_field a.section a.values.now a.field _ (omega arith) inside c.form_of.ensures.0)) c.put_part.ensures

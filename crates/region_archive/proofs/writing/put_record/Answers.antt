@@ -9,12 +9,12 @@ use Rattle.region_archive.proofs.writing.put_record.Goals as goal
 
 pub loop-field-preserved : goal.loop-field-preserved
 loop-field-preserved c =
-    let e = bytes_next (field_bytes c.args.section) c.loop-field.field (fields_in c.args.values) in
-    (omega arith, wrote_is (sym e) (wrote_then c.loop-field.invariant.1 c.put_field-to.ensures))
+    let e = bytes_next (field_bytes c.args.section) c.loop-field.field (fields_in c.args.values.now) in
+    wrote_is (sym e) (wrote_then c.loop-field.invariant c.put_field-to.ensures)
 
 pub returns : goal.returns
 returns c =
     let k = c.args.section in
-    let e : c.loop-field.field ≡ field_count k = omega (arith, c.field_count-total.ensures) in
-    let size = c.fields_size-size.ensures.0 in
-    wrote_is (λ i. big 2 (size i) ++ bytes_to (field_bytes k) (e i) (fields_in c.args.values)) (wrote_then c.put_number-to.ensures c.loop-field.invariant.1)
+    let e : c.loop-field.field ≡ field_count k = omega (arith, c.field_count-field-end.ensures) in
+    let size = c.fields_size.ensures.0 in
+    wrote_is (λ i. big 2 (size i) ++ bytes_to (field_bytes k) (e i) (fields_in c.args.values.now)) (wrote_then c.put_number-to.ensures c.loop-field.invariant)

@@ -1,8 +1,13 @@
+use mathlib.Core.Path.{ap}
 use native.Mathlib.Omega.{arith}
+use lib.ListN.{length}
 use Rattle.region_graph.specs.Record.{meaning}
 use Rattle.text_lines.proofs.Writes.{wrote_is, wrote_then, wrote_length}
+use Rattle.big_endian.specs.Bytes.{big, counted}
 use Rattle.region_archive.specs.Image.{image_in}
 use Rattle.region_archive.proofs.Images.{body_parts, image_size, image_pieces, wrote_image, no_image}
+use Rattle.region_archive.proofs.Members.{set_members}
+use Rattle.region_archive.proofs.Placed.{bundles_few, bundles_bytes, bundles_fit, connections_few, connections_bytes, connections_fit}
 use Rattle.region_archive.proofs.writing.write_in.Goals as goal
 
 pub returns-then-buffer-size : goal.returns-then-buffer-size
@@ -11,36 +16,73 @@ returns-then-buffer-size c =
     let v = c.args.version in
     no_image (image_in v m) c.args.buffer.now (omega (arith, image_size v m, c.body_size-size.ensures.0))
 
-pub put_section-d-requires-clause-graph_in_bounds : goal.put_section-d-requires-clause-graph_in_bounds
-put_section-d-requires-clause-graph_in_bounds c =
+pub put_regions-c-requires : goal.put_regions-c-requires
+put_regions-c-requires c =
+    let g = c.args.graph in
     omega (
       arith,
-      body_parts c.args.version (meaning c.args.graph) c.requires.0.good,
+      body_parts c.args.version (meaning g) c.requires.0.good,
       c.body_size-size.ensures.0,
       wrote_length c.put_number-a.ensures,
       wrote_length c.put_number-b.ensures,
-      wrote_length c.put_regions-c.ensures,
+      ap (λ l. length (counted (big 1) l)) (set_members g c.requires.0 c.region_set.ensures),
     )
 
-pub put_section-end-requires-clause-graph_in_bounds : goal.put_section-end-requires-clause-graph_in_bounds
-put_section-end-requires-clause-graph_in_bounds c =
-    omega (
-      arith,
-      body_parts c.args.version (meaning c.args.graph) c.requires.0.good,
-      c.body_size-size.ensures.0,
-      wrote_length c.put_number-a.ensures,
-      wrote_length c.put_number-b.ensures,
-      wrote_length c.put_regions-c.ensures,
-      wrote_length c.put_section-d.ensures,
-    )
+pub put_records-d-requires : goal.put_records-d-requires
+put_records-d-requires c =
+    let g = c.args.graph in
+    let v = c.requires.0 in
+    let p = c.bundle_places-bundles.ensures in
+    let n = c.bundle_count.ensures in
+    record {
+      each_fits = bundles_fit g v p n;
+      few = bundles_few g v p n;
+      records_in_bounds =
+          omega (
+            arith,
+            body_parts c.args.version (meaning g) v.good,
+            c.body_size-size.ensures.0,
+            wrote_length c.put_number-a.ensures,
+            wrote_length c.put_number-b.ensures,
+            wrote_length c.put_regions-c.ensures,
+            ap (λ l. length (counted (big 1) l)) (set_members g v c.region_set.ensures),
+            ap length (bundles_bytes g v p n c.args.version),
+          );
+    }
+
+pub put_records-end-requires : goal.put_records-end-requires
+put_records-end-requires c =
+    let g = c.args.graph in
+    let v = c.requires.0 in
+    let p = c.connection_places-connections.ensures in
+    let n = c.connection_count.ensures in
+    record {
+      each_fits = connections_fit g v p n;
+      few = connections_few g v p n;
+      records_in_bounds =
+          omega (
+            arith,
+            body_parts c.args.version (meaning g) v.good,
+            c.body_size-size.ensures.0,
+            wrote_length c.put_number-a.ensures,
+            wrote_length c.put_number-b.ensures,
+            wrote_length c.put_regions-c.ensures,
+            wrote_length c.put_records-d.ensures,
+            ap (λ l. length (counted (big 1) l)) (set_members g v c.region_set.ensures),
+            ap length (bundles_bytes g v c.bundle_places-bundles.ensures c.bundle_count.ensures c.args.version),
+            ap length (connections_bytes g v p n c.args.version),
+          );
+    }
 
 pub returns : goal.returns
 returns c =
-    let m = meaning c.args.graph in
-    let v = c.args.version in
-    wrote_image (image_in v m)
-    (wrote_is (image_pieces v m c.requires.0.good c.requires.1 c.body_size-size.ensures.0)
-    (wrote_then c.put_number-a.ensures
-    (wrote_then c.put_number-b.ensures
-    (wrote_then c.put_regions-c.ensures
-    (wrote_then c.put_section-d.ensures c.put_section-end.ensures)))))
+    let g = c.args.graph in
+    let v = c.requires.0 in
+    let m = meaning g in
+    let w = c.args.version in
+    let regions = wrote_is (ap (counted (big 1)) (set_members g v c.region_set.ensures)) c.put_regions-c.ensures in
+    let bundles = wrote_is (bundles_bytes g v c.bundle_places-bundles.ensures c.bundle_count.ensures w) c.put_records-d.ensures in
+    let connections = wrote_is (connections_bytes g v c.connection_places-connections.ensures c.connection_count.ensures w) c.put_records-end.ensures in
+    wrote_image (image_in w m)
+    (wrote_is (image_pieces w m v.good c.requires.1 c.body_size-size.ensures.0)
+    (wrote_then c.put_number-a.ensures (wrote_then c.put_number-b.ensures (wrote_then regions (wrote_then bundles connections)))))

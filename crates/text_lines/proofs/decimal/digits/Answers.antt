@@ -1,16 +1,9 @@
-use borrow.Author.Rules.{rules}
-use native.Mathlib.Omega.{arith}
-use Rattle.text_lines.proofs.DecimalLaws.{counting_start, counting_more, counting_end}
+use Rattle.text_lines.specs.Decimal.{most_digits}
+use Rattle.text_lines.proofs.DecimalLaws.{count_is}
 use Rattle.text_lines.proofs.decimal.digits.Goals as goal
 
-pub loop-rest-init : goal.loop-rest-init
-loop-rest-init c = counting_start c.args.number (search rules)
-
-pub overflow_add-count : goal.overflow_add-count
-overflow_add-count c = omega (arith, c.loop-rest.invariant.within)
-
-pub loop-rest-preserved : goal.loop-rest-preserved
-loop-rest-preserved c = counting_more c.loop-rest.invariant (omega arith)
-
 pub returns : goal.returns
-returns c = counting_end c.loop-rest.invariant (omega arith)
+returns c =
+    let e = c.ilog10.ensures in
+    let f = c.max.ensures in
+    count_is most_digits c.ilog10.result c.args.number e.bound (rw (← f) e.power_le) (rw (← f) e.next_power_gt)

@@ -8,10 +8,10 @@ pub returns-then-not-has_room : goal.returns-then-not-has_room
 returns-then-not-has_room c =
     let s = c.args in
     put_none s.buffer.now s.at (decimal s.number) (decimal_size s.number c.digits-width.ensures)
-    c.has_room.ensures c.if-not-has_room.true-raw
+    c.has_room.ensures c.if-not-has_room.true
 
 pub put_digits-requires : goal.put_digits-requires
-put_digits-requires c = has_place _ _ c.has_room.ensures c.if-not-has_room.false-raw
+put_digits-requires c = has_place _ _ c.has_room.ensures c.if-not-has_room.false
 
 pub returns : goal.returns
 returns c = let d = c in

@@ -3,6 +3,3 @@ use Rattle.text_lines.proofs.decimal.put_digits.Given as goal
 
 abbrev pub invariant-loop-left : goal.invariant-loop-left
 invariant-loop-left l = LastWritten l.initial.buffer l.at l.width l.number l.buffer l.left l.rest
-
-abbrev pub decreases-loop-left : goal.decreases-loop-left
-decreases-loop-left l = l.left

@@ -14,18 +14,18 @@ pub returns-then-not-has_room : goal.returns-then-not-has_room
 returns-then-not-has_room c =
     let s = c.args in
     put_none s.buffer.now s.at (decimal_field s.number s.end) (field_size s.number s.end c.digits-width.ensures)
-    c.has_room.ensures c.if-not-has_room.true-raw
+    c.has_room.ensures c.if-not-has_room.true
 
 pub put_digits-requires : goal.put_digits-requires
 put_digits-requires c =
     let room : (let s = c.args in s.at + (c.digits-width.result + 1) ≤ length s.buffer.now) =
-    has_place _ _ c.has_room.ensures c.if-not-has_room.false-raw in
+    has_place _ _ c.has_room.ensures c.if-not-has_room.false in
     omega (arith, room)
 
 pub bounds-buffer-at : goal.bounds-buffer-at
 bounds-buffer-at c =
     let room : (let s = c.args in s.at + (c.digits-width.result + 1) ≤ length s.buffer.now) =
-    has_place _ _ c.has_room.ensures c.if-not-has_room.false-raw in
+    has_place _ _ c.has_room.ensures c.if-not-has_room.false in
     omega (arith, room, wrote_length c.put_digits.ensures)
 
 pub returns : goal.returns

@@ -1,8 +1,0 @@
-use Rattle.text_lines.proofs.DecimalLaws.{Counting}
-use Rattle.text_lines.proofs.decimal.digits.Given as goal
-
-abbrev pub invariant-loop-rest : goal.invariant-loop-rest
-invariant-loop-rest l = Counting l.number l.count l.rest
-
-abbrev pub decreases-loop-rest : goal.decreases-loop-rest
-decreases-loop-rest l = l.rest

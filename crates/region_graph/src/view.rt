@@ -180,6 +180,9 @@ impl Graph {
         requires { Valid self.now }
         ensures { result ≡ store_connection (connection_at (meaning self.now) i) }
     {
-        self.connections().get(i).copied().unwrap_or(no_connection())
+        self.connections()
+            .get(i)
+            .copied()
+            .unwrap_or(no_connection())
     }
 }

@@ -36,7 +36,7 @@ pub returns-in_err-ask_provided : goal.returns-in_err-ask_provided
 unfolding meaning
 returns-in_err-ask_provided c =
     let e : c.from_residual.result ≡ Err c.in_err-ask_provided.field-0.0 = search rules in
-    refused c.args.self.now (Call.install (handed_bundle c.args.region c.args.location c.args.lists)) c.requires c.in_err-ask_provided.field-0.0 
+    refused c.args.self.now (Call.install (handed_bundle c.args.region c.args.location c.args.lists)) c.requires c.in_err-ask_provided.field-0.0
     (asked_out (meaning c.args.self.now) (handed_bundle c.args.region c.args.location c.args.lists) c.in_err-ask_provided.ensures
     (refusal_numbered c.in_err-ask_provided.field-0.0)) e
 
@@ -44,7 +44,7 @@ pub returns-in_err-ask_bundle : goal.returns-in_err-ask_bundle
 unfolding meaning
 returns-in_err-ask_bundle c =
     let e : c.from_residual-in_err-ask_bundle.result ≡ Err c.in_err-ask_bundle.field-0.0 = search rules in
-    refused c.args.self.now (Call.install (handed_bundle c.args.region c.args.location c.args.lists)) c.requires c.in_err-ask_bundle.field-0.0 
+    refused c.args.self.now (Call.install (handed_bundle c.args.region c.args.location c.args.lists)) c.requires c.in_err-ask_bundle.field-0.0
     (asked_on (meaning c.args.self.now) (handed_bundle c.args.region c.args.location c.args.lists) c.in_ok-ask_provided.ensures refl
     c.in_err-ask_bundle.ensures) e
 
@@ -67,8 +67,7 @@ unfolding meaning
 returns c =
     let g = c.args.self.now in
     let b = handed_bundle c.args.region c.args.location c.args.lists in
-    accepts g (Call.install b) c.requires
-    (
+    accepts g (Call.install b) c.requires (
       c.ranges.location.fits,
       packages_words b.packages c.from_list.ensures (λ i. search rules) (λ i. search rules),
       list_words b.services c.from_slice.ensures (λ i. search rules),

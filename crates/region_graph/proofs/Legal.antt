@@ -6,19 +6,18 @@ use Prim.Native.Nat.{ℕ, ◌+◌, ◌≤◌, ◌<◌}
 use native.Mathlib.Omega.{arith}
 use lib.Dec.{eqb, ltb}
 use lib.ListN.{length}
-use borrow.Author.Tests.{leb-true, ltb-true, lt-ltb, eqb-true, eqb-false, ne_eqb, not-true}
+use borrow.Author.Tests.{leb-true, ltb-true, eqb-true, eqb-false, ne_eqb, not-true}
 use Rattle.region_graph.specs.Size.{regions, most_bundles, most_connections, most_provided, most_listed}
 use Rattle.region_graph.specs.Refusals.{not_refused}
 use Rattle.region_graph.specs.Lists.{pick, keep, exists, every, All, member, insert_by, ascends}
 use Rattle.region_graph.specs.Model.{Word, PackageFits, EntryFits, LegalEntry, Sorted, SortedPart, LegalBundle, LegalConnection, Legal}
 use Rattle.region_graph.specs.Model.{Model, PackageEntry, Bundle, Part, Connection}
 use Rattle.region_graph.specs.Model.{nothing, package_before, entry_before, ordered}
-use Rattle.region_graph.specs.Calls.{Call, Question, first_no, end_questions, questions, number, accepted, after, run, is_region, at_location}
+use Rattle.region_graph.specs.Calls.{Call, Question, first_no, questions, number, accepted, after, run, at_location}
 use Rattle.region_graph.specs.Calls.{in_region, joins, touches, within, of_listed, part_within}
 use Rattle.region_graph.specs.Places.{ShortPart}
-use Rattle.region_graph.specs.Promise.{new_part}
 use Rattle.region_graph.proofs.Lists.{eqb_sym, and_fst, and_snd, false_true, pick_yes, keep_length, exists_insert, insert_length, exists_none}
-use Rattle.region_graph.proofs.Lists.{all_map, all_kept, all_insert, keep_all, member_all, member_kept, other_member, and_yes}
+use Rattle.region_graph.proofs.Lists.{all_map, all_kept, all_insert, member_kept, and_yes}
 use Rattle.region_graph.proofs.Ascending.{Strict, Rising, or_right, ascends_rising, ascends_keep, ascends_insert, strict_numbers, strict_bundles}
 use Rattle.region_graph.proofs.Ascending.{strict_connections, numbers_differ, connections_differ}
 

@@ -1,17 +1,17 @@
 -- The record that stores a model and the model that a record means: each gives the other back.
 use mathlib.Core.Path.{◌≡◌, refl, sym, ap, ◌∙◌, subst}
-use mathlib.Core.Bool.{Bool, true, false, not, ◌&&◌, ◌||◌, or_comm, or-true, or-false}
+use mathlib.Core.Bool.{Bool, true, false, not, ◌&&◌, ◌||◌, or_comm}
 use mathlib.Core.List.{List, [], ◌∷◌, ◌++◌, map}
 use Prim.Native.Nat.{ℕ, zero, suc, ◌+◌, ◌-◌, ◌≤◌, ◌<◌, ◌^◌}
 use native.Mathlib.Omega.{arith}
 use lib.Bits.{bit_and, bit_or}
 use lib.Dec.{eqb, ltb}
-use borrow.Author.Tests.{lt-ltb, eqb-true, eqb-false, eq-eqb, ne_eqb}
+use borrow.Author.Tests.{lt-ltb, eq-eqb, ne_eqb}
 use lib.ListN.{length, get_or, take, replicate, length-map}
 use lib.Seq.{take_at}
 use Rattle.region_graph.specs.Size.{regions, most_bundles, most_connections, most_listed, most_provided, everything_sign}
 use Rattle.region_graph.specs.Refusals.{not_refused, refusal_number, answer_number}
-use Rattle.region_graph.specs.Lists.{All, exists, member, keep, position, insert_by, count_from}
+use Rattle.region_graph.specs.Lists.{All, member, keep, insert_by, count_from}
 use Rattle.region_graph.specs.Sets.{bit, has, singleton, members, set_of}
 use Rattle.region_graph.specs.Model.{Model, Package, PackageEntry, packages, entries, Bundle, Part, Connection, nothing}
 use Rattle.region_graph.specs.Model.{Sorted, SortedPart, Legal, LegalBundle, LegalConnection}
@@ -35,13 +35,12 @@ use Rattle.region_graph.specs.declared.connections.Connections.{Connections}
 use Rattle.region_graph.specs.declared.Graph.{Graph}
 use Rattle.region_graph.specs.Promise.{Empty, Changed, changed, Follows}
 use Rattle.region_graph.specs.declared.refusals.Refusal.{Refusal}
-use Rattle.region_graph.specs.declared.refusals.Refusal.TheVariants as Refusal
 use Rattle.std.specs.Prelude.{Result, Ok, Err}
 use Rattle.region_graph.proofs.Lists.{pick_yes, pick_no, all_map, all_made, all_at, keep_same, member_kept, member_counted, exists_insert, eqb_sym}
 use Rattle.region_graph.proofs.Ascending.{members_back}
 use Rattle.region_graph.proofs.Bits.{has_set, set_ext, set_join, set_leave}
 use Rattle.region_graph.proofs.Legal.{legal_accepted, legal_nothing, PartAll, Words}
-use Rattle.region_graph.proofs.Arrays.{Filled, filled_none, filled_at, filled_inside, filled_found, filled_missed, drop_replicate}
+use Rattle.region_graph.proofs.Arrays.{Filled, filled_none, filled_at, filled_inside, drop_replicate}
 use Rattle.region_graph.proofs.Columns.{packages_whole, entries_whole}
 
 -- the used places hold the list

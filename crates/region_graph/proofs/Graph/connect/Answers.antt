@@ -3,7 +3,7 @@ use Prim.Native.Nat.{ℕ}
 use Rattle.std.proofs.Common.{rules, Err}
 use Rattle.region_graph.specs.Refusals.{not_refused}
 use Rattle.region_graph.specs.Lists.{insert_by}
-use Rattle.region_graph.specs.Model.{Model, Connection, Word, connection_before}
+use Rattle.region_graph.specs.Model.{Model, Connection, connection_before}
 use Rattle.region_graph.specs.Calls.{Call, first_no, number, accepted, end_questions, connection_questions}
 use Rattle.region_graph.specs.Record.{meaning, store_connection, store_connections, connections_of, connection_in}
 use Rattle.region_graph.specs.Places.{ShortConnection}

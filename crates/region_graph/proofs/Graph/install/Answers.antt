@@ -3,7 +3,7 @@ use Prim.Native.Nat.{ℕ}
 use Rattle.std.proofs.Common.{rules, Err}
 use Rattle.region_graph.specs.Refusals.{not_refused}
 use Rattle.region_graph.specs.Lists.{insert_by}
-use Rattle.region_graph.specs.Model.{Model, Bundle, Word, bundle_before}
+use Rattle.region_graph.specs.Model.{Model, Bundle, bundle_before}
 use Rattle.region_graph.specs.Calls.{Call, first_no, number, accepted, provided_questions, bundle_questions}
 use Rattle.region_graph.specs.Record.{meaning, store_packages, store_provided, store_bundle, store_bundles, bundles_of, bundle_in, Provided}
 use Rattle.region_graph.specs.Places.{ShortBundle}

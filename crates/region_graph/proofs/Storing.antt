@@ -1,17 +1,17 @@
 -- The record that stores a model and the model that a record means: each gives the other back.
 use mathlib.Core.Path.{◌≡◌, refl, sym, ap, ◌∙◌, subst}
-use mathlib.Core.Bool.{Bool, true, false, not, ◌&&◌, ◌||◌, or_comm, or-true, or-false}
+use mathlib.Core.Bool.{Bool, true, false, not, ◌&&◌, ◌||◌, or_comm}
 use mathlib.Core.List.{List, [], ◌∷◌, ◌++◌, map}
 use Prim.Native.Nat.{ℕ, zero, suc, ◌+◌, ◌-◌, ◌≤◌, ◌<◌, ◌^◌}
 use native.Mathlib.Omega.{arith}
 use lib.Bits.{bit_and, bit_or}
 use lib.Dec.{eqb, ltb}
-use borrow.Author.Tests.{lt-ltb, eqb-true, eqb-false, eq-eqb, ne_eqb}
+use borrow.Author.Tests.{lt-ltb, eq-eqb, ne_eqb}
 use lib.ListN.{length, get_or, take, replicate, length-map}
 use lib.Seq.{take_at}
 use Rattle.region_graph.specs.Size.{regions, most_bundles, most_connections, most_listed, most_provided, everything_sign}
 use Rattle.region_graph.specs.Refusals.{not_refused, refusal_number, answer_number}
-use Rattle.region_graph.specs.Lists.{All, exists, member, keep, position, insert_by, count_from}
+use Rattle.region_graph.specs.Lists.{All, member, keep, insert_by, count_from}
 use Rattle.region_graph.specs.Sets.{bit, has, singleton, members, set_of}
 use Rattle.region_graph.specs.Model.{Model, Package, PackageEntry, packages, entries, Bundle, Part, Connection, nothing}
 use Rattle.region_graph.specs.Model.{Sorted, SortedPart, Legal, LegalBundle, LegalConnection}
@@ -35,13 +35,12 @@ use Rattle.region_graph.specs.declared.connections.Connections.{Connections}
 use Rattle.region_graph.specs.declared.Graph.{Graph}
 use Rattle.region_graph.specs.Promise.{Empty, Changed, changed, Follows}
 use Rattle.region_graph.specs.declared.refusals.Refusal.{Refusal}
-use Rattle.region_graph.specs.declared.refusals.Refusal.TheVariants as Refusal
 use Rattle.std.specs.Prelude.{Result, Ok, Err}
 use Rattle.region_graph.proofs.Lists.{pick_yes, pick_no, all_map, all_made, all_at, keep_same, member_kept, member_counted, exists_insert, eqb_sym}
 use Rattle.region_graph.proofs.Ascending.{members_back}
 use Rattle.region_graph.proofs.Bits.{has_set, set_ext, set_join, set_leave}
 use Rattle.region_graph.proofs.Legal.{legal_accepted, legal_nothing, PartAll, Words}
-use Rattle.region_graph.proofs.Arrays.{Filled, filled_none, filled_at, filled_inside, filled_found, filled_missed, drop_replicate}
+use Rattle.region_graph.proofs.Arrays.{Filled, filled_none, filled_at, filled_inside, drop_replicate}
 use Rattle.region_graph.proofs.Columns.{packages_whole, entries_whole}
 
 -- the used places hold the list
@@ -290,15 +289,6 @@ pub filled_connections : {items : List StoredConnection} {count : ℕ} {cs : Lis
 unfolding store_connections
 filled_connections h = λ i. record { count = h.counted i; items = h.shape i }
 
--- the count of a list that is stored
-pub bundles_count : {x : Bundles} (bs : List Bundle) → x ≡ store_bundles bs → x.count ≡ length bs
-unfolding store_bundles
-bundles_count bs e = ap (λ (y : Bundles). y.count) e
-
-pub connections_count : {x : Connections} (cs : List Connection) → x ≡ store_connections cs → x.count ≡ length cs
-unfolding store_connections
-connections_count cs e = ap (λ (y : Connections). y.count) e
-
 pub all_counted : (P : ℕ → Type 0) (a k : ℕ) → ((n : ℕ) → n < a + k → P n) → All P (count_from a k)
 all_counted P a zero f = tt
 all_counted P a (suc k) f = (f a (omega arith), all_counted P (suc a) k (λ n h. f n (omega arith)))
@@ -392,17 +382,6 @@ set_remove rs r e =
     ap (λ (x : ℕ). bit_and x (2 ^ 64 - 1 - singleton r)) e ∙ set_leave (λ n. member n rs) r
     ∙ set_ext (λ n. member n rs && not (eqb r n)) (λ n. member n (keep (λ s. not (eqb r s)) rs))
     (λ n h. sym (member_kept (λ s. not (eqb r s)) n rs))
-
--- a set that has the region keeps its value, and so does every set for a number that is no region's
-pub set_kept : {x : ℕ} (rs : List ℕ) (r : ℕ) → (r < regions → member r rs ≡ true) → x ≡ set_of (λ n. member n rs) → bit_or x (singleton r) ≡ x
-set_kept rs r f e =
-    ap (λ (x : ℕ). bit_or x (singleton r)) e ∙ set_join (λ n. member n rs) r
-    ∙ set_ext (λ n. member n rs || eqb r n) (λ n. member n rs) (λ n h. had n h (eqb r n) refl) ∙ sym e
-  where
-    had : (n : ℕ) → n < regions → (b : Bool) → eqb r n ≡ b → (member n rs || b) ≡ member n rs
-    had n h true q =
-        or-true (member n rs) ∙ sym (ap (λ (k : ℕ). member k rs) (sym (eqb-true r n q)) ∙ f (omega (arith, eqb-true r n q)))
-    had n h false q = or-false (member n rs)
 
 -- the parts of a record that stores a model
 pub stored_graph : (m : Model) {x : ℕ} {bs : Bundles} {cs : Connections} → x ≡ set_of (λ r. member r m.regions)
@@ -518,15 +497,3 @@ settled g c r s f h =
 
 pub empty_settled : (g h : Graph) → Empty g → Empty h → g ≡ h
 empty_settled g h e f = meaning_injective g h e.valid f.valid (e.model ∙ sym f.model)
-
--- a search by place in the connections ended within their count, or did not
-pub connections_found : (cs : Connections) (p : Connection → Bool) → ConnectionsStored cs → position p (connections_of cs) < cs.count
-    → exists p (connections_of cs) ≡ true
-connections_found cs p h l = filled_found (connections_filled cs h) p refl l
-
-pub connections_missed : (cs : Connections) (p : Connection → Bool) → ConnectionsStored cs → cs.count ≤ position p (connections_of cs)
-    → exists p (connections_of cs) ≡ false
-connections_missed cs p h l = filled_missed (connections_filled cs h) p refl l
-
-pub connections_counted : (cs : Connections) → ConnectionsStored cs → length (connections_of cs) ≡ cs.count
-connections_counted cs h = sym (connections_filled cs h).counted

@@ -94,7 +94,12 @@ impl Graph {
     }
 
     // About a place for a connection, and its filter.
-    fn ask_connection(&self, source: u32, target: u32, filter: FilterLists<'_>) -> Result<(), Refusal>
+    fn ask_connection(
+        &self,
+        source: u32,
+        target: u32,
+        filter: FilterLists<'_>,
+    ) -> Result<(), Refusal>
         requires { Valid self.now }
         ensures { answer_number result ≡ first_no (connection_questions (meaning self.now).connections (handed_connection source target filter.entry)) }
     {

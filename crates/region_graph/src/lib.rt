@@ -46,12 +46,10 @@ impl Graph {
     pub fn empty() -> Graph
         ensures { Empty result }
     {
-        let none = Bundles::none();
-        let unconnected = Connections::none();
         Graph {
             regions: 0,
-            bundles: none,
-            connections: unconnected,
+            bundles: Bundles::none(),
+            connections: Connections::none(),
         }
     }
 }

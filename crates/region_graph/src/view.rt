@@ -82,7 +82,7 @@ impl Graph {
         self.region_of(location).is_some()
     }
 
-    // Whether a connection leads from one region to another.
+    // Whether a connection leads from one region to another. A loop, as in `names`: of `any` the proof did not close.
     pub(crate) fn has_connection(&self, source: u32, target: u32) -> bool
         requires { Valid self.now }
         ensures { result ≡ exists (joins source target) (meaning self.now).connections }
@@ -180,6 +180,9 @@ impl Graph {
         requires { Valid self.now }
         ensures { result ≡ store_connection (connection_at (meaning self.now) i) }
     {
-        self.connections().get(i).copied().unwrap_or(no_connection())
+        self.connections()
+            .get(i)
+            .copied()
+            .unwrap_or(no_connection())
     }
 }

@@ -1,4 +1,4 @@
-use mathlib.Core.Path.{◌≡◌, ◌∙◌}
+use mathlib.Core.Path.{◌≡◌}
 use Rattle.std.proofs.Common.{rules, Err}
 use Rattle.region_graph.specs.Calls.{Call, accepted}
 use Rattle.region_graph.specs.Record.{meaning}

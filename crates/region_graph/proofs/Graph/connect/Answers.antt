@@ -3,7 +3,7 @@ use Prim.Native.Nat.{ℕ}
 use Rattle.std.proofs.Common.{rules, Err}
 use Rattle.region_graph.specs.Refusals.{not_refused}
 use Rattle.region_graph.specs.Lists.{insert_by}
-use Rattle.region_graph.specs.Model.{Model, Connection, Word, connection_before}
+use Rattle.region_graph.specs.Model.{Model, Connection, connection_before}
 use Rattle.region_graph.specs.Calls.{Call, first_no, number, accepted, end_questions, connection_questions}
 use Rattle.region_graph.specs.Record.{meaning, store_connection, store_connections, connections_of, connection_in}
 use Rattle.region_graph.specs.Places.{ShortConnection}
@@ -36,7 +36,7 @@ pub returns-in_err-ask_ends : goal.returns-in_err-ask_ends
 unfolding meaning
 returns-in_err-ask_ends c =
     let e : c.from_residual.result ≡ Err c.in_err-ask_ends.field-0.0 = search rules in
-    refused c.args.self.now (Call.connect (handed_connection c.args.source c.args.target c.args.filter)) c.requires c.in_err-ask_ends.field-0.0 
+    refused c.args.self.now (Call.connect (handed_connection c.args.source c.args.target c.args.filter)) c.requires c.in_err-ask_ends.field-0.0
     (asked_out (meaning c.args.self.now) (handed_connection c.args.source c.args.target c.args.filter) c.in_err-ask_ends.ensures
     (refusal_numbered c.in_err-ask_ends.field-0.0)) e
 
@@ -44,7 +44,7 @@ pub returns-in_err-ask_connection : goal.returns-in_err-ask_connection
 unfolding meaning
 returns-in_err-ask_connection c =
     let e : c.from_residual-in_err-ask_connection.result ≡ Err c.in_err-ask_connection.field-0.0 = search rules in
-    refused c.args.self.now (Call.connect (handed_connection c.args.source c.args.target c.args.filter)) c.requires c.in_err-ask_connection.field-0.0 
+    refused c.args.self.now (Call.connect (handed_connection c.args.source c.args.target c.args.filter)) c.requires c.in_err-ask_connection.field-0.0
     (asked_on (meaning c.args.self.now) (handed_connection c.args.source c.args.target c.args.filter) c.in_ok-ask_ends.ensures refl
     c.in_err-ask_connection.ensures) e
 
@@ -68,8 +68,7 @@ returns c =
     let x = handed_connection c.args.source c.args.target c.args.filter in
     let n = asked_on (meaning g) x c.in_ok-ask_ends.ensures refl c.in_ok-ask_connection.ensures in
     let t = c.new-connection.type_inv in
-    accepts g (Call.connect x) c.requires
-    (
+    accepts g (Call.connect x) c.requires (
       list_words x.filter.bundles (ap (λ (z : StoredConnection). z.bundles) c.new-connection.ensures) (λ i. search rules),
       package_part_words x.filter.packages (ap (λ (z : StoredConnection). z.packages) c.new-connection.ensures)
           (λ i. search rules) (λ i. search (rules, t)) (λ i. search (rules, t)),

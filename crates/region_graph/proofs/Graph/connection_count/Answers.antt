@@ -1,5 +1,7 @@
-use Rattle.region_graph.proofs.PlaceLoops.{graph_connections}
+use Rattle.region_graph.specs.Record.{meaning}
+use Rattle.region_graph.proofs.Storing.{connections_stored, connections_filled}
 use Rattle.region_graph.proofs.Graph.connection_count.Goals as goal
 
 pub returns : goal.returns
-returns c = (graph_connections c.args.self.now c.requires).filled.counted
+unfolding meaning
+returns c = (connections_filled c.args.self.now.connections (connections_stored c.args.self.now c.requires)).counted

@@ -1,4 +1,3 @@
-use mathlib.Core.Path.{◌∙◌}
 use Rattle.region_graph.specs.Record.{meaning}
 use Rattle.region_graph.proofs.Storing.{connections_stored}
 use Rattle.region_graph.proofs.Graph.connections.Goals as goal

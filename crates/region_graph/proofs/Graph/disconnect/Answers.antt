@@ -12,9 +12,9 @@ unfolding meaning
 returns-in_err-ask_ends c =
     let e : c.from_residual.result ≡ Err c.in_err-ask_ends.field-0.0 = search rules in
     refused c.args.self.now (Call.disconnect c.args.source c.args.target) c.requires c.in_err-ask_ends.field-0.0 (
-      first_step (end_questions (meaning c.args.self.now).regions c.args.source c.args.target)
-          (drop 3 (questions (meaning c.args.self.now) (Call.disconnect c.args.source c.args.target))) (refl, (refl, (refl, tt)))
-          c.in_err-ask_ends.ensures (refusal_numbered c.in_err-ask_ends.field-0.0)
+    first_step (end_questions (meaning c.args.self.now).regions c.args.source c.args.target)
+    (drop 3 (questions (meaning c.args.self.now) (Call.disconnect c.args.source c.args.target))) (refl, (refl, (refl, tt)))
+    c.in_err-ask_ends.ensures (refusal_numbered c.in_err-ask_ends.field-0.0)
     ) e
 
 pub returns-then-not-has_connection : goal.returns-then-not-has_connection
@@ -41,5 +41,4 @@ returns c =
     accepts g (Call.disconnect r s) c.requires tt
     (second_step (end_questions m.regions r s) (drop 3 (questions m (Call.disconnect r s))) (refl, (refl, (refl, tt)))
     c.in_ok-ask_ends.ensures refl (rw (sym c.if-not-has_connection.ensures)))
-   
     (stored_graph (accepted m (Call.disconnect r s)) (regions_stored g c.requires) (bundles_stored g c.requires).stored c.remove_joining.ensures)

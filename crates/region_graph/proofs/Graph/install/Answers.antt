@@ -3,7 +3,7 @@ use Prim.Native.Nat.{ℕ}
 use Rattle.std.proofs.Common.{rules, Err}
 use Rattle.region_graph.specs.Refusals.{not_refused}
 use Rattle.region_graph.specs.Lists.{insert_by}
-use Rattle.region_graph.specs.Model.{Model, Bundle, Word, bundle_before}
+use Rattle.region_graph.specs.Model.{Model, Bundle, bundle_before}
 use Rattle.region_graph.specs.Calls.{Call, first_no, number, accepted, provided_questions, bundle_questions}
 use Rattle.region_graph.specs.Record.{meaning, store_packages, store_provided, store_bundle, store_bundles, bundles_of, bundle_in, Provided}
 use Rattle.region_graph.specs.Places.{ShortBundle}
@@ -36,7 +36,7 @@ pub returns-in_err-ask_provided : goal.returns-in_err-ask_provided
 unfolding meaning
 returns-in_err-ask_provided c =
     let e : c.from_residual.result ≡ Err c.in_err-ask_provided.field-0.0 = search rules in
-    refused c.args.self.now (Call.install (handed_bundle c.args.region c.args.location c.args.lists)) c.requires c.in_err-ask_provided.field-0.0 
+    refused c.args.self.now (Call.install (handed_bundle c.args.region c.args.location c.args.lists)) c.requires c.in_err-ask_provided.field-0.0
     (asked_out (meaning c.args.self.now) (handed_bundle c.args.region c.args.location c.args.lists) c.in_err-ask_provided.ensures
     (refusal_numbered c.in_err-ask_provided.field-0.0)) e
 
@@ -44,7 +44,7 @@ pub returns-in_err-ask_bundle : goal.returns-in_err-ask_bundle
 unfolding meaning
 returns-in_err-ask_bundle c =
     let e : c.from_residual-in_err-ask_bundle.result ≡ Err c.in_err-ask_bundle.field-0.0 = search rules in
-    refused c.args.self.now (Call.install (handed_bundle c.args.region c.args.location c.args.lists)) c.requires c.in_err-ask_bundle.field-0.0 
+    refused c.args.self.now (Call.install (handed_bundle c.args.region c.args.location c.args.lists)) c.requires c.in_err-ask_bundle.field-0.0
     (asked_on (meaning c.args.self.now) (handed_bundle c.args.region c.args.location c.args.lists) c.in_ok-ask_provided.ensures refl
     c.in_err-ask_bundle.ensures) e
 
@@ -67,8 +67,7 @@ unfolding meaning
 returns c =
     let g = c.args.self.now in
     let b = handed_bundle c.args.region c.args.location c.args.lists in
-    accepts g (Call.install b) c.requires
-    (
+    accepts g (Call.install b) c.requires (
       c.ranges.location.fits,
       packages_words b.packages c.from_list.ensures (λ i. search rules) (λ i. search rules),
       list_words b.services c.from_slice.ensures (λ i. search rules),

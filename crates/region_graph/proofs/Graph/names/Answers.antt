@@ -1,4 +1,3 @@
-use mathlib.Core.Path.{sym}
 use native.Mathlib.Omega.{arith}
 use Rattle.region_graph.specs.Calls.{names}
 use Rattle.region_graph.proofs.Views.{connection_stored_at, some_here, some_later, some_end}

@@ -6,7 +6,7 @@ use Rattle.region_graph.specs.Lists.{pick}
 use mathlib.Core.Bool.{Bool, true, false}
 use Rattle.std.proofs.lemmas.Option.{MatchOption-at_none, MatchOption-at_some}
 use Rattle.region_graph.specs.Record.{meaning}
-use Rattle.region_graph.proofs.Views.{provider_told, installed_stored, bundles_each_stored, bundles_stored_as}
+use Rattle.region_graph.proofs.Views.{provider_told, installed_stored, bundles_stored_as}
 use Rattle.region_graph.proofs.Graph.provider.Goals as goal
 
 -- the answer by a test, and by what it computes

@@ -1,4 +1,4 @@
-use mathlib.Core.Path.{◌≡◌, refl, sym}
+use mathlib.Core.Path.{refl, sym}
 use Rattle.region_graph.specs.Calls.{Call, accepted}
 use Rattle.region_graph.specs.Record.{meaning}
 use Rattle.region_graph.specs.declared.refusals.Refusal.TheVariants.{NotInstalled}

@@ -6,11 +6,9 @@ use Prim.Native.Nat.{ℕ, zero, suc, ◌+◌, ◌≤◌, ◌<◌, min}
 use native.Mathlib.Omega.{arith}
 use lib.ListN.{length, get_or, set}
 use Rattle.region_graph.specs.Lists.{keep}
-use Rattle.region_routes.specs.Hooks.{Outcome, kept}
+use Rattle.region_routes.specs.Hooks.{Outcome, Kept, kept}
 use Rattle.region_routes.specs.Resolve.{Candidate, candidates, resolved}
 use Rattle.region_routes.specs.Tables.{Room}
-use Rattle.region_routes.specs.declared.Kept.{Kept}
-use Rattle.region_routes.specs.declared.Kept.TheVariants.{Wrote}
 use Rattle.region_routes.proofs.Keeping.{KeepingPart, part_start, part_passed, part_failed, part_count, part_exit}
 
 -- the shortest list counts
@@ -96,8 +94,8 @@ module _ {T : Type 0} {p : T → Candidate → Bool} {given entry : Columns} whe
       }
 
     pub resolving_end : length (listed given) ≤ i → (t : T)
-        → ◌≡◌ {A = Outcome Kept (List (List ℕ))} (kept (Wrote n) (out.exporters ∷ out.numbers ∷ out.versions ∷ []))
+        → ◌≡◌ {A = Outcome Kept (List (List ℕ))} (kept (Kept.Wrote n) (out.exporters ∷ out.numbers ∷ out.versions ∷ []))
         (resolved (keep (p t) (listed given)) (entry.exporters ∷ entry.numbers ∷ entry.versions ∷ []))
     resolving_end h t =
-        λ j. kept (Wrote (part_count k.exporters h t j))
+        λ j. kept (Kept.Wrote (part_count k.exporters h t j))
         (part_exit k.exporters h t j ∷ part_exit k.numbers h t j ∷ part_exit k.versions h t j ∷ [])

@@ -10,9 +10,8 @@ use Rattle.region_graph.specs.declared.Item.{Item}
 use Rattle.region_graph.specs.declared.Place.{Place}
 use Rattle.region_graph.specs.declared.Place.TheVariants.{Within, Nowhere}
 use Rattle.region_routes.specs.Chosen.{chosen_by, found}
-use Rattle.region_routes.specs.Hooks.{kind_number, item, written, Outcome, kept, is_installed, judged}
+use Rattle.region_routes.specs.Hooks.{kind_number, item, written, Outcome, Kept, kept, is_installed, judged}
 use Rattle.region_routes.specs.declared.Kind.TheVariants as Kind
-use Rattle.region_routes.specs.declared.Kept.{Kept}
 
 -- an exporter's location with a package
 pub record Candidate : Type 0 where

@@ -5,19 +5,18 @@ ghost use Rattle.region_graph.specs.Size.{regions};
 ghost use Rattle.region_graph.specs.Lists.{keep};
 ghost use Rattle.region_graph.specs.Model.{Model};
 ghost use Rattle.region_graph.specs.Record.{Valid, meaning};
-ghost use Rattle.region_routes.specs.Hooks.{kept};
+ghost use Rattle.region_routes.specs.Hooks.{Kept, kept, kept_answer};
 ghost use Rattle.region_routes.specs.Resolve.{candidates, is_offered, resolved, resolve_outcome};
 ghost use Rattle.region_routes.specs.Tables.{ExportTables, Room, most_entries, everything_number, «step_in», predecessors_by};
 ghost use Rattle.region_routes.specs.Chains.{Chained};
 
-use crate::hooks::kind_number;
+use crate::Kind;
 use crate::search::{Ends, search, search_for};
 use crate::tables::{
     EVERYTHING_NUMBER, FEW, MOST_ENTRIES, chained, offers, owner_number, owners, passages,
     place_beside, predecessors, predecessors_between, spans, wide,
 };
-use crate::{Kept, Kind};
-use region_graph::refusals::{NO_PLACE, NOT_INSTALLED};
+use region_graph::refusals::Refusal;
 use region_graph::region_set::{has, singleton};
 use region_graph::size::REGIONS;
 use region_graph::{Graph, Item, Place};
@@ -46,7 +45,7 @@ fn is_offered(graph: Graph, region: u32, exporter: u32, number: u32, version: u1
     requires region_lt_regions { region < regions }
     ensures { result ≡ is_offered (meaning graph) (record { exporter = exporter; number = number; version = version }) region }
 {
-    let kind = kind_number(Kind::Package);
+    let kind = Kind::Package.number();
     let item = Item {
         kind,
         number,
@@ -231,23 +230,23 @@ pub fn resolve(
     out_exporters: &mut [u32],
     out_packages: &mut [u32],
     out_versions: &mut [u16],
-) -> Kept
+) -> Result<usize, Refusal>
     requires { Valid graph }
-    ensures { kept result (out_exporters.new ∷ out_packages.new ∷ out_versions.new ∷ []) ≡ resolve_outcome (meaning graph) location (candidates exporters.now packages.now versions.now) (out_exporters.old ∷ out_packages.old ∷ out_versions.old ∷ []) }
+    ensures { kept (kept_answer result) (out_exporters.new ∷ out_packages.new ∷ out_versions.new ∷ []) ≡ resolve_outcome (meaning graph) location (candidates exporters.now packages.now versions.now) (out_exporters.old ∷ out_packages.old ∷ out_versions.old ∷ []) }
 {
     let place = graph.region_of(location);
     let Place::Within(region) = place else {
-        return Kept::Refused(NOT_INSTALLED);
+        return Err(Refusal::NotInstalled);
     };
     let count = counted(exporters, packages, versions);
     if out_exporters.len() < count {
-        return Kept::Refused(NO_PLACE);
+        return Err(Refusal::NoPlace);
     }
     if out_packages.len() < count {
-        return Kept::Refused(NO_PLACE);
+        return Err(Refusal::NoPlace);
     }
     if out_versions.len() < count {
-        return Kept::Refused(NO_PLACE);
+        return Err(Refusal::NoPlace);
     }
     if count < FEW {
         let n = resolve_few(
@@ -260,7 +259,7 @@ pub fn resolve(
             out_packages,
             out_versions,
         );
-        return Kept::Wrote(n);
+        return Ok(n);
     }
     let n = resolve_many(
         graph,
@@ -272,5 +271,5 @@ pub fn resolve(
         out_packages,
         out_versions,
     );
-    Kept::Wrote(n)
+    Ok(n)
 }

@@ -3,11 +3,10 @@ ghost use Rattle.std.specs.Prelude.{◌≡◌, ◌≤◌, length};
 ghost use Rattle.region_graph.specs.Size.{regions};
 ghost use Rattle.region_graph.specs.Record.{Valid, meaning};
 ghost use Rattle.region_routes.specs.Search.{Leading, Next, Walkable, Walked};
-ghost use Rattle.region_routes.specs.Hooks.{routed, route_outcome};
+ghost use Rattle.region_routes.specs.Hooks.{routed, routed_answer, route_outcome};
 
-use crate::Routed;
 use crate::search::{Ends, Layers, distance, search_for};
-use region_graph::refusals::{NO_PLACE, NOT_A_KIND, NOT_INSTALLED};
+use region_graph::refusals::Refusal;
 use region_graph::region_set::{has, lowest, without_lowest};
 use region_graph::size::REGIONS;
 use region_graph::{Graph, Item, Place};
@@ -56,19 +55,18 @@ pub fn route(
     number: u32,
     version: u16,
     out: &mut [u8],
-) -> Routed
+) -> Result<Option<usize>, Refusal>
     requires { Valid graph }
-    ensures { routed result out.new ≡ route_outcome (meaning graph) location kind number version out.old }
+    ensures { routed (routed_answer result) out.new ≡ route_outcome (meaning graph) location kind number version out.old }
 {
-    let place = graph.region_of(location);
-    let Place::Within(region) = place else {
-        return Routed::Refused(NOT_INSTALLED);
+    let Place::Within(region) = graph.region_of(location) else {
+        return Err(Refusal::NotInstalled);
     };
     if 2 < kind {
-        return Routed::Refused(NOT_A_KIND);
+        return Err(Refusal::NotAKind);
     }
     if out.len() < REGIONS {
-        return Routed::Refused(NO_PLACE);
+        return Err(Refusal::NoPlace);
     }
     let item = Item {
         kind,
@@ -80,9 +78,9 @@ pub fn route(
     let found = searched.found;
     let reached = found.reached;
     if !has(reached, region) {
-        return Routed::Hidden;
+        return Ok(None);
     }
     let deep = distance(found, region);
     walk(out, &pred, found, deep, region);
-    Routed::Count(deep)
+    Ok(Some(deep))
 }

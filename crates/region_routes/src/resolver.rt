@@ -55,9 +55,8 @@ fn is_offered(graph: Graph, region: u32, exporter: u32, number: u32, version: u1
     let Place::Within(home) = place else {
         return false;
     };
-    let searched = search_for(graph, item, Ends::Region(home));
-    let found = searched.found;
-    has(found.reached, region)
+    let search = search_for(graph, item, Ends::Region(home));
+    has(search.layers.reached, region)
 }
 
 // The same by the chained tables of the packages, the exporters and the spans beside them, and the predecessors that the entries for all

@@ -34,9 +34,9 @@ returns c =
     let wanted = λ (k : ℕ). item k a.number a.version in
     let e = provided m a.exporter a.number a.version c.provider-place.ensures c.number-kind.ensures c.in-Within.is in
     let k = c.number-kind.result in
-    let f = c.search_for-searched.result.found in
+    let f = c.search_for-search.result.layers in
     sym (has_by (reaches m (wanted k) home) a.region
     (reached_reaches m (wanted k) r.valid.good home (provider_inside m r.valid.good a.exporter (wanted 1) e)
-    {sets = f.sets} {deep = f.deep} (search (rules, c.search_for-searched.ensures.1))) r.region_lt_regions c.has.ensures refl)
+    {sets = f.sets} {deep = f.deep} (search (rules, c.search_for-search.ensures.1))) r.region_lt_regions c.has.ensures refl)
     ∙ ap (λ (k : ℕ). reaches m (wanted k) home a.region) c.number-kind.ensures
     ∙ ap (offered_at m (candidate a.exporter a.number a.version) a.region) (sym e)

@@ -23,8 +23,8 @@ returns-then-held-eq0 c =
 pub predecessors-pred-requires : goal.predecessors-pred-requires
 predecessors-pred-requires c = c.requires.chained_2
 
-pub search-layers-requires : goal.search-layers-requires
-search-layers-requires c =
+pub search-requires : goal.search-requires
+search-requires c =
     let preceding : (let p = c.args.passing.now in c.predecessors-pred.result ≡ predecessors_by (step_or (step_in p everything_number) p c.wide-sought.result)) =
     let s = c in
     c.predecessors-pred.ensures (step_in s.args.passing.now everything_number) s.requires.always_value in
@@ -49,4 +49,4 @@ returns c =
     λ m k t.
     reached_sees m (item k s.number 0) t.tables.legal
     (rw (held m k t) at
-    (rw (preceding ∙ ap preceding_for a.wide-sought.ensures.0 ∙ preceding_table t s.number) at c.search-layers.ensures))
+    (rw (preceding ∙ ap preceding_for a.wide-sought.ensures.0 ∙ preceding_table t s.number) at c.search.ensures))

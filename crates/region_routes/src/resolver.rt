@@ -1,12 +1,12 @@
 // Resolve: writes the candidates, exporters with packages, that a bundle is offered. The exporter is installed and exports the package, and a
 // route for it leads from the bundle's region to the exporter's. Order and repetitions are kept, the parts of a candidate at equal places.
-ghost use Rattle.std.specs.Prelude.{◌≡◌, [], ◌∷◌, ◌<◌, ◌≤◌, min, length};
+ghost use Rattle.std.specs.Prelude.{◌≡◌, Bool, [], ◌∷◌, ◌<◌, ◌≤◌, length, get_or};
 ghost use Rattle.region_graph.specs.Size.{regions};
 ghost use Rattle.region_graph.specs.Lists.{keep};
 ghost use Rattle.region_graph.specs.Model.{Model};
 ghost use Rattle.region_graph.specs.Record.{Valid, meaning};
 ghost use Rattle.region_routes.specs.Hooks.{Kept, kept, kept_answer};
-ghost use Rattle.region_routes.specs.Resolve.{candidates, is_offered, resolved, resolve_outcome};
+ghost use Rattle.region_routes.specs.Resolve.{Candidate, no_candidate, candidates, candidate_list, is_offered, resolved, resolve_outcome};
 ghost use Rattle.region_routes.specs.Tables.{ExportTables, Room, most_entries, everything_number, «step_in», predecessors_by};
 ghost use Rattle.region_routes.specs.Chains.{Chained};
 
@@ -21,149 +21,185 @@ use region_graph::region_set::{has, singleton};
 use region_graph::size::REGIONS;
 use region_graph::{Graph, Item, Place};
 
-// The shorter of two lengths.
-fn shorter(first: usize, second: usize) -> usize
-    ensures { result ≡ min first second }
-{
-    if second < first {
-        return second;
-    }
-    first
+// A candidate: an exporter's location with a package.
+#[derive(Clone, Copy)]
+pub struct Candidate {
+    pub exporter: u32,
+    pub number: u32,
+    pub version: u16,
 }
 
-// The count of the candidates: the shortest list's.
-fn counted(exporters: &[u32], packages: &[u32], versions: &[u16]) -> usize
-    ensures { result ≡ length (candidates exporters.now packages.now versions.now) }
+// Candidates that are handed in as lists of their parts: the shortest list counts them.
+#[derive(Clone, Copy)]
+pub struct Candidates<'a> {
+    pub exporters: &'a [u32],
+    pub packages: &'a [u32],
+    pub versions: &'a [u16],
+}
+
+#[tactic(auto, using(crate::proofs::Resolving::candidates_length, crate::proofs::Resolving::candidate_at))]
+impl<'a> Candidates<'a> {
+    fn count(self) -> usize
+        ensures { result ≡ length (candidate_list self.entry) }
+    {
+        self.exporters
+            .len()
+            .min(self.packages.len())
+            .min(self.versions.len())
+    }
+
+    fn at(self, place: usize) -> Candidate
+        requires { place < length (candidate_list self) }
+        ensures { result ≡ get_or (candidate_list self.entry) place no_candidate }
+    {
+        Candidate {
+            exporter: self.exporters[place],
+            number: self.packages[place],
+            version: self.versions[place],
+        }
+    }
+}
+
+// Writes the parts of the candidates that pass a test, and gives their count.
+fn keep_where<F: Fn(Candidate) -> bool>(
+    given: Candidates<'_>,
+    out_exporters: &mut [u32],
+    out_packages: &mut [u32],
+    out_versions: &mut [u16],
+    keeps: F,
+) -> usize
+    requires callable { F.IsAlwaysCallable keeps }
+    requires room { Room (candidate_list given) out_exporters.old out_packages.old out_versions.old }
+    ensures { (p : Candidate → Bool) → ((c : Candidate) (answer : Bool) → F.post keeps c answer → answer ≡ p c) → kept (Kept.Wrote result) (out_exporters.new ∷ out_packages.new ∷ out_versions.new ∷ []) ≡ resolved (keep p (candidate_list given.entry)) (out_exporters.old ∷ out_packages.old ∷ out_versions.old ∷ []) }
 {
-    let count = shorter(exporters.len(), packages.len());
-    shorter(count, versions.len())
+    let mut count: usize = 0;
+    for place in 0..given.count() {
+        let candidate = given.at(place);
+        if keeps(candidate) {
+            out_exporters[count] = candidate.exporter;
+            out_packages[count] = candidate.number;
+            out_versions[count] = candidate.version;
+            count += 1;
+        }
+    }
+    count
 }
 
 // Whether a region is offered a candidate: asks the graph, and makes no tables.
-fn is_offered(graph: Graph, region: u32, exporter: u32, number: u32, version: u16) -> bool
+fn is_offered(graph: Graph, region: u32, candidate: Candidate) -> bool
     requires valid { Valid graph }
     requires region_lt_regions { region < regions }
-    ensures { result ≡ is_offered (meaning graph) (record { exporter = exporter; number = number; version = version }) region }
+    ensures { result ≡ is_offered (meaning graph) candidate region }
 {
-    let kind = Kind::Package.number();
-    let item = Item {
-        kind,
-        number,
-        version,
+    let package = Item {
+        kind: Kind::Package.number(),
+        number: candidate.number,
+        version: candidate.version,
     };
-    let place = graph.provider(exporter, item);
-    let Place::Within(home) = place else {
-        return false;
-    };
-    let search = search_for(graph, item, Ends::Region(home));
-    has(search.layers.reached, region)
+    match graph.provider(candidate.exporter, package) {
+        Place::Within(home) => {
+            let search = search_for(graph, package, Ends::Region(home));
+            has(search.layers.reached, region)
+        }
+        Place::Nowhere => false,
+    }
 }
 
-// The same by the chained tables of the packages, the exporters and the spans beside them, and the predecessors that the entries for all
-// numbers give.
-fn is_offered_by(
-    exported: &[u64],
-    export_links: &[u16],
-    owned: &[u64],
-    passing: &[u64],
-    pass_links: &[u16],
-    spans: &[u32],
+// The tables of the packages, the exporters and the spans beside them, and the predecessors that the entries for all numbers give.
+#[derive(Drop)]
+struct PackageTables<'a, 'b> {
+    exported: &'a [u64],
+    export_links: &'b [u16],
+    owned: &'a [u64],
+    passing: &'a [u64],
+    pass_links: &'b [u16],
+    spans: &'a [u32],
     always: [u64; REGIONS],
-    region: u32,
-    exporter: u32,
-    number: u32,
-    version: u16,
-) -> bool
-    requires chained { Chained exported.now export_links.now }
-    requires owned_len { length owned.now ≡ length exported.now }
-    requires chained_2 { Chained passing.now pass_links.now }
-    requires spans_len { length spans.now ≡ length passing.now }
-    requires always_value { always ≡ predecessors_by (step_in passing.now everything_number) }
-    requires region_lt_regions { region < regions }
-    ensures { (m : Model) → ExportTables m exported.now owned.now passing.now spans.now → result ≡ is_offered m (record { exporter = exporter; number = number; version = version }) region }
-{
-    let owner = owner_number(exporter, version);
-    let sought = wide(number);
-    let place = place_beside(exported, export_links, owned, owner, sought);
-    let Place::Within(home) = place else {
-        return false;
-    };
-    let pred = predecessors_between(passing, pass_links, spans, sought, version, always);
-    let layers = search(&pred, singleton(home));
-    has(layers.reached, region)
+    ghost exported_chained: { Chained exported.now export_links.now },
+    ghost owned_len: { length owned.now ≡ length exported.now },
+    ghost passing_chained: { Chained passing.now pass_links.now },
+    ghost spans_len: { length spans.now ≡ length passing.now },
+    ghost always_value: { always ≡ predecessors_by (step_in passing.now everything_number) },
+}
+
+impl<'a, 'b> PackageTables<'a, 'b> {
+    // Whether a region is offered a candidate.
+    fn offers(&self, region: u32, candidate: Candidate) -> bool
+        requires { region < regions }
+        ensures { (m : Model) → ExportTables m self.now.exported.now self.now.owned.now self.now.passing.now self.now.spans.now → result ≡ is_offered m candidate region }
+    {
+        let owner = owner_number(candidate.exporter, candidate.version);
+        let sought = wide(candidate.number);
+        match place_beside(self.exported, self.export_links, self.owned, owner, sought) {
+            Place::Within(home) => {
+                let pred = predecessors_between(
+                    self.passing,
+                    self.pass_links,
+                    self.spans,
+                    sought,
+                    candidate.version,
+                    self.always,
+                );
+                has(search(&pred, singleton(home)).reached, region)
+            }
+            Place::Nowhere => false,
+        }
+    }
 }
 
 // Writes the candidates that a region is offered, by the tables of the packages, which are chained first.
-#[tactic(auto, using(crate::proofs::Resolving::candidates_length))]
-fn resolve_by(
-    exported: &[u64],
-    owned: &[u64],
-    passing: &[u64],
-    spans: &[u32],
+fn resolve_by<'a>(
+    exported: &'a [u64],
+    owned: &'a [u64],
+    passing: &'a [u64],
+    spans: &'a [u32],
     region: u32,
-    exporters: &[u32],
-    packages: &[u32],
-    versions: &[u16],
+    given: Candidates<'_>,
     out_exporters: &mut [u32],
     out_packages: &mut [u32],
     out_versions: &mut [u16],
 ) -> usize
     requires exported_len_bound { (length exported.now ≤ most_entries) × (length passing.now ≤ most_entries) }
     requires owned_len { (length owned.now ≡ length exported.now) × (length spans.now ≡ length passing.now) }
-    requires region_lt_regions { (region < regions) × Room (candidates exporters.now packages.now versions.now) out_exporters.old out_packages.old out_versions.old }
-    ensures { (m : Model) → ExportTables m exported.now owned.now passing.now spans.now → kept (Kept.Wrote result) (out_exporters.new ∷ out_packages.new ∷ out_versions.new ∷ []) ≡ resolved (keep (λ c. is_offered m c region) (candidates exporters.now packages.now versions.now)) (out_exporters.old ∷ out_packages.old ∷ out_versions.old ∷ []) }
+    requires region_lt_regions { (region < regions) × Room (candidate_list given) out_exporters.old out_packages.old out_versions.old }
+    ensures { (m : Model) → ExportTables m exported.now owned.now passing.now spans.now → kept (Kept.Wrote result) (out_exporters.new ∷ out_packages.new ∷ out_versions.new ∷ []) ≡ resolved (keep (λ c. is_offered m c region) (candidate_list given.entry)) (out_exporters.old ∷ out_packages.old ∷ out_versions.old ∷ []) }
 {
     let export_links = chained(exported);
     let pass_links = chained(passing);
-    let none = [0u64; REGIONS];
-    let always = predecessors(passing, &pass_links, EVERYTHING_NUMBER, none);
-    let count = counted(exporters, packages, versions);
-    let mut n: usize = 0;
-    let mut i: usize = 0;
-    while i < count {
-        let exporter = exporters[i];
-        let number = packages[i];
-        let version = versions[i];
-        i += 1;
-        if is_offered_by(
-            exported,
-            &export_links,
-            owned,
-            passing,
-            &pass_links,
-            spans,
-            always,
-            region,
-            exporter,
-            number,
-            version,
-        ) {
-            out_exporters[n] = exporter;
-            out_packages[n] = number;
-            out_versions[n] = version;
-            n += 1;
-        }
-    }
-    n
+    let always = predecessors(passing, &pass_links, EVERYTHING_NUMBER, [0; REGIONS]);
+    let tables = PackageTables {
+        exported,
+        export_links: &export_links,
+        owned,
+        passing,
+        pass_links: &pass_links,
+        spans,
+        always,
+    };
+    keep_where(
+        given,
+        out_exporters,
+        out_packages,
+        out_versions,
+        |candidate| { tables.offers(region, candidate) },
+    )
 }
 
 // Writes the candidates that a region is offered: makes the tables of the packages.
 fn resolve_many(
     graph: Graph,
     region: u32,
-    exporters: &[u32],
-    packages: &[u32],
-    versions: &[u16],
+    given: Candidates<'_>,
     out_exporters: &mut [u32],
     out_packages: &mut [u32],
     out_versions: &mut [u16],
 ) -> usize
     requires valid { Valid graph }
-    requires region_lt_regions { (region < regions) × Room (candidates exporters.now packages.now versions.now) out_exporters.old out_packages.old out_versions.old }
-    ensures { kept (Kept.Wrote result) (out_exporters.new ∷ out_packages.new ∷ out_versions.new ∷ []) ≡ resolved (keep (λ c. is_offered (meaning graph) c region) (candidates exporters.now packages.now versions.now)) (out_exporters.old ∷ out_packages.old ∷ out_versions.old ∷ []) }
+    requires region_lt_regions { (region < regions) × Room (candidate_list given) out_exporters.old out_packages.old out_versions.old }
+    ensures { kept (Kept.Wrote result) (out_exporters.new ∷ out_packages.new ∷ out_versions.new ∷ []) ≡ resolved (keep (λ c. is_offered (meaning graph) c region) (candidate_list given.entry)) (out_exporters.old ∷ out_packages.old ∷ out_versions.old ∷ []) }
 {
     let mut exported = [0u64; MOST_ENTRIES];
-    let given = offers(&mut exported, graph, Kind::Package);
+    let exports = offers(&mut exported, graph, Kind::Package);
     let mut owned = [0u64; MOST_ENTRIES];
     let located = owners(&mut owned, graph);
     let mut passing = [0u64; MOST_ENTRIES];
@@ -171,14 +207,12 @@ fn resolve_many(
     let mut span_places = [0u32; MOST_ENTRIES];
     let spanned = spans(&mut span_places, graph);
     resolve_by(
-        &exported[..given],
+        &exported[..exports],
         &owned[..located],
         &passing[..passed],
         &span_places[..spanned],
         region,
-        exporters,
-        packages,
-        versions,
+        given,
         out_exporters,
         out_packages,
         out_versions,
@@ -186,36 +220,24 @@ fn resolve_many(
 }
 
 // Writes the candidates that a region is offered: asks the graph about each, and makes no tables.
-#[tactic(auto, using(crate::proofs::Resolving::candidates_length))]
 fn resolve_few(
     graph: Graph,
     region: u32,
-    exporters: &[u32],
-    packages: &[u32],
-    versions: &[u16],
+    given: Candidates<'_>,
     out_exporters: &mut [u32],
     out_packages: &mut [u32],
     out_versions: &mut [u16],
 ) -> usize
-    requires { Valid graph × ((region < regions) × Room (candidates exporters.now packages.now versions.now) out_exporters.old out_packages.old out_versions.old) }
-    ensures { kept (Kept.Wrote result) (out_exporters.new ∷ out_packages.new ∷ out_versions.new ∷ []) ≡ resolved (keep (λ c. is_offered (meaning graph) c region) (candidates exporters.now packages.now versions.now)) (out_exporters.old ∷ out_packages.old ∷ out_versions.old ∷ []) }
+    requires { Valid graph × ((region < regions) × Room (candidate_list given) out_exporters.old out_packages.old out_versions.old) }
+    ensures { kept (Kept.Wrote result) (out_exporters.new ∷ out_packages.new ∷ out_versions.new ∷ []) ≡ resolved (keep (λ c. is_offered (meaning graph) c region) (candidate_list given.entry)) (out_exporters.old ∷ out_packages.old ∷ out_versions.old ∷ []) }
 {
-    let count = counted(exporters, packages, versions);
-    let mut n: usize = 0;
-    let mut i: usize = 0;
-    while i < count {
-        let exporter = exporters[i];
-        let package = packages[i];
-        let version = versions[i];
-        i += 1;
-        if is_offered(graph, region, exporter, package, version) {
-            out_exporters[n] = exporter;
-            out_packages[n] = package;
-            out_versions[n] = version;
-            n += 1;
-        }
-    }
-    n
+    keep_where(
+        given,
+        out_exporters,
+        out_packages,
+        out_versions,
+        |candidate| { is_offered(graph, region, candidate) },
+    )
 }
 
 // The candidates, exporters with packages, that a bundle is offered.
@@ -233,11 +255,15 @@ pub fn resolve(
     requires { Valid graph }
     ensures { kept (kept_answer result) (out_exporters.new ∷ out_packages.new ∷ out_versions.new ∷ []) ≡ resolve_outcome (meaning graph) location (candidates exporters.now packages.now versions.now) (out_exporters.old ∷ out_packages.old ∷ out_versions.old ∷ []) }
 {
-    let place = graph.region_of(location);
-    let Place::Within(region) = place else {
+    let Place::Within(region) = graph.region_of(location) else {
         return Err(Refusal::NotInstalled);
     };
-    let count = counted(exporters, packages, versions);
+    let given = Candidates {
+        exporters,
+        packages,
+        versions,
+    };
+    let count = given.count();
     if out_exporters.len() < count {
         return Err(Refusal::NoPlace);
     }
@@ -248,27 +274,21 @@ pub fn resolve(
         return Err(Refusal::NoPlace);
     }
     if count < FEW {
-        let n = resolve_few(
+        return Ok(resolve_few(
             graph,
             region,
-            exporters,
-            packages,
-            versions,
+            given,
             out_exporters,
             out_packages,
             out_versions,
-        );
-        return Ok(n);
+        ));
     }
-    let n = resolve_many(
+    Ok(resolve_many(
         graph,
         region,
-        exporters,
-        packages,
-        versions,
+        given,
         out_exporters,
         out_packages,
         out_versions,
-    );
-    Ok(n)
+    ))
 }

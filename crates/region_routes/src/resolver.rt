@@ -60,7 +60,8 @@ impl<'a> Candidates<'a> {
     }
 }
 
-// Writes the parts of the candidates that pass a test, and gives their count.
+// Writes the parts of the candidates that pass a test, and gives their count. The parts go to lists of their own, so that the C interface can
+// lend columns: the loop of the hooks, which writes numbers to one list, would not be shorter with lists and types of output as parameters.
 fn keep_where<F: Fn(Candidate) -> bool>(
     given: Candidates<'_>,
     out_exporters: &mut [u32],
@@ -240,7 +241,7 @@ fn resolve_few(
     )
 }
 
-// The candidates, exporters with packages, that a bundle is offered.
+// The candidates, exporters with packages, that a bundle is offered. The C interface lends the lists one by one.
 #[tactic(auto, using(crate::proofs::Judging::region_inside, crate::proofs::Answering::resolve_not_installed, crate::proofs::Answering::resolve_no_exporter_place, crate::proofs::Answering::resolve_no_number_place, crate::proofs::Answering::resolve_no_version_place, crate::proofs::Answering::resolve_answers))]
 pub fn resolve(
     graph: Graph,
@@ -264,13 +265,7 @@ pub fn resolve(
         versions,
     };
     let count = given.count();
-    if out_exporters.len() < count {
-        return Err(Refusal::NoPlace);
-    }
-    if out_packages.len() < count {
-        return Err(Refusal::NoPlace);
-    }
-    if out_versions.len() < count {
+    if out_exporters.len() < count || out_packages.len() < count || out_versions.len() < count {
         return Err(Refusal::NoPlace);
     }
     if count < FEW {

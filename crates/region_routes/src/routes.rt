@@ -38,7 +38,8 @@ fn walk(search: &ItemSearch, deep: usize, region: u32, out: &mut [u8])
     }
 }
 
-// The count of connections of the route that document 01 picks, its regions at the buffer's start, one byte each.
+// The count of connections of the route that document 01 picks, its regions at the buffer's start, one byte each; None where the item is
+// hidden. Any number is asked as a kind's, and refused after the bundle is found: so it is no Kind.
 pub fn route(
     graph: Graph,
     location: u32,

@@ -8,12 +8,9 @@ ghost use Rattle.region_graph.specs.Record.{Valid, meaning};
 ghost use Rattle.region_routes.specs.Chosen.{sees};
 ghost use Rattle.region_routes.specs.Hooks.{kind_number, item, kept, kept_outcome, find_outcome, event_outcome};
 ghost use Rattle.region_routes.specs.Tables.{NumberTables, most_entries, «place_at», «all_placed», stands_in};
-ghost use Rattle.region_routes.specs.Chains.{Chained};
 
 use crate::search::{regions_seeing, regions_seeing_by};
-use crate::tables::{
-    EVERYTHING_NUMBER, FEW, MOST_ENTRIES, chained, offers, passages, place_of, predecessors, wide,
-};
+use crate::tables::{Chains, EVERYTHING_NUMBER, FEW, MOST_ENTRIES, offers, passages, wide};
 use crate::{Kept, Kind};
 use region_graph::refusals::{NO_PLACE, NOT_INSTALLED};
 use region_graph::region_set::has;
@@ -43,16 +40,15 @@ fn keep_seen(
     requires region_lt_regions { (region < regions) × (length candidates.now ≤ length out.old) }
     ensures { (m : Model) (kind : ℕ) → NumberTables m kind offered.now passing.now → kept (Kept.Wrote result) out.new ≡ kept_outcome (keep (λ n. sees m (item kind n 0) region) candidates.now) out.old }
 {
-    let offer_links = chained(offered);
-    let pass_links = chained(passing);
-    let none = [0u64; REGIONS];
-    let always = predecessors(passing, &pass_links, EVERYTHING_NUMBER, none);
+    let offered = Chains::of(offered);
+    let passing = Chains::of(passing);
+    let always = passing.predecessors(EVERYTHING_NUMBER, [0; REGIONS]);
     let mut n: usize = 0;
     let mut i: usize = 0;
     while i < candidates.len() {
         let number = candidates[i];
         i += 1;
-        let set = regions_seeing_by(offered, &offer_links, passing, &pass_links, always, number);
+        let set = regions_seeing_by(&offered, &passing, always, number);
         if has(set, region) {
             out[n] = number;
             n += 1;
@@ -129,13 +125,12 @@ fn find(graph: Graph, kind: Kind, location: u32, candidates: &[u32], out: &mut [
 }
 
 // Whether every listener has a place in the table of the bundles.
-fn all_installed(bundles: &[u64], links: &[u16], listeners: &[u32]) -> bool
-    requires { Chained bundles.now links.now }
-    ensures { result ≡ all_placed (place_at bundles.now) listeners.now }
+fn all_installed(bundles: &Chains<'_>, listeners: &[u32]) -> bool
+    ensures { result ≡ all_placed (place_at bundles.now.table.now) listeners.now }
 {
     let mut i: usize = 0;
     while i < listeners.len() {
-        let place = place_of(bundles, links, wide(listeners[i]));
+        let place = bundles.place_of(wide(listeners[i]));
         i += 1;
         if let Place::Nowhere = place {
             return false;
@@ -145,11 +140,10 @@ fn all_installed(bundles: &[u64], links: &[u16], listeners: &[u32]) -> bool
 }
 
 // Whether a listener's region is in a set.
-fn stands_in(bundles: &[u64], links: &[u16], listener: u32, set: u64) -> bool
-    requires { Chained bundles.now links.now }
-    ensures { result ≡ stands_in set (place_at bundles.now listener) }
+fn stands_in(bundles: &Chains<'_>, listener: u32, set: u64) -> bool
+    ensures { result ≡ stands_in set (place_at bundles.now.table.now listener) }
 {
-    let place = place_of(bundles, links, wide(listener));
+    let place = bundles.place_of(wide(listener));
     let Place::Within(region) = place else {
         return false;
     };
@@ -157,23 +151,16 @@ fn stands_in(bundles: &[u64], links: &[u16], listener: u32, set: u64) -> bool
 }
 
 // Writes the listeners whose regions are in a set.
-fn keep_standing(
-    bundles: &[u64],
-    links: &[u16],
-    set: u64,
-    listeners: &[u32],
-    out: &mut [u32],
-) -> usize
-    requires chained { Chained bundles.now links.now }
-    requires listeners_in_bounds { length listeners.now ≤ length out.old }
-    ensures { kept (Kept.Wrote result) out.new ≡ kept_outcome (keep (λ l. stands_in set (place_at bundles.now l)) listeners.now) out.old }
+fn keep_standing(bundles: &Chains<'_>, set: u64, listeners: &[u32], out: &mut [u32]) -> usize
+    requires { length listeners.now ≤ length out.old }
+    ensures { kept (Kept.Wrote result) out.new ≡ kept_outcome (keep (λ l. stands_in set (place_at bundles.now.table.now l)) listeners.now) out.old }
 {
     let mut n: usize = 0;
     let mut i: usize = 0;
     while i < listeners.len() {
         let listener = listeners[i];
         i += 1;
-        if stands_in(bundles, links, listener, set) {
+        if stands_in(bundles, listener, set) {
             out[n] = listener;
             n += 1;
         }
@@ -187,8 +174,8 @@ fn event(graph: Graph, kind: Kind, listeners: &[u32], number: u32, out: &mut [u3
 {
     let mut bundles = [0u64; MOST_ENTRIES];
     let count = offers(&mut bundles, graph, Kind::Bundle);
-    let links = chained(&bundles[..count]);
-    if !all_installed(&bundles[..count], &links, listeners) {
+    let bundles = Chains::of(&bundles[..count]);
+    if !all_installed(&bundles, listeners) {
         return Kept::Refused(NOT_INSTALLED);
     }
     if out.len() < listeners.len() {
@@ -203,7 +190,7 @@ fn event(graph: Graph, kind: Kind, listeners: &[u32], number: u32, out: &mut [u3
             version: 0,
         },
     );
-    let written = keep_standing(&bundles[..count], &links, set, listeners, out);
+    let written = keep_standing(&bundles, set, listeners, out);
     Kept::Wrote(written)
 }
 

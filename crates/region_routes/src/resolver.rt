@@ -8,13 +8,12 @@ ghost use Rattle.region_graph.specs.Record.{Valid, meaning};
 ghost use Rattle.region_routes.specs.Hooks.{kept};
 ghost use Rattle.region_routes.specs.Resolve.{candidates, is_offered, resolved, resolve_outcome};
 ghost use Rattle.region_routes.specs.Tables.{ExportTables, Room, most_entries, everything_number, «step_in», predecessors_by};
-ghost use Rattle.region_routes.specs.Chains.{Chained};
 
 use crate::hooks::kind_number;
 use crate::search::{Ends, search, search_for};
 use crate::tables::{
-    EVERYTHING_NUMBER, FEW, MOST_ENTRIES, chained, offers, owner_number, owners, passages,
-    place_beside, predecessors, predecessors_between, spans, wide,
+    Chains, EVERYTHING_NUMBER, FEW, MOST_ENTRIES, offers, owner_number, owners, passages, spans,
+    wide,
 };
 use crate::{Kept, Kind};
 use region_graph::refusals::{NO_PLACE, NOT_INSTALLED};
@@ -64,11 +63,9 @@ fn is_offered(graph: Graph, region: u32, exporter: u32, number: u32, version: u1
 // The same by the chained tables of the packages, the exporters and the spans beside them, and the predecessors that the entries for all
 // numbers give.
 fn is_offered_by(
-    exported: &[u64],
-    export_links: &[u16],
+    exported: &Chains<'_>,
     owned: &[u64],
-    passing: &[u64],
-    pass_links: &[u16],
+    passing: &Chains<'_>,
     spans: &[u32],
     always: [u64; REGIONS],
     region: u32,
@@ -76,21 +73,19 @@ fn is_offered_by(
     number: u32,
     version: u16,
 ) -> bool
-    requires chained { Chained exported.now export_links.now }
-    requires owned_len { length owned.now ≡ length exported.now }
-    requires chained_2 { Chained passing.now pass_links.now }
-    requires spans_len { length spans.now ≡ length passing.now }
-    requires always_value { always ≡ predecessors_by (step_in passing.now everything_number) }
+    requires owned_len { length owned.now ≡ length exported.now.table.now }
+    requires spans_len { length spans.now ≡ length passing.now.table.now }
+    requires always_value { always ≡ predecessors_by (step_in passing.now.table.now everything_number) }
     requires region_lt_regions { region < regions }
-    ensures { (m : Model) → ExportTables m exported.now owned.now passing.now spans.now → result ≡ is_offered m (record { exporter = exporter; number = number; version = version }) region }
+    ensures { (m : Model) → ExportTables m exported.now.table.now owned.now passing.now.table.now spans.now → result ≡ is_offered m (record { exporter = exporter; number = number; version = version }) region }
 {
     let owner = owner_number(exporter, version);
     let sought = wide(number);
-    let place = place_beside(exported, export_links, owned, owner, sought);
+    let place = exported.place_beside(owned, owner, sought);
     let Place::Within(home) = place else {
         return false;
     };
-    let pred = predecessors_between(passing, pass_links, spans, sought, version, always);
+    let pred = passing.predecessors_between(spans, sought, version, always);
     let layers = search(&pred, singleton(home));
     has(layers.reached, region)
 }
@@ -115,10 +110,9 @@ fn resolve_by(
     requires region_lt_regions { (region < regions) × Room (candidates exporters.now packages.now versions.now) out_exporters.old out_packages.old out_versions.old }
     ensures { (m : Model) → ExportTables m exported.now owned.now passing.now spans.now → kept (Kept.Wrote result) (out_exporters.new ∷ out_packages.new ∷ out_versions.new ∷ []) ≡ resolved (keep (λ c. is_offered m c region) (candidates exporters.now packages.now versions.now)) (out_exporters.old ∷ out_packages.old ∷ out_versions.old ∷ []) }
 {
-    let export_links = chained(exported);
-    let pass_links = chained(passing);
-    let none = [0u64; REGIONS];
-    let always = predecessors(passing, &pass_links, EVERYTHING_NUMBER, none);
+    let exported = Chains::of(exported);
+    let passing = Chains::of(passing);
+    let always = passing.predecessors(EVERYTHING_NUMBER, [0; REGIONS]);
     let count = counted(exporters, packages, versions);
     let mut n: usize = 0;
     let mut i: usize = 0;
@@ -128,17 +122,7 @@ fn resolve_by(
         let version = versions[i];
         i += 1;
         if is_offered_by(
-            exported,
-            &export_links,
-            owned,
-            passing,
-            &pass_links,
-            spans,
-            always,
-            region,
-            exporter,
-            number,
-            version,
+            &exported, owned, &passing, spans, always, region, exporter, number, version,
         ) {
             out_exporters[n] = exporter;
             out_packages[n] = number;

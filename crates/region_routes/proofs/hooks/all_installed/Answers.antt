@@ -9,21 +9,18 @@ use Rattle.region_routes.proofs.hooks.all_installed.Goals as goal
 pub loop-i-init : goal.loop-i-init
 loop-i-init c = placing_start
 
-pub place_of-place-requires : goal.place_of-place-requires
-place_of-place-requires c = c.requires
-
 pub returns-in-Nowhere : goal.returns-in-Nowhere
 returns-in-Nowhere c =
-    let place : (let s = c.args in place_at s.bundles.now (get_or s.listeners.now c.loop-i.i 0) ≡ c.place_of-place.result) =
-    sym (c.place_of-place.ensures ∙ ap (place_at c.args.bundles.now)
+    let place : (let s = c.args in place_at s.bundles.now.table.now (get_or s.listeners.now c.loop-i.i 0) ≡ c.place_of-place.result) =
+    sym (c.place_of-place.ensures ∙ ap (place_at c.args.bundles.now.table.now)
     c.wide.ensures.0) in
     placing_stop c.loop-i.invariant (omega arith)
     (ap is_installed (place ∙ c.in-Nowhere.is))
 
 pub loop-i-preserved : goal.loop-i-preserved
 loop-i-preserved c =
-    let place : (let s = c.args in place_at s.bundles.now (get_or s.listeners.now c.loop-i.i 0) ≡ c.place_of-place.result) =
-    sym (c.place_of-place.ensures ∙ ap (place_at c.args.bundles.now)
+    let place : (let s = c.args in place_at s.bundles.now.table.now (get_or s.listeners.now c.loop-i.i 0) ≡ c.place_of-place.result) =
+    sym (c.place_of-place.ensures ∙ ap (place_at c.args.bundles.now.table.now)
     c.wide.ensures.0) in
     placing_next c.loop-i.invariant (omega arith)
     (ap is_installed (place ∙ c.in_default.is))

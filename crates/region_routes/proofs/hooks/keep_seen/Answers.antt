@@ -1,16 +1,13 @@
 use mathlib.Core.Bool.{false}
 use native.Mathlib.Omega.{arith}
 use Rattle.region_routes.specs.Chosen.{sees}
+use Rattle.region_routes.specs.Tables.{NumberTables}
 use Rattle.region_routes.proofs.TableLaws.{preceding_none}
 use Rattle.region_routes.proofs.Keeping.{keeping_start, keeping_passed, keeping_failed, keeping_end, has_by}
 use Rattle.region_routes.proofs.hooks.keep_seen.Goals as goal
 
 pub regions_seeing_by-set-requires : goal.regions_seeing_by-set-requires
-regions_seeing_by-set-requires c = record {
-  chained = c.chained-offer_links.ensures;
-  chained_2 = c.chained-pass_links.ensures;
-  always_value = c.predecessors-always.ensures (λ r s. false) preceding_none;
-}
+regions_seeing_by-set-requires c = c.predecessors-always.ensures (λ r s. false) preceding_none
 
 pub loop-i-init : goal.loop-i-init
 loop-i-init c = keeping_start c.requires.region_lt_regions.1
@@ -29,4 +26,6 @@ pub shape_of-out : goal.shape_of-out
 shape_of-out c = c.loop-i.invariant.long
 
 pub returns : goal.returns
-returns c = λ m k t. keeping_end c.loop-i.invariant (omega arith) (m, k, t)
+returns c = λ m k t.
+    let here : NumberTables m k c.of-offered.result.table.now c.of-passing.result.table.now = rw (c.of-offered.ensures, c.of-passing.ensures) t in
+    keeping_end c.loop-i.invariant (omega arith) (m, k, here)

@@ -10,7 +10,7 @@ use Rattle.region_routes.proofs.hooks.keep_seen.Given as goal
 -- for each model and kind whose tables they are
 abbrev pub invariant-loop-i : goal.invariant-loop-i
 invariant-loop-i l =
-    Keeping (λ (t : (m : Model) × (k : ℕ) × NumberTables m k l.offered l.passing) x. sees t.0 (item t.1 x 0) l.region) l.candidates l.i l.n l.initial.out l.out
+    Keeping (λ (t : (m : Model) × (k : ℕ) × NumberTables m k l.offered.table.now l.passing.table.now) x. sees t.0 (item t.1 x 0) l.region) l.candidates l.i l.n l.initial.out l.out
 
 abbrev pub decreases-loop-i : goal.decreases-loop-i
 decreases-loop-i l = length l.candidates - l.i

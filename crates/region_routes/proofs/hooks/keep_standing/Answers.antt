@@ -4,10 +4,7 @@ use Rattle.region_routes.proofs.Keeping.{keeping_start, keeping_passed, keeping_
 use Rattle.region_routes.proofs.hooks.keep_standing.Goals as goal
 
 pub loop-i-init : goal.loop-i-init
-loop-i-init c = keeping_start c.requires.listeners_in_bounds
-
-pub stands_in-requires : goal.stands_in-requires
-stands_in-requires c = c.requires.chained
+loop-i-init c = keeping_start c.requires
 
 pub loop-i-preserved-then-stands_in : goal.loop-i-preserved-then-stands_in
 loop-i-preserved-then-stands_in c = keeping_passed c.loop-i.invariant (omega arith) (λ t. sym c.stands_in.ensures ∙ c.if-stands_in.true)

@@ -38,8 +38,8 @@ returns-in_default c m t =
 pub search-layers-requires : goal.search-layers-requires
 search-layers-requires c =
     let a = c.args in
-    let e = c.predecessors_between-pred.ensures (step_in a.passing.now everything_number) c.requires.always_value in
-    (rw e (preceding_sets (steps a.passing.now a.spans.now a.version c.wide-sought.result)), search rules)
+    let e = c.predecessors_between-pred.ensures (step_in a.passing.now.table.now everything_number) c.requires.always_value in
+    (rw e (preceding_sets (steps a.passing.now.table.now a.spans.now a.version c.wide-sought.result)), search rules)
 
 -- a route ends in the exporter's region
 pub returns : goal.returns
@@ -47,8 +47,8 @@ returns c m t =
     let a = c.args in
     let home = c.in-Within.home in
     let wanted = item 1 a.number a.version in
-    let pred = c.predecessors_between-pred.ensures (step_in a.passing.now everything_number) c.requires.always_value
-    ∙ ap (λ (n : ℕ). predecessors_by (steps a.passing.now a.spans.now a.version n)) c.wide-sought.ensures.0
+    let pred = c.predecessors_between-pred.ensures (step_in a.passing.now.table.now everything_number) c.requires.always_value
+    ∙ ap (λ (n : ℕ). predecessors_by (steps a.passing.now.table.now a.spans.now a.version n)) c.wide-sought.ensures.0
     ∙ between_table t a.number a.version in
     let e = provided t a.exporter a.number a.version c.place_beside-place.ensures (omega arith) c.owner_number-owner.ensures c.wide-sought.ensures.0
     c.in-Within.is in

@@ -2,6 +2,7 @@ use mathlib.Core.Path.{sym, ◌∙◌}
 use mathlib.Core.Bool.{false}
 use native.Mathlib.Omega.{arith}
 use borrow.Author.Rules.{rules}
+use Rattle.region_routes.specs.Tables.{ExportTables}
 use Rattle.region_routes.proofs.TableLaws.{preceding_none}
 use Rattle.region_routes.proofs.Resolving.{resolving_start, resolving_passed, resolving_failed, resolving_end}
 use Rattle.region_routes.proofs.resolver.resolve_by.Goals as goal
@@ -24,4 +25,7 @@ loop-i-preserved c =
     (λ t. sym (c.is_offered_by.ensures t.0 t.1) ∙ c.if-is_offered_by.false)
 
 pub returns : goal.returns
-returns c m t = resolving_end c.loop-i.invariant (omega (arith, c.counted-count.ensures)) (m, t)
+returns c m t =
+    let here : ExportTables m c.of-exported.result.table.now c.args.owned.now c.of-passing.result.table.now c.args.spans.now =
+    rw (c.of-exported.ensures, c.of-passing.ensures) t in
+    resolving_end c.loop-i.invariant (omega (arith, c.counted-count.ensures)) (m, here)

@@ -8,13 +8,10 @@ ghost use Rattle.region_graph.specs.Record.{Valid, meaning};
 ghost use Rattle.region_routes.specs.Chosen.{sees};
 ghost use Rattle.region_routes.specs.Hooks.{kind_number, item, Kept, kept, kept_answer, kept_outcome, find_outcome, event_outcome, is_installed};
 ghost use Rattle.region_routes.specs.Tables.{NumberTables, most_entries, everything_number, «step_in», predecessors_by, «place_at», «all_placed», stands_in};
-ghost use Rattle.region_routes.specs.Chains.{Chained};
 
 use crate::Kind;
 use crate::search::{regions_seeing, regions_seeing_by};
-use crate::tables::{
-    EVERYTHING_NUMBER, FEW, MOST_ENTRIES, chained, offers, passages, place_of, predecessors, wide,
-};
+use crate::tables::{Chains, EVERYTHING_NUMBER, FEW, MOST_ENTRIES, offers, passages, wide};
 use region_graph::refusals::Refusal;
 use region_graph::region_set::has;
 use region_graph::size::REGIONS;
@@ -48,25 +45,20 @@ fn keep_seen(
     requires region_lt_regions { (region < regions) × (length candidates.now ≤ length out.old) }
     ensures { (m : Model) (kind : ℕ) → NumberTables m kind offered.now passing.now → kept (Kept.Wrote result) out.new ≡ kept_outcome (keep (λ n. sees m (item kind n 0) region) candidates.now) out.old }
 {
-    let offer_links = chained(offered);
-    let pass_links = chained(passing);
-    let always = predecessors(passing, &pass_links, EVERYTHING_NUMBER, [0; REGIONS]);
+    let offered = Chains::of(offered);
+    let passing = Chains::of(passing);
+    let always = passing.predecessors(EVERYTHING_NUMBER, [0; REGIONS]);
     keep_where(
         candidates,
         out,
         |number|
-            requires { Chained offered.now offer_links × Chained passing.now pass_links × (always ≡ predecessors_by (step_in passing.now everything_number)) × (region < regions) }
-            ensures { (m : Model) (kind : ℕ) → NumberTables m kind offered.entry.now passing.entry.now → result ≡ sees m (item kind number 0) region }
+            requires { (always ≡ predecessors_by (step_in passing.table.now everything_number)) × (region < regions) }
+            ensures { (m : Model) (kind : ℕ) → NumberTables m kind offered.entry.table.now passing.entry.table.now → result ≡ sees m (item kind number 0) region }
         {
-            let seeing = regions_seeing_by(
-                offered,
-                &offer_links,
-                passing,
-                &pass_links,
-                always,
-                number,
-            );
-            has(seeing, region)
+            has(
+                regions_seeing_by(&offered, &passing, always, number),
+                region,
+            )
         },
     )
 }
@@ -130,29 +122,26 @@ fn find(
 }
 
 // Whether a listener has a place in the table of the bundles.
-fn is_placed(bundles: &[u64], links: &[u16], listener: u32) -> bool
-    requires { Chained bundles.now links.now }
-    ensures { result ≡ is_installed (place_at bundles.now listener) }
+fn is_placed(bundles: &Chains<'_>, listener: u32) -> bool
+    ensures { result ≡ is_installed (place_at bundles.now.table.now listener) }
 {
-    matches!(place_of(bundles, links, wide(listener)), Place::Within(_))
+    matches!(bundles.place_of(wide(listener)), Place::Within(_))
 }
 
 // Whether every listener has a place in the table of the bundles.
-fn all_placed(bundles: &[u64], links: &[u16], listeners: &[u32]) -> bool
-    requires { Chained bundles.now links.now }
-    ensures { result ≡ all_placed (place_at bundles.now) listeners.now }
+fn all_placed(bundles: &Chains<'_>, listeners: &[u32]) -> bool
+    ensures { result ≡ all_placed (place_at bundles.now.table.now) listeners.now }
 {
     listeners
         .iter()
-        .all(|listener| is_placed(bundles, links, *listener))
+        .all(|listener| is_placed(bundles, *listener))
 }
 
 // Whether a listener's region is in a set.
-fn stands_in(bundles: &[u64], links: &[u16], listener: u32, set: u64) -> bool
-    requires { Chained bundles.now links.now }
-    ensures { result ≡ stands_in set (place_at bundles.now listener) }
+fn stands_in(bundles: &Chains<'_>, listener: u32, set: u64) -> bool
+    ensures { result ≡ stands_in set (place_at bundles.now.table.now listener) }
 {
-    match place_of(bundles, links, wide(listener)) {
+    match bundles.place_of(wide(listener)) {
         Place::Within(region) => has(set, region),
         Place::Nowhere => false,
     }
@@ -171,9 +160,8 @@ fn event(
 {
     let mut offered = [0u64; MOST_ENTRIES];
     let count = offers(&mut offered, graph, Kind::Bundle);
-    let bundles = &offered[..count];
-    let links = chained(bundles);
-    if !all_placed(bundles, &links, listeners) {
+    let bundles = Chains::of(&offered[..count]);
+    if !all_placed(&bundles, listeners) {
         return Err(Refusal::NotInstalled);
     }
     if out.len() < listeners.len() {
@@ -181,7 +169,7 @@ fn event(
     }
     let seeing = regions_seeing(graph, kind.item(number));
     let written = keep_where(listeners, out, |listener| {
-        stands_in(bundles, &links, listener, seeing)
+        stands_in(&bundles, listener, seeing)
     });
     Ok(written)
 }

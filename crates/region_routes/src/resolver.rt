@@ -8,13 +8,12 @@ ghost use Rattle.region_graph.specs.Record.{Valid, meaning};
 ghost use Rattle.region_routes.specs.Hooks.{Kept, kept, kept_answer};
 ghost use Rattle.region_routes.specs.Resolve.{Candidate, no_candidate, candidates, candidate_list, is_offered, resolved, resolve_outcome};
 ghost use Rattle.region_routes.specs.Tables.{ExportTables, Room, most_entries, everything_number, «step_in», predecessors_by};
-ghost use Rattle.region_routes.specs.Chains.{Chained};
 
 use crate::Kind;
 use crate::search::{Ends, search, search_for};
 use crate::tables::{
-    EVERYTHING_NUMBER, FEW, MOST_ENTRIES, chained, offers, owner_number, owners, passages,
-    place_beside, predecessors, predecessors_between, spans, wide,
+    Chains, EVERYTHING_NUMBER, FEW, MOST_ENTRIES, offers, owner_number, owners, passages, spans,
+    wide,
 };
 use region_graph::refusals::Refusal;
 use region_graph::region_set::{has, singleton};
@@ -106,41 +105,33 @@ fn is_offered(graph: Graph, region: u32, candidate: Candidate) -> bool
     }
 }
 
-// The tables of the packages, the exporters and the spans beside them, and the predecessors that the entries for all numbers give.
+// The tables of the packages with their chains, the exporters and the spans beside them, and the predecessors that the entries for all numbers
+// give.
 #[derive(Drop)]
-struct PackageTables<'a, 'b> {
-    exported: &'a [u64],
-    export_links: &'b [u16],
+struct PackageTables<'a> {
+    exported: Chains<'a>,
     owned: &'a [u64],
-    passing: &'a [u64],
-    pass_links: &'b [u16],
+    passing: Chains<'a>,
     spans: &'a [u32],
     always: [u64; REGIONS],
-    ghost exported_chained: { Chained exported.now export_links.now },
-    ghost owned_len: { length owned.now ≡ length exported.now },
-    ghost passing_chained: { Chained passing.now pass_links.now },
-    ghost spans_len: { length spans.now ≡ length passing.now },
-    ghost always_value: { always ≡ predecessors_by (step_in passing.now everything_number) },
+    ghost owned_len: { length owned.now ≡ length exported.table.now },
+    ghost spans_len: { length spans.now ≡ length passing.table.now },
+    ghost always_value: { always ≡ predecessors_by (step_in passing.table.now everything_number) },
 }
 
-impl<'a, 'b> PackageTables<'a, 'b> {
+impl<'a> PackageTables<'a> {
     // Whether a region is offered a candidate.
     fn offers(&self, region: u32, candidate: Candidate) -> bool
         requires { region < regions }
-        ensures { (m : Model) → ExportTables m self.now.exported.now self.now.owned.now self.now.passing.now self.now.spans.now → result ≡ is_offered m candidate region }
+        ensures { (m : Model) → ExportTables m self.now.exported.table.now self.now.owned.now self.now.passing.table.now self.now.spans.now → result ≡ is_offered m candidate region }
     {
         let owner = owner_number(candidate.exporter, candidate.version);
         let sought = wide(candidate.number);
-        match place_beside(self.exported, self.export_links, self.owned, owner, sought) {
+        match self.exported.place_beside(self.owned, owner, sought) {
             Place::Within(home) => {
-                let pred = predecessors_between(
-                    self.passing,
-                    self.pass_links,
-                    self.spans,
-                    sought,
-                    candidate.version,
-                    self.always,
-                );
+                let pred = self
+                    .passing
+                    .predecessors_between(self.spans, sought, candidate.version, self.always);
                 has(search(&pred, singleton(home)).reached, region)
             }
             Place::Nowhere => false,
@@ -165,15 +156,12 @@ fn resolve_by<'a>(
     requires region_lt_regions { (region < regions) × Room (candidate_list given) out_exporters.old out_packages.old out_versions.old }
     ensures { (m : Model) → ExportTables m exported.now owned.now passing.now spans.now → kept (Kept.Wrote result) (out_exporters.new ∷ out_packages.new ∷ out_versions.new ∷ []) ≡ resolved (keep (λ c. is_offered m c region) (candidate_list given.entry)) (out_exporters.old ∷ out_packages.old ∷ out_versions.old ∷ []) }
 {
-    let export_links = chained(exported);
-    let pass_links = chained(passing);
-    let always = predecessors(passing, &pass_links, EVERYTHING_NUMBER, [0; REGIONS]);
+    let passing = Chains::of(passing);
+    let always = passing.predecessors(EVERYTHING_NUMBER, [0; REGIONS]);
     let tables = PackageTables {
-        exported,
-        export_links: &export_links,
+        exported: Chains::of(exported),
         owned,
         passing,
-        pass_links: &pass_links,
         spans,
         always,
     };

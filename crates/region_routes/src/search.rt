@@ -9,10 +9,9 @@ ghost use Rattle.region_graph.specs.Sets.{set_of};
 ghost use Rattle.region_routes.specs.Chosen.{sees};
 ghost use Rattle.region_routes.specs.Hooks.{item};
 ghost use Rattle.region_routes.specs.Tables.{NumberTables, everything_number, «step_in», predecessors_by};
-ghost use Rattle.region_routes.specs.Chains.{Chained};
 ghost use Rattle.region_routes.specs.Search.{RegionSets, SetOfRegions, TakesLowest, Layer, Searched, At, InLayer, end_set};
 
-use crate::tables::{holders, predecessors, wide};
+use crate::tables::{Chains, wide};
 use region_graph::region_set::{difference, has, lowest, singleton, without_lowest};
 use region_graph::size::REGIONS;
 use region_graph::{Graph, Item};
@@ -143,23 +142,19 @@ pub fn regions_seeing(graph: Graph, item: Item) -> u64
 
 // The regions that see an item of a kind by number, by the chained tables of the kind and the predecessors that the entries for all numbers give.
 pub fn regions_seeing_by(
-    offered: &[u64],
-    offer_links: &[u16],
-    passing: &[u64],
-    pass_links: &[u16],
+    offered: &Chains<'_>,
+    passing: &Chains<'_>,
     always: [u64; REGIONS],
     number: u32,
 ) -> u64
-    requires chained { Chained offered.now offer_links.now }
-    requires chained_2 { Chained passing.now pass_links.now }
-    requires always_value { always ≡ predecessors_by (step_in passing.now everything_number) }
-    ensures { (m : Model) (kind : ℕ) → NumberTables m kind offered.now passing.now → result ≡ set_of (sees m (item kind number 0)) }
+    requires { always ≡ predecessors_by (step_in passing.now.table.now everything_number) }
+    ensures { (m : Model) (kind : ℕ) → NumberTables m kind offered.now.table.now passing.now.table.now → result ≡ set_of (sees m (item kind number 0)) }
 {
     let sought = wide(number);
-    let held = holders(offered, offer_links, sought);
+    let held = offered.holders(sought);
     if held == 0 {
         return 0;
     }
-    let pred = predecessors(passing, pass_links, sought, always);
+    let pred = passing.predecessors(sought, always);
     search(&pred, held).reached
 }

@@ -32,8 +32,8 @@ returns-in-Nowhere c m t =
 pub search-requires : goal.search-requires
 search-requires c =
     let s = c.args.self.now in
-    let e = c.predecessors_between-pred.ensures (step_in s.passing.now everything_number) s.always_value in
-    (rw e (preceding_sets (steps s.passing.now s.spans.now c.args.candidate.version c.wide-sought.result)), search rules)
+    let e = c.predecessors_between-pred.ensures (step_in s.passing.table.now everything_number) s.always_value in
+    (rw e (preceding_sets (steps s.passing.table.now s.spans.now c.args.candidate.version c.wide-sought.result)), search rules)
 
 -- a route ends in the exporter's region
 pub returns-in-Within : goal.returns-in-Within
@@ -42,8 +42,8 @@ returns-in-Within c m t =
     let x = c.args.candidate in
     let home = c.in-Within.home in
     let wanted = package_of x in
-    let pred = c.predecessors_between-pred.ensures (step_in s.passing.now everything_number) s.always_value
-    ∙ ap (λ (n : ℕ). predecessors_by (steps s.passing.now s.spans.now x.version n)) c.wide-sought.ensures.0
+    let pred = c.predecessors_between-pred.ensures (step_in s.passing.table.now everything_number) s.always_value
+    ∙ ap (λ (n : ℕ). predecessors_by (steps s.passing.table.now s.spans.now x.version n)) c.wide-sought.ensures.0
     ∙ between_table t x.number x.version in
     let e = provided t x.exporter x.number x.version c.place_beside.ensures (search rules) c.owner_number-owner.ensures c.wide-sought.ensures.0 c.in-Within.is in
     let alone : c.singleton.result ≡ singleton home = search (rules, c.singleton.ensures) in

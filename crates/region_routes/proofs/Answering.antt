@@ -12,13 +12,11 @@ use Rattle.region_graph.specs.Model.{Model}
 use Rattle.region_graph.specs.Promise.{place_of}
 use Rattle.region_graph.specs.declared.Place.TheVariants.{Within, Nowhere}
 use Rattle.region_routes.specs.Chosen.{chosen, sees}
-use Rattle.region_routes.specs.Hooks.{Outcome, item, kind_number, routed, kept, shown, kept_outcome, sees_from, all_installed, route_outcome}
+use Rattle.region_routes.specs.Hooks.{Outcome, Routed, Kept, item, kind_number, routed, kept, shown, kept_outcome, sees_from, all_installed, route_outcome}
 use Rattle.region_routes.specs.Hooks.{find_outcome, event_outcome}
 use Rattle.region_routes.specs.Resolve.{Candidate, is_offered, resolved, resolve_outcome}
 use Rattle.region_routes.specs.Tables.{Room}
 use Rattle.region_routes.specs.declared.Kind.{Kind}
-use Rattle.region_routes.specs.declared.Routed.{Routed}
-use Rattle.region_routes.specs.declared.Kept.{Kept}
 
 module _ (m : Model) (l kind number version : ℕ) (entry : List ℕ) where
   pub route_not_installed : place_of m.bundles l ≡ Nowhere

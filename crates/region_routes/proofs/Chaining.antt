@@ -1,17 +1,18 @@
--- Chains: how they are made entry by entry, and what stays so of a table while a walk goes along one.
-use mathlib.Core.Path.{◌≡◌, refl, sym, ap, ◌∙◌, subst}
+-- The chains of a table, the walk along one, and what a loop over the places that it gives comes to.
+use mathlib.Core.Path.{◌≡◌, refl, sym, ap, subst, ◌∙◌}
 use mathlib.Core.Bool.{Bool, true, false}
-use mathlib.Core.List.{List}
+use mathlib.Core.List.{List, [], ◌∷◌}
 use Prim.Native.Nat.{ℕ, zero, suc, ◌+◌, ◌-◌, ◌<◌, ◌≤◌}
 use native.Mathlib.Numerals.{add-one}
 use native.Mathlib.Omega.{arith}
 use lib.Dec.{eqb}
-use lib.ListN.{length, get_or, set, drop, replicate, length-set, length-replicate, get_or-replicate}
+use lib.ListN.{length, get_or, set, drop, replicate, length-set, length-replicate, get_or-replicate, drop_of_length-le}
 use lib.Seq.{get_or-set_same, get_or-set_other, drop-cons, drop-length}
 use borrow.Author.Tests.{eq-eqb, ne_eqb, eqb-true, eqb-false}
-use Rattle.region_graph.specs.Lists.{pick, position}
+use Rattle.std.specs.List.{fold}
+use Rattle.region_graph.specs.Lists.{pick, position, All}
 use Rattle.region_routes.specs.Tables.{number_in, most_entries}
-use Rattle.region_routes.specs.Chains.{chains, chain, next_in, Chained}
+use Rattle.region_routes.specs.Chains.{chains, chain, next_in, Chained, Standing, places_of, places_left}
 
 -- the next place of a chain, by the entry at a place
 module _ (es : List ℕ) (c : ℕ) where
@@ -95,61 +96,117 @@ module _ (es links : List ℕ) (i c : ℕ) (own : chain (number_in (get_or es i 
 pub linking_end : {es links : List ℕ} → Linking es links 0 → Chained es links
 linking_end l = record { few = l.few; long = l.long; first = l.first; next = λ i h. l.next i (omega arith) h }
 
--- what is so at a place of the table, of a state, stays so past an entry of another number
-abbrev pub Skips : {S : Type 0} → (S → ℕ → Type 0) → List ℕ → ℕ → Type 0
-Skips {S} P es n = (x : S) (i : ℕ) → i < length es → eqb (number_in (get_or es i 0)) n ≡ false → P x i → P x (i + 1)
+-- the places of a number from place i on, by the entry there
+module _ (es : List ℕ) (n : ℕ) where
+  pub left_none : (i : ℕ) → length es ≤ i → places_left es n i ≡ []
+  unfolding places_left
+  left_none i h = rw (drop_of_length-le es h)
 
--- a walk along the chain of a number is at place i, where an entry of the chain is, if any; P is so there of the state x
-pub record Along {S : Type 0} (P : S → ℕ → Type 0) (es links : List ℕ) (n : ℕ) (x : S) (i : ℕ) : Type 0 where
-  pub chained : Chained es links
-  pub skips : Skips P es n
-  pub upto : i ≤ length es
-  pub own : i < length es → chain (number_in (get_or es i 0)) ≡ chain n
-  pub done : P x i
+  module _ (i : ℕ) (h : i < length es) where
+    left_by : places_left es n i ≡ pick (eqb (number_in (get_or es i 0)) n) (i ∷ places_left es n (i + 1)) (places_left es n (i + 1))
+    unfolding places_left
+    left_by = ap (λ (l : List ℕ). places_of l n i) (drop-cons es i 0 h) ∙ rw add-one refl
 
-module _ {S : Type 0} {P : S → ℕ → Type 0} {es links : List ℕ} {n : ℕ} (c : Chained es links) (skips : Skips P es n) (x : S) where
+    pub left_own : number_in (get_or es i 0) ≡ n → places_left es n i ≡ i ∷ places_left es n (i + 1)
+    left_own e = left_by ∙ rw (eq-eqb (number_in (get_or es i 0)) n e)
+
+    pub left_other : (number_in (get_or es i 0) ≡ n → ⊥) → places_left es n i ≡ places_left es n (i + 1)
+    left_other f = left_by ∙ rw (ne_eqb (number_in (get_or es i 0)) n f)
+
+-- a walk stands at a place, and what it has left there is what is left at place i
+pub record Reaching (es links : List ℕ) (n i j : ℕ) : Type 0 where
+  pub standing : Standing es links n j
+  pub same : places_left es n i ≡ places_left es n j
+
+module _ {es links : List ℕ} {n : ℕ} (c : Chained es links) where
   -- from place i on, to the next place of the chain
-  along_from : (k i : ℕ) → i + k ≡ length es → P x i → Along P es links n x (next_in es (chain n) i)
-  along_from zero i e p =
+  reaching_from : (k i : ℕ) → i + k ≡ length es → Reaching es links n i (next_in es (chain n) i)
+  reaching_from zero i e =
       let s : i ≡ length es = omega arith in
-      subst (Along P es links n x) (sym (rw s (next_end es (chain n))))
-      (record { chained = c; skips = skips; upto = omega arith; own = λ l. absurd (omega arith); done = subst (P x) s p })
-  along_from (suc k) i e p = go (eqb (chain (number_in (get_or es i 0))) (chain n)) refl (along_from k (i + 1) (omega arith))
+      let t : next_in es (chain n) i ≡ i = rw s (next_end es (chain n)) in
+      rw t (record { standing = record { chained = c; upto = omega arith; own = λ l. absurd (omega arith) }; same = refl })
+  reaching_from (suc k) i e = go (eqb (chain (number_in (get_or es i 0))) (chain n)) refl (reaching_from k (i + 1) (omega arith))
     where
       h : i < length es
       h = omega arith
 
-      go : (t : Bool) → eqb (chain (number_in (get_or es i 0))) (chain n) ≡ t → (P x (i + 1) → Along P es links n x (next_in es (chain n) (i + 1)))
-          → Along P es links n x (next_in es (chain n) i)
+      go : (t : Bool) → eqb (chain (number_in (get_or es i 0))) (chain n) ≡ t → Reaching es links n (i + 1) (next_in es (chain n) (i + 1))
+          → Reaching es links n i (next_in es (chain n) i)
       go true q r =
           let own = eqb-true (chain (number_in (get_or es i 0))) (chain n) q in
-          subst (Along P es links n x) (sym (next_here es (chain n) i h own))
-          (record { chained = c; skips = skips; upto = omega arith; own = λ l. own; done = p })
+          rw (next_here es (chain n) i h own) (record { standing = record { chained = c; upto = omega arith; own = λ l. own }; same = refl })
       go false q r =
           let f = eqb-false (chain (number_in (get_or es i 0))) (chain n) q in
-          subst (Along P es links n x) (sym (next_past es (chain n) i h f)) (r (skips x i h (ne_eqb (number_in (get_or es i 0)) n (λ e. f (ap chain e))) p))
+          rw (next_past es (chain n) i h f)
+          (record { standing = r.standing; same = left_other es n i h (λ e. f (ap chain e)) ∙ r.same })
 
-  pub along_start : {j : ℕ} → P x 0 → j ≡ get_or links (chain n) 0 → Along P es links n x j
-  along_start p e = rw (e ∙ c.first (chain n) (omega arith)) (along_from (length es) 0 (omega arith) p)
+  pub reaching_first : {j : ℕ} → j ≡ get_or links (chain n) 0 → Reaching es links n 0 j
+  reaching_first e = rw (e ∙ c.first (chain n) (omega arith)) (reaching_from (length es) 0 (omega arith))
 
 -- the entry at the walk's place has a link, to a place further on
-module _ {S : Type 0} {P : S → ℕ → Type 0} {es links : List ℕ} {n i : ℕ} {x : S} (w : Along P es links n x i) (h : i < length es) where
-  pub along_inside : chains + i < length links
-  along_inside = omega (arith, w.chained.few, w.chained.long)
+module _ {es links : List ℕ} {n i : ℕ} (w : Standing es links n i) (h : i < length es) where
+  pub link_inside : chains + i < length links
+  link_inside = omega (arith, w.chained.few, w.chained.long)
 
-  module _ {j : ℕ} where
-    pub along_less : j ≡ get_or links (chains + i) 0 → length es - j < length es - i
+  module _ {j : ℕ} (e : j ≡ get_or links (chains + i) 0) where
+    pub link_further : i < j
     unfolding next_in
-    along_less e = omega (arith, e, w.chained.next i h)
+    link_further = omega (arith, e, w.chained.next i h)
 
-    pub along_next : {y : S} → P y (i + 1) → j ≡ get_or links (chains + i) 0 → Along P es links n y j
-    along_next {y} p e =
+    pub link_reaches : Reaching es links n (i + 1) j
+    link_reaches =
         rw (e ∙ w.chained.next i h ∙ ap (λ (k : ℕ). next_in es k (i + 1)) (w.own h))
-        (along_from w.chained w.skips y (length es - (i + 1)) (i + 1) (omega arith) p)
+        (reaching_from w.chained (length es - (i + 1)) (i + 1) (omega arith))
 
-    -- past an entry of another number
-    pub along_past : (number_in (get_or es i 0) ≡ n → ⊥) → j ≡ get_or links (chains + i) 0 → Along P es links n x j
-    along_past f e = along_next (w.skips x i h (ne_eqb (number_in (get_or es i 0)) n f) w.done) e
+-- what is so of a state at a place, and stays so past an entry of another number and with each entry of the number, is so at the table's end
+-- of the state that a fold over the number's places makes
+module _ {S : Type 0} (P : S → ℕ → Type 0) (f : S → ℕ → S) (es : List ℕ) (n : ℕ)
+    (other : (x : S) (i : ℕ) → i < length es → eqb (number_in (get_or es i 0)) n ≡ false → P x i → P x (i + 1))
+    (own : (x : S) (i : ℕ) → i < length es → eqb (number_in (get_or es i 0)) n ≡ true → P x i → P (f x i) (i + 1)) where
+  walked_from : (k i : ℕ) → i + k ≡ length es → (x : S) → P x i → P (fold f x (places_left es n i)) (length es)
+  walked_from zero i e x p =
+      let s : i ≡ length es = omega arith in
+      rw (left_none es n i (omega arith)) (subst (P x) s p)
+  walked_from (suc k) i e x p = go (eqb (number_in (get_or es i 0)) n) refl (walked_from k (i + 1) (omega arith))
+    where
+      h : i < length es
+      h = omega arith
 
-pub starts_inside : {es links : List ℕ} → Chained es links → chains ≤ length links
-starts_inside c = omega (arith, c.long)
+      go : (t : Bool) → eqb (number_in (get_or es i 0)) n ≡ t → ((y : S) → P y (i + 1) → P (fold f y (places_left es n (i + 1))) (length es))
+          → P (fold f x (places_left es n i)) (length es)
+      go true q r = rw (left_own es n i h (eqb-true (number_in (get_or es i 0)) n q)) (r (f x i) (own x i h q p))
+      go false q r = rw (left_other es n i h (eqb-false (number_in (get_or es i 0)) n q)) (r x (other x i h q p))
+
+  pub walked : (x : S) → P x 0 → P (fold f x (places_left es n 0)) (length es)
+  walked = walked_from (length es) 0 (omega arith)
+
+-- the places of a number are within the table
+inside_from : (es : List ℕ) (n k i : ℕ) → i + k ≡ length es → All (λ j. j < length es) (places_left es n i)
+inside_from es n zero i e = rw (left_none es n i (omega arith)) tt
+inside_from es n (suc k) i e = go (eqb (number_in (get_or es i 0)) n) refl (inside_from es n k (i + 1) (omega arith))
+  where
+    go : (t : Bool) → eqb (number_in (get_or es i 0)) n ≡ t → All (λ j. j < length es) (places_left es n (i + 1)) → All (λ j. j < length es) (places_left es n i)
+    go true q r = rw (left_own es n i (omega arith) (eqb-true (number_in (get_or es i 0)) n q)) (omega arith, r)
+    go false q r = rw (left_other es n i (omega arith) (eqb-false (number_in (get_or es i 0)) n q)) r
+
+pub places_inside : (es : List ℕ) (n : ℕ) → All (λ i. i < length es) (places_left es n 0)
+places_inside es n = inside_from es n (length es) 0 (omega arith)
+
+-- a loop over places below a size: of those that are left it makes what all of them come to
+pub record Walking {A : Type 0} (size : ℕ) (value : List ℕ → A) (total : A) (left : List ℕ) : Type 0 where
+  pub inside : All (λ i. i < size) left
+  pub same : value left ≡ total
+
+pub walking_start : {A : Type 0} {left : List ℕ} {value : List ℕ → A} {total : A} (es : List ℕ) (n : ℕ) → left ≡ places_left es n 0 → value (places_left es n 0) ≡ total
+    → Walking (length es) value total left
+walking_start es n e f = rw e (record { inside = places_inside es n; same = f })
+
+module _ {A : Type 0} {size : ℕ} {value : List ℕ → A} {total : A} {left : List ℕ} (w : Walking size value total left) where
+  pub walking_inside : {i : ℕ} {rest : List ℕ} → left ≡ i ∷ rest → i < size
+  walking_inside e = (rw e at w.inside).0
+
+  pub walking_at : {xs : List ℕ} → left ≡ xs → value xs ≡ total
+  walking_at e = rw e at w.same
+
+  pub walking_next : {next : List ℕ → A} {i : ℕ} {rest : List ℕ} → left ≡ i ∷ rest → value (i ∷ rest) ≡ next rest → Walking size next total rest
+  walking_next e f = record { inside = (rw e at w.inside).1; same = sym f ∙ walking_at e }

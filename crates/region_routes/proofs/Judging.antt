@@ -11,7 +11,7 @@ use lib.ListN.{length, get_or-eq_default}
 use borrow.Author.Tests.{eqb-true, eqb-false, lt-ltb}
 use Rattle.region_graph.specs.Size.{regions}
 use Rattle.region_graph.specs.Lists.{pick, exists, All, keep}
-use Rattle.region_graph.specs.Sets.{bit, has, singleton, set_of}
+use Rattle.region_graph.specs.Sets.{bit, singleton, set_of}
 use Rattle.region_graph.specs.Model.{Model, Bundle, Legal, LegalBundle}
 use Rattle.region_graph.specs.Calls.{at_location}
 use Rattle.region_graph.specs.Items.{holds, crosses, provides}
@@ -24,13 +24,11 @@ use Rattle.region_graph.proofs.Bits.{bit_le, bit_zero, in_lt, set_below_lt, bit_
 use Rattle.region_graph.proofs.Views.{counted_at}
 use Rattle.region_routes.specs.Route.{Route, last, next, Best}
 use Rattle.region_routes.specs.Chosen.{chosen_by, found, chosen, sees, PassesTo, HeldAt}
-use Rattle.region_routes.specs.Hooks.{Outcome, routed, shown, sees_from}
+use Rattle.region_routes.specs.Hooks.{Outcome, Routed, routed, shown, sees_from}
 use Rattle.region_routes.specs.Resolve.{reaches}
 use Rattle.region_routes.specs.Tables.{stands_in}
-use Rattle.region_routes.specs.Search.{In, RegionSets, Conn, Searched, Reached, InLayer, Walkable, Walked, end_set}
+use Rattle.region_routes.specs.Search.{In, RegionSets, Conn, At, Searched, InLayer, Walkable, Walked, end_set}
 use Rattle.region_routes.specs.declared.search.Ends.{Ends}
-use Rattle.region_routes.specs.declared.Routed.{Routed}
-use Rattle.region_routes.specs.declared.Routed.TheVariants.{Count}
 use Rattle.region_routes.proofs.Choosing.{crosses_inside, by_best, by_none, found_is}
 use Rattle.region_routes.proofs.Layers.{trail, shallower}
 use Rattle.region_routes.proofs.RouteLaws.{lt_or_ge, carry, carry_best}
@@ -132,14 +130,10 @@ module _ {cross : ℕ → ℕ → Bool} {ends : ℕ → Bool} {pred : List ℕ} 
 
     module _ (r : ℕ) (l : r < regions) where
       -- a region that is not reached has no route
-      pub unreached_none : has reached r ≡ false → none ≡ chosen_by cross ends r
-      unreached_none e =
-          sym (by_none cross ends tied.inside r (λ p t. eqb-false (bit reached r) 1 (rw (lt-ltb r regions l) at e) (route_reached t)))
+      pub unreached_none : ((j : ℕ) → j ≤ deep → At sets j r → ⊥) → none ≡ chosen_by cross ends r
+      unreached_none e = sym (by_none cross ends tied.inside r (λ p t. let x = f.from r (route_reached t) in e x.0 x.1 x.2))
 
-      -- a region that is reached: its layer is found, and a walk can start there
-      pub layer_of_reached : has reached r ≡ true → Reached sets deep r
-      layer_of_reached e = record { low = f.low; inside = l; some_layer = f.from r (eqb-true (bit reached r) 1 (rw (lt-ltb r regions l) at e)) }
-
+      -- from the layer of a region a walk can start
       pub walk_from : {d : ℕ} → InLayer sets deep r d → Walkable pred sets d r
       walk_from w = record {
         layered =
@@ -152,14 +146,14 @@ module _ {cross : ℕ → ℕ → Bool} {ends : ℕ → Bool} {pred : List ℕ} 
 
       -- what the walk writes is the chosen route
       pub walked_by : {d : ℕ} {entry exit : List ℕ} → Walked pred sets d r entry exit
-          → ◌≡◌ {A = Outcome Routed (List ℕ)} (routed (Count d) exit) (shown (chosen_by cross ends r) entry)
+          → ◌≡◌ {A = Outcome Routed (List ℕ)} (routed (Routed.Count d) exit) (shown (chosen_by cross ends r) entry)
       walked_by {d} {entry} {exit} w =
           let b : Best (λ r s. cross r s ≡ true) (λ r. ends r ≡ true) r w.path
           = carry_best tied.conn_cross (λ n k. tied.in_ends n (f.layered.holds n k)) tied.cross_conn
           (λ n k. f.layered.base n (tied.ends_in n k)) w.best in
           let e : chosen_by cross ends r ≡ some w.path = by_best cross ends tied.inside r w.path b in
           let n : length w.path - 1 ≡ d = omega (arith, w.counted) in
-          rw e (λ j. routed (Count (sym n j)) (w.exit_is j))
+          rw e (λ j. routed (Routed.Count (sym n j)) (w.exit_is j))
 
 -- a search from no holder reaches nothing
 none_searched : (pred : List ℕ) → Searched pred 0 [] 0 0
@@ -215,18 +209,15 @@ module _ (m : Model) (i : Item) (h : Legal m) where
     reached_sees = reached_found tied f
 
     module _ (r : ℕ) (l : r < regions) where
-      pub unreached : has reached r ≡ false → none ≡ chosen m i r
+      pub unreached : ((j : ℕ) → j ≤ deep → At sets j r → ⊥) → none ≡ chosen m i r
       unfolding chosen
       unreached = unreached_none tied f r l
-
-      pub reached_layer : has reached r ≡ true → Reached sets deep r
-      reached_layer = layer_of_reached tied f r l
 
       pub walkable : {d : ℕ} → InLayer sets deep r d → Walkable (predecessor_sets m i) sets d r
       walkable = walk_from tied f r l
 
       pub walked_chosen : {d : ℕ} {entry exit : List ℕ} → Walked (predecessor_sets m i) sets d r entry exit
-          → ◌≡◌ {A = Outcome Routed (List ℕ)} (routed (Count d) exit) (shown (chosen m i r) entry)
+          → ◌≡◌ {A = Outcome Routed (List ℕ)} (routed (Routed.Count d) exit) (shown (chosen m i r) entry)
       unfolding chosen
       walked_chosen = walked_by tied f r l
 

@@ -1,24 +1,20 @@
--- A loop that writes what passes a test to the start of a lent buffer, and the search for a listener that is not installed.
+-- A loop that writes what passes a test to the start of a lent buffer.
 use mathlib.Core.Path.{◌≡◌, refl, sym, ap, ◌∙◌}
-use mathlib.Core.Bool.{Bool, true, false, ◌&&◌}
+use mathlib.Core.Bool.{Bool, true, false}
 use mathlib.Core.List.{List, [], ◌∷◌, ◌++◌, map}
 use Prim.Native.Nat.{ℕ, suc, ◌+◌, ◌≤◌, ◌<◌}
 use native.Mathlib.Numerals.{add-one}
 use native.Mathlib.Omega.{arith}
-use lib.ListN.{length, get_or, take, drop, set, length-append, length-map, length-set, drop_of_length-le}
+use lib.ListN.{length, get_or, take, drop, set, length-append, length-map, length-set}
 use lib.Seq.{set_at, append_snoc, drop-cons, take_all}
 use borrow.Author.Tests.{lt-ltb}
 use Rattle.region_graph.specs.Size.{regions}
 use Rattle.region_graph.specs.Lists.{keep}
 use Rattle.region_graph.specs.Sets.{has, set_of}
-use Rattle.region_graph.specs.declared.Place.{Place}
 use Rattle.region_graph.proofs.Lists.{map_append, keep_took, keep_left}
 use Rattle.region_graph.proofs.Bits.{has_set}
 use Rattle.region_graph.proofs.Storing.{map_id}
-use Rattle.region_routes.specs.Hooks.{Outcome, kept, written, kept_outcome, is_installed}
-use Rattle.region_routes.specs.Tables.{all_placed}
-use Rattle.region_routes.specs.declared.Kept.{Kept}
-use Rattle.region_routes.specs.declared.Kept.TheVariants.{Wrote}
+use Rattle.region_routes.specs.Hooks.{Outcome, Kept, kept, written, kept_outcome}
 
 -- one more is written
 written_more : (xs entry : List ℕ) (x : ℕ) → length xs < length entry → set (written xs entry) (length xs) x ≡ written (xs ++ (x ∷ [])) entry
@@ -89,32 +85,10 @@ module _ {T : Type 0} {p : T → ℕ → Bool} {xs : List ℕ} {entry : List ℕ
     pub keeping_failed : i < length xs → ((t : T) → p t (get_or xs i 0) ≡ false) → Keeping p xs (i + 1) n entry out
     keeping_failed = part_failed k 0
 
-    pub keeping_end : length xs ≤ i → (t : T) → ◌≡◌ {A = Outcome Kept (List ℕ)} (kept (Wrote n) out) (kept_outcome (keep (p t) xs) entry)
+    pub keeping_end : length xs ≤ i → (t : T) → ◌≡◌ {A = Outcome Kept (List ℕ)} (kept (Kept.Wrote n) out) (kept_outcome (keep (p t) xs) entry)
     keeping_end h t =
-        λ j. kept (Wrote (part_count k h t j)) ((part_exit k h t ∙ ap (λ (ys : List ℕ). written ys entry) (map_id (keep (p t) xs))) j)
+        λ j. kept (Kept.Wrote (part_count k h t j)) ((part_exit k h t ∙ ap (λ (ys : List ℕ). written ys entry) (map_id (keep (p t) xs))) j)
 
 -- whether a region is in the set of those that pass a test
 pub has_by : (p : ℕ → Bool) (r : ℕ) {set : ℕ} {a b : Bool} → set ≡ set_of p → r < regions → a ≡ has set r → a ≡ b → p r ≡ b
 has_by p r e l h t = sym (h ∙ ap (λ (x : ℕ). has x r) e ∙ has_set p r ∙ rw (lt-ltb r regions l)) ∙ t
-
--- each listener has a place where each from the i-th on has one
-pub record Placing (place : ℕ → Place) (xs : List ℕ) (i : ℕ) : Type 0 where
-  pub upto : i ≤ length xs
-  pub left : all_placed place xs ≡ all_placed place (drop i xs)
-
-module _ {place : ℕ → Place} {xs : List ℕ} where
-  pub placing_start : Placing place xs 0
-  placing_start = record { upto = omega arith; left = refl }
-
-  module _ {i : ℕ} (p : Placing place xs i) where
-    placing_by : i < length xs → (b : Bool) → is_installed (place (get_or xs i 0)) ≡ b → all_placed place xs ≡ (b && all_placed place (drop (i + 1) xs))
-    placing_by h b e = p.left ∙ rw (add-one, drop-cons xs i 0 h, e)
-
-    pub placing_stop : i < length xs → is_installed (place (get_or xs i 0)) ≡ false → false ≡ all_placed place xs
-    placing_stop h e = sym (placing_by h false e)
-
-    pub placing_next : i < length xs → is_installed (place (get_or xs i 0)) ≡ true → Placing place xs (i + 1)
-    placing_next h e = record { upto = omega arith; left = placing_by h true e }
-
-    pub placing_end : length xs ≤ i → true ≡ all_placed place xs
-    placing_end h = sym (p.left ∙ rw (drop_of_length-le xs h))

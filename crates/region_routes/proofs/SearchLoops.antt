@@ -39,9 +39,9 @@ pub lowest_in : {left r : ℕ} → left < 2 ^ 64 → 0 < left → r ≡ count_tr
 lowest_in {left} word pos e = subst (In left) (sym e) (low_in 64 left pos word)
 
 -- what the functions of the turn answer
-pub taken : {left r rest : ℕ} → SetOfRegions left → left < 2 ^ 64 → 0 < left → r ≡ count_trailing_zeros 64 left
+pub taken : {left r rest : ℕ} → left < 2 ^ 64 → 0 < left → r ≡ count_trailing_zeros 64 left
     → rest ≡ bit_and left (2 ^ 64 - 1 - singleton (count_trailing_zeros 64 left)) → Taken left r rest
-taken {left} {r} {rest} small word pos e f = record {
+taken {left} {r} {rest} word pos e f = record {
   inside = inside;
   low = low;
   gone = gone;
@@ -60,7 +60,7 @@ taken {left} {r} {rest} small word pos e f = record {
     inside = lowest_in word pos e
 
     low : r < regions
-    low = small r inside
+    low = in_lt regions left r word inside
 
     alone_is : alone ≡ 2 ^ r
     alone_is = ap (λ b. pick b (2 ^ r) 0) (lt-ltb r regions low)

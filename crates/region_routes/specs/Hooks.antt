@@ -1,20 +1,20 @@
 -- Document 01, "Routes" and "Hooks", and C-15 of document 02: what the route call, the finds and the events answer and leave in the buffer that
 -- they are lent.
-use Rattle.std.specs.Prelude.{Bool, true, false, ◌&&◌, List, [], ◌∷◌, ◌++◌, ℕ, ◌-◌, eqb, leb, length, drop}
+use Rattle.std.specs.Prelude.{Bool, true, false, ◌&&◌, List, [], ◌∷◌, ◌++◌, ℕ, ◌-◌, eqb, leb, length, drop, Result, Ok, Err, Some, None}
+use Rattle.std.specs.Prelude.{Option as Maybe}
 use Rattle.std.proofs.Math.Option.{Option, some, none}
 use Rattle.region_graph.specs.Size.{regions}
-use Rattle.region_graph.specs.Refusals.{not_refused, not_installed, not_a_kind, no_place}
+use Rattle.region_graph.specs.Refusals.{not_refused, not_installed, not_a_kind, no_place, refusal_number}
 use Rattle.region_graph.specs.Lists.{pick, keep}
 use Rattle.region_graph.specs.Model.{Model}
 use Rattle.region_graph.specs.Calls.{Question, ask, first_no}
 use Rattle.region_graph.specs.Promise.{place_of}
 use Rattle.region_graph.specs.declared.Item.{Item}
+use Rattle.region_graph.specs.declared.refusals.Refusal.{Refusal}
 use Rattle.region_graph.specs.declared.Place.{Place}
 use Rattle.region_graph.specs.declared.Place.TheVariants.{Within, Nowhere}
 use Rattle.region_routes.specs.Chosen.{chosen, sees}
 use Rattle.region_routes.specs.declared.Kind.{Kind}
-use Rattle.region_routes.specs.declared.Routed.{Routed}
-use Rattle.region_routes.specs.declared.Kept.{Kept}
 
 -- the numbers of the kinds
 abbrev pub kind_number : Kind → ℕ
@@ -29,6 +29,27 @@ item kind number version = record { kind = kind; number = number; version = vers
 -- what is written stands at the buffer's start; later places keep their values
 abbrev pub written : List ℕ → List ℕ → List ℕ
 written xs entry = xs ++ drop (length xs) entry
+
+-- what a route call answers: hidden, the route's count of connections, or a refusal's number
+pub data Routed : Type 0 where
+  Hidden : Routed
+  Count : ℕ → Routed
+  Refused : ℕ → Routed
+
+-- what a hook answers: how many were written, or a refusal's number
+pub data Kept : Type 0 where
+  Wrote : ℕ → Kept
+  Refused : ℕ → Kept
+
+-- the same of what the calls return
+abbrev pub routed_answer : Result (Maybe ℕ) Refusal → Routed
+routed_answer (Ok None) = Routed.Hidden
+routed_answer (Ok (Some n)) = Routed.Count n
+routed_answer (Err r) = Routed.Refused (refusal_number r)
+
+abbrev pub kept_answer : Result ℕ Refusal → Kept
+kept_answer (Ok n) = Kept.Wrote n
+kept_answer (Err r) = Kept.Refused (refusal_number r)
 
 -- what document 01 says is returned for each answer: the refusal's number, or 0 and the count
 pub record Returned : Type 0 where

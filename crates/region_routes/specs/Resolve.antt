@@ -7,18 +7,16 @@ use Rattle.region_graph.specs.Calls.{Question, ask, first_no}
 use Rattle.region_graph.specs.Items.{crosses}
 use Rattle.region_graph.specs.Promise.{place_of, provider_place}
 use Rattle.region_graph.specs.declared.Item.{Item}
+pub use Rattle.region_routes.specs.declared.resolver.Candidate.{Candidate}
+use Rattle.region_routes.specs.declared.resolver.Candidates.{Candidates}
 use Rattle.region_graph.specs.declared.Place.{Place}
 use Rattle.region_graph.specs.declared.Place.TheVariants.{Within, Nowhere}
 use Rattle.region_routes.specs.Chosen.{chosen_by, found}
-use Rattle.region_routes.specs.Hooks.{kind_number, item, written, Outcome, kept, is_installed, judged}
+use Rattle.region_routes.specs.Hooks.{kind_number, item, written, Outcome, Kept, kept, is_installed, judged}
 use Rattle.region_routes.specs.declared.Kind.TheVariants as Kind
-use Rattle.region_routes.specs.declared.Kept.{Kept}
 
--- an exporter's location with a package
-pub record Candidate : Type 0 where
-  pub exporter : ℕ
-  pub number : ℕ
-  pub version : ℕ
+abbrev pub no_candidate : Candidate
+no_candidate = record { exporter = 0; number = 0; version = 0 }
 
 -- the candidates whose parts stand at equal places of the lists: the shortest list counts them
 abbrev pub candidates : List ℕ → List ℕ → List ℕ → List Candidate
@@ -26,6 +24,10 @@ candidates [] ns vs = []
 candidates (e ∷ es) [] vs = []
 candidates (e ∷ es) (n ∷ ns) [] = []
 candidates (e ∷ es) (n ∷ ns) (v ∷ vs) = record { exporter = e; number = n; version = v } ∷ candidates es ns vs
+
+-- those that are handed in as lists of their parts
+abbrev pub candidate_list : Candidates → List Candidate
+candidate_list c = candidates c.exporters.now c.packages.now c.versions.now
 
 -- a list for each part
 abbrev pub parts : List Candidate → List (List ℕ)

@@ -1,5 +1,7 @@
 -- What the functions of the search promise each other: layers of regions by their distance to a holder, as sets.
-use Rattle.std.specs.Prelude.{◌≡◌, List, ◌++◌, ℕ, suc, ◌<◌, ◌≤◌, ◌^◌, length, get_or, drop}
+use Rattle.std.specs.Prelude.{◌≡◌, List, ◌++◌, ℕ, suc, ◌-◌, ◌<◌, ◌≤◌, ◌^◌, length, get_or, drop, Option, MatchOption}
+use Rattle.std.specs.Int.Bits.{bit_and}
+use Rattle.std.specs.Int.Count.{count_trailing_zeros}
 use Rattle.region_graph.specs.Size.{regions}
 use Rattle.region_graph.specs.Sets.{bit, singleton}
 use Rattle.region_graph.specs.Model.{Model}
@@ -15,6 +17,12 @@ In x n = bit x n ≡ 1
 -- the members of x are regions
 abbrev pub SetOfRegions : ℕ → Type 0
 SetOfRegions x = (n : ℕ) → In x n → n < regions
+
+-- an iterator whose state shows the members that are left takes the lowest of them
+abbrev pub TakesLowest : {S : Type 0} → (S → ℕ) → S → Option ℕ → S → Type 0
+TakesLowest left s r t =
+    MatchOption r (left s ≡ 0)
+    (λ n. (0 < left s) × (n ≡ count_trailing_zeros 64 (left s)) × (left t ≡ bit_and (left s) (2 ^ 64 - 1 - singleton (count_trailing_zeros 64 (left s)))))
 
 -- for each region a set of regions
 pub record RegionSets (pred : List ℕ) : Type 0 where
@@ -59,12 +67,7 @@ abbrev pub end_set : Model → Item → Ends → ℕ
 end_set m i Ends.Holders = holder_set m i
 end_set m i (Ends.Region t) = singleton t
 
--- a region of some layer up to `deep`, and the layer that a search for it finds
-pub record Reached (sets : List ℕ) (deep region : ℕ) : Type 0 where
-  pub low : deep < regions
-  pub inside : region < regions
-  pub some_layer : (j : ℕ) × (j ≤ deep) × (At sets j region)
-
+-- the layer of a region, of those up to `deep`
 pub record InLayer (sets : List ℕ) (deep region layer : ℕ) : Type 0 where
   pub within : layer ≤ deep
   pub here : At sets layer region

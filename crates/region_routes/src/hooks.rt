@@ -1,34 +1,36 @@
 // The hooks but resolve. A find writes the candidates that its bundle sees, an event the listeners that see its item: order and repetitions
 // kept.
-ghost use Rattle.std.specs.Prelude.{◌≡◌, false, eqb, ℕ, ◌<◌, ◌≤◌, length};
+ghost use Rattle.std.specs.Prelude.{◌≡◌, Bool, false, eqb, ℕ, ◌<◌, ◌≤◌, ◌^◌, length};
 ghost use Rattle.region_graph.specs.Size.{regions};
 ghost use Rattle.region_graph.specs.Lists.{keep};
 ghost use Rattle.region_graph.specs.Model.{Model};
 ghost use Rattle.region_graph.specs.Record.{Valid, meaning};
 ghost use Rattle.region_routes.specs.Chosen.{sees};
-ghost use Rattle.region_routes.specs.Hooks.{kind_number, item, kept, kept_outcome, find_outcome, event_outcome};
-ghost use Rattle.region_routes.specs.Tables.{NumberTables, most_entries, «place_at», «all_placed», stands_in};
-ghost use Rattle.region_routes.specs.Chains.{Chained};
+ghost use Rattle.region_routes.specs.Hooks.{kind_number, item, Kept, kept, kept_answer, kept_outcome, find_outcome, event_outcome, is_installed};
+ghost use Rattle.region_routes.specs.Tables.{NumberTables, most_entries, everything_number, «step_in», predecessors_by, «place_at», «all_placed», stands_in};
 
+use crate::Kind;
 use crate::search::{regions_seeing, regions_seeing_by};
-use crate::tables::{
-    EVERYTHING_NUMBER, FEW, MOST_ENTRIES, chained, offers, passages, place_of, predecessors, wide,
-};
-use crate::{Kept, Kind};
-use region_graph::refusals::{NO_PLACE, NOT_INSTALLED};
+use crate::tables::{Chains, EVERYTHING_NUMBER, FEW, MOST_ENTRIES, offers, passages, wide};
+use region_graph::refusals::Refusal;
 use region_graph::region_set::has;
 use region_graph::size::REGIONS;
-use region_graph::{Graph, Item, Place};
+use region_graph::{Graph, Place};
 
-// The number of a kind.
-pub fn kind_number(kind: Kind) -> u32
-    ensures { result ≡ kind_number kind }
+// Writes the candidates that pass a test, and gives their count.
+fn keep_where<F: Fn(u32) -> bool>(candidates: &[u32], out: &mut [u32], keeps: F) -> usize
+    requires callable { F.IsAlwaysCallable keeps }
+    requires candidates_in_bounds { length candidates.now ≤ length out.old }
+    ensures { (p : ℕ → Bool) → ((n : ℕ) (answer : Bool) → n < 2 ^ 32 → F.post keeps n answer → answer ≡ p n) → kept (Kept.Wrote result) out.new ≡ kept_outcome (keep p candidates.now) out.old }
 {
-    match kind {
-        Kind::Bundle => 0,
-        Kind::Package => 1,
-        Kind::Service => 2,
+    let mut count: usize = 0;
+    for candidate in candidates {
+        if keeps(*candidate) {
+            out[count] = *candidate;
+            count += 1;
+        }
     }
+    count
 }
 
 // Writes the candidates of a kind that a region sees, by the tables of the kind, which are chained first.
@@ -43,22 +45,22 @@ fn keep_seen(
     requires region_lt_regions { (region < regions) × (length candidates.now ≤ length out.old) }
     ensures { (m : Model) (kind : ℕ) → NumberTables m kind offered.now passing.now → kept (Kept.Wrote result) out.new ≡ kept_outcome (keep (λ n. sees m (item kind n 0) region) candidates.now) out.old }
 {
-    let offer_links = chained(offered);
-    let pass_links = chained(passing);
-    let none = [0u64; REGIONS];
-    let always = predecessors(passing, &pass_links, EVERYTHING_NUMBER, none);
-    let mut n: usize = 0;
-    let mut i: usize = 0;
-    while i < candidates.len() {
-        let number = candidates[i];
-        i += 1;
-        let set = regions_seeing_by(offered, &offer_links, passing, &pass_links, always, number);
-        if has(set, region) {
-            out[n] = number;
-            n += 1;
-        }
-    }
-    n
+    let offered = Chains::of(offered);
+    let passing = Chains::of(passing);
+    let always = passing.predecessors(EVERYTHING_NUMBER, [0; REGIONS]);
+    keep_where(
+        candidates,
+        out,
+        |number|
+            requires { (always ≡ predecessors_by (step_in passing.table.now everything_number)) × (region < regions) }
+            ensures { (m : Model) (kind : ℕ) → NumberTables m kind offered.entry.table.now passing.entry.table.now → result ≡ sees m (item kind number 0) region }
+        {
+            has(
+                regions_seeing_by(&offered, &passing, always, number),
+                region,
+            )
+        },
+    )
 }
 
 // Writes the candidates of a kind by number that a region sees: makes the tables of the kind.
@@ -86,155 +88,140 @@ fn keep_few(graph: Graph, kind: Kind, region: u32, candidates: &[u32], out: &mut
     requires region_lt_regions { (region < regions) × (length candidates.now ≤ length out.old) }
     ensures { kept (Kept.Wrote result) out.new ≡ kept_outcome (keep (λ n. sees (meaning graph) (item (kind_number kind) n 0) region) candidates.now) out.old }
 {
-    let kind = kind_number(kind);
-    let mut n: usize = 0;
-    let mut i: usize = 0;
-    while i < candidates.len() {
-        let candidate = candidates[i];
-        i += 1;
-        let set = regions_seeing(
-            graph,
-            Item {
-                kind,
-                number: candidate,
-                version: 0,
-            },
-        );
-        if has(set, region) {
-            out[n] = candidate;
-            n += 1;
-        }
-    }
-    n
+    keep_where(
+        candidates,
+        out,
+        |number|
+            requires { Valid graph × (region < regions) }
+            ensures { result ≡ sees (meaning graph) (item (kind_number kind) number 0) region }
+        { has(regions_seeing(graph, kind.item(number)), region) },
+    )
 }
 
 // The items of a kind by number among the candidates that a bundle sees.
-fn find(graph: Graph, kind: Kind, location: u32, candidates: &[u32], out: &mut [u32]) -> Kept
+fn find(
+    graph: Graph,
+    kind: Kind,
+    location: u32,
+    candidates: &[u32],
+    out: &mut [u32],
+) -> Result<usize, Refusal>
     requires { Valid graph × (eqb (kind_number kind) (kind_number Kind.Package) ≡ false) }
-    ensures { kept result out.new ≡ find_outcome (meaning graph) kind location candidates.now out.old }
+    ensures { kept (kept_answer result) out.new ≡ find_outcome (meaning graph) kind location candidates.now out.old }
 {
-    let place = graph.region_of(location);
-    let Place::Within(region) = place else {
-        return Kept::Refused(NOT_INSTALLED);
+    let Place::Within(region) = graph.region_of(location) else {
+        return Err(Refusal::NotInstalled);
     };
     if out.len() < candidates.len() {
-        return Kept::Refused(NO_PLACE);
+        return Err(Refusal::NoPlace);
     }
     if candidates.len() < FEW {
-        let n = keep_few(graph, kind, region, candidates, out);
-        return Kept::Wrote(n);
+        return Ok(keep_few(graph, kind, region, candidates, out));
     }
-    let n = keep_many(graph, kind, region, candidates, out);
-    Kept::Wrote(n)
+    Ok(keep_many(graph, kind, region, candidates, out))
+}
+
+// Whether a listener has a place in the table of the bundles.
+fn is_placed(bundles: &Chains<'_>, listener: u32) -> bool
+    ensures { result ≡ is_installed (place_at bundles.now.table.now listener) }
+{
+    matches!(bundles.place_of(wide(listener)), Place::Within(_))
 }
 
 // Whether every listener has a place in the table of the bundles.
-fn all_installed(bundles: &[u64], links: &[u16], listeners: &[u32]) -> bool
-    requires { Chained bundles.now links.now }
-    ensures { result ≡ all_placed (place_at bundles.now) listeners.now }
+fn all_placed(bundles: &Chains<'_>, listeners: &[u32]) -> bool
+    ensures { result ≡ all_placed (place_at bundles.now.table.now) listeners.now }
 {
-    let mut i: usize = 0;
-    while i < listeners.len() {
-        let place = place_of(bundles, links, wide(listeners[i]));
-        i += 1;
-        if let Place::Nowhere = place {
-            return false;
-        }
-    }
-    true
+    listeners
+        .iter()
+        .all(|listener| is_placed(bundles, *listener))
 }
 
 // Whether a listener's region is in a set.
-fn stands_in(bundles: &[u64], links: &[u16], listener: u32, set: u64) -> bool
-    requires { Chained bundles.now links.now }
-    ensures { result ≡ stands_in set (place_at bundles.now listener) }
+fn stands_in(bundles: &Chains<'_>, listener: u32, set: u64) -> bool
+    ensures { result ≡ stands_in set (place_at bundles.now.table.now listener) }
 {
-    let place = place_of(bundles, links, wide(listener));
-    let Place::Within(region) = place else {
-        return false;
-    };
-    has(set, region)
-}
-
-// Writes the listeners whose regions are in a set.
-fn keep_standing(
-    bundles: &[u64],
-    links: &[u16],
-    set: u64,
-    listeners: &[u32],
-    out: &mut [u32],
-) -> usize
-    requires chained { Chained bundles.now links.now }
-    requires listeners_in_bounds { length listeners.now ≤ length out.old }
-    ensures { kept (Kept.Wrote result) out.new ≡ kept_outcome (keep (λ l. stands_in set (place_at bundles.now l)) listeners.now) out.old }
-{
-    let mut n: usize = 0;
-    let mut i: usize = 0;
-    while i < listeners.len() {
-        let listener = listeners[i];
-        i += 1;
-        if stands_in(bundles, links, listener, set) {
-            out[n] = listener;
-            n += 1;
-        }
+    match bundles.place_of(wide(listener)) {
+        Place::Within(region) => has(set, region),
+        Place::Nowhere => false,
     }
-    n
 }
 
-fn event(graph: Graph, kind: Kind, listeners: &[u32], number: u32, out: &mut [u32]) -> Kept
+// The listeners that see an item of a kind.
+fn event(
+    graph: Graph,
+    kind: Kind,
+    listeners: &[u32],
+    number: u32,
+    out: &mut [u32],
+) -> Result<usize, Refusal>
     requires { Valid graph }
-    ensures { kept result out.new ≡ event_outcome (meaning graph) kind listeners.now number out.old }
+    ensures { kept (kept_answer result) out.new ≡ event_outcome (meaning graph) kind listeners.now number out.old }
 {
-    let mut bundles = [0u64; MOST_ENTRIES];
-    let count = offers(&mut bundles, graph, Kind::Bundle);
-    let links = chained(&bundles[..count]);
-    if !all_installed(&bundles[..count], &links, listeners) {
-        return Kept::Refused(NOT_INSTALLED);
+    let mut offered = [0u64; MOST_ENTRIES];
+    let count = offers(&mut offered, graph, Kind::Bundle);
+    let bundles = Chains::of(&offered[..count]);
+    if !all_placed(&bundles, listeners) {
+        return Err(Refusal::NotInstalled);
     }
     if out.len() < listeners.len() {
-        return Kept::Refused(NO_PLACE);
+        return Err(Refusal::NoPlace);
     }
-    let kind = kind_number(kind);
-    let set = regions_seeing(
-        graph,
-        Item {
-            kind,
-            number,
-            version: 0,
-        },
-    );
-    let written = keep_standing(&bundles[..count], &links, set, listeners, out);
-    Kept::Wrote(written)
+    let seeing = regions_seeing(graph, kind.item(number));
+    let written = keep_where(listeners, out, |listener| {
+        stands_in(&bundles, listener, seeing)
+    });
+    Ok(written)
 }
 
 // The bundles among the candidates that a bundle sees.
-pub fn bundle_find(graph: Graph, location: u32, candidates: &[u32], out: &mut [u32]) -> Kept
+pub fn bundle_find(
+    graph: Graph,
+    location: u32,
+    candidates: &[u32],
+    out: &mut [u32],
+) -> Result<usize, Refusal>
     requires { Valid graph }
-    ensures { kept result out.new ≡ find_outcome (meaning graph) Kind.Bundle location candidates.now out.old }
+    ensures { kept (kept_answer result) out.new ≡ find_outcome (meaning graph) Kind.Bundle location candidates.now out.old }
 {
     find(graph, Kind::Bundle, location, candidates, out)
 }
 
 // The services among the candidates that a bundle sees.
-pub fn service_find(graph: Graph, location: u32, candidates: &[u32], out: &mut [u32]) -> Kept
+pub fn service_find(
+    graph: Graph,
+    location: u32,
+    candidates: &[u32],
+    out: &mut [u32],
+) -> Result<usize, Refusal>
     requires { Valid graph }
-    ensures { kept result out.new ≡ find_outcome (meaning graph) Kind.Service location candidates.now out.old }
+    ensures { kept (kept_answer result) out.new ≡ find_outcome (meaning graph) Kind.Service location candidates.now out.old }
 {
     find(graph, Kind::Service, location, candidates, out)
 }
 
 // The listeners that see a bundle.
-pub fn bundle_event(graph: Graph, listeners: &[u32], bundle: u32, out: &mut [u32]) -> Kept
+pub fn bundle_event(
+    graph: Graph,
+    listeners: &[u32],
+    bundle: u32,
+    out: &mut [u32],
+) -> Result<usize, Refusal>
     requires { Valid graph }
-    ensures { kept result out.new ≡ event_outcome (meaning graph) Kind.Bundle listeners.now bundle out.old }
+    ensures { kept (kept_answer result) out.new ≡ event_outcome (meaning graph) Kind.Bundle listeners.now bundle out.old }
 {
     event(graph, Kind::Bundle, listeners, bundle, out)
 }
 
 // The listeners that see a service.
-pub fn service_event(graph: Graph, listeners: &[u32], service: u32, out: &mut [u32]) -> Kept
+pub fn service_event(
+    graph: Graph,
+    listeners: &[u32],
+    service: u32,
+    out: &mut [u32],
+) -> Result<usize, Refusal>
     requires { Valid graph }
-    ensures { kept result out.new ≡ event_outcome (meaning graph) Kind.Service listeners.now service out.old }
+    ensures { kept (kept_answer result) out.new ≡ event_outcome (meaning graph) Kind.Service listeners.now service out.old }
 {
     event(graph, Kind::Service, listeners, service, out)
 }

@@ -1,171 +1,194 @@
 // Resolve: writes the candidates, exporters with packages, that a bundle is offered. The exporter is installed and exports the package, and a
 // route for it leads from the bundle's region to the exporter's. Order and repetitions are kept, the parts of a candidate at equal places.
-ghost use Rattle.std.specs.Prelude.{◌≡◌, [], ◌∷◌, ◌<◌, ◌≤◌, min, length};
+ghost use Rattle.std.specs.Prelude.{◌≡◌, Bool, [], ◌∷◌, ◌<◌, ◌≤◌, length, get_or};
 ghost use Rattle.region_graph.specs.Size.{regions};
 ghost use Rattle.region_graph.specs.Lists.{keep};
 ghost use Rattle.region_graph.specs.Model.{Model};
 ghost use Rattle.region_graph.specs.Record.{Valid, meaning};
-ghost use Rattle.region_routes.specs.Hooks.{kept};
-ghost use Rattle.region_routes.specs.Resolve.{candidates, is_offered, resolved, resolve_outcome};
+ghost use Rattle.region_routes.specs.Hooks.{Kept, kept, kept_answer};
+ghost use Rattle.region_routes.specs.Resolve.{Candidate, no_candidate, candidates, candidate_list, is_offered, resolved, resolve_outcome};
 ghost use Rattle.region_routes.specs.Tables.{ExportTables, Room, most_entries, everything_number, «step_in», predecessors_by};
-ghost use Rattle.region_routes.specs.Chains.{Chained};
 
-use crate::hooks::kind_number;
+use crate::Kind;
 use crate::search::{Ends, search, search_for};
 use crate::tables::{
-    EVERYTHING_NUMBER, FEW, MOST_ENTRIES, chained, offers, owner_number, owners, passages,
-    place_beside, predecessors, predecessors_between, spans, wide,
+    Chains, EVERYTHING_NUMBER, FEW, MOST_ENTRIES, offers, owner_number, owners, passages, spans,
+    wide,
 };
-use crate::{Kept, Kind};
-use region_graph::refusals::{NO_PLACE, NOT_INSTALLED};
+use region_graph::refusals::Refusal;
 use region_graph::region_set::{has, singleton};
 use region_graph::size::REGIONS;
 use region_graph::{Graph, Item, Place};
 
-// The shorter of two lengths.
-fn shorter(first: usize, second: usize) -> usize
-    ensures { result ≡ min first second }
-{
-    if second < first {
-        return second;
-    }
-    first
+// A candidate: an exporter's location with a package.
+#[derive(Clone, Copy)]
+pub struct Candidate {
+    pub exporter: u32,
+    pub number: u32,
+    pub version: u16,
 }
 
-// The count of the candidates: the shortest list's.
-fn counted(exporters: &[u32], packages: &[u32], versions: &[u16]) -> usize
-    ensures { result ≡ length (candidates exporters.now packages.now versions.now) }
+// Candidates that are handed in as lists of their parts: the shortest list counts them.
+#[derive(Clone, Copy)]
+pub struct Candidates<'a> {
+    pub exporters: &'a [u32],
+    pub packages: &'a [u32],
+    pub versions: &'a [u16],
+}
+
+#[tactic(auto, using(crate::proofs::Resolving::candidates_length, crate::proofs::Resolving::candidate_at))]
+impl<'a> Candidates<'a> {
+    fn count(self) -> usize
+        ensures { result ≡ length (candidate_list self.entry) }
+    {
+        self.exporters
+            .len()
+            .min(self.packages.len())
+            .min(self.versions.len())
+    }
+
+    fn at(self, place: usize) -> Candidate
+        requires { place < length (candidate_list self) }
+        ensures { result ≡ get_or (candidate_list self.entry) place no_candidate }
+    {
+        Candidate {
+            exporter: self.exporters[place],
+            number: self.packages[place],
+            version: self.versions[place],
+        }
+    }
+}
+
+// Writes the parts of the candidates that pass a test, and gives their count. The parts go to lists of their own, so that the C interface can
+// lend columns: the loop of the hooks, which writes numbers to one list, would not be shorter with lists and types of output as parameters.
+fn keep_where<F: Fn(Candidate) -> bool>(
+    given: Candidates<'_>,
+    out_exporters: &mut [u32],
+    out_packages: &mut [u32],
+    out_versions: &mut [u16],
+    keeps: F,
+) -> usize
+    requires callable { F.IsAlwaysCallable keeps }
+    requires room { Room (candidate_list given) out_exporters.old out_packages.old out_versions.old }
+    ensures { (p : Candidate → Bool) → ((c : Candidate) (answer : Bool) → F.post keeps c answer → answer ≡ p c) → kept (Kept.Wrote result) (out_exporters.new ∷ out_packages.new ∷ out_versions.new ∷ []) ≡ resolved (keep p (candidate_list given.entry)) (out_exporters.old ∷ out_packages.old ∷ out_versions.old ∷ []) }
 {
-    let count = shorter(exporters.len(), packages.len());
-    shorter(count, versions.len())
+    let mut count: usize = 0;
+    for place in 0..given.count() {
+        let candidate = given.at(place);
+        if keeps(candidate) {
+            out_exporters[count] = candidate.exporter;
+            out_packages[count] = candidate.number;
+            out_versions[count] = candidate.version;
+            count += 1;
+        }
+    }
+    count
 }
 
 // Whether a region is offered a candidate: asks the graph, and makes no tables.
-fn is_offered(graph: Graph, region: u32, exporter: u32, number: u32, version: u16) -> bool
+fn is_offered(graph: Graph, region: u32, candidate: Candidate) -> bool
     requires valid { Valid graph }
     requires region_lt_regions { region < regions }
-    ensures { result ≡ is_offered (meaning graph) (record { exporter = exporter; number = number; version = version }) region }
+    ensures { result ≡ is_offered (meaning graph) candidate region }
 {
-    let kind = kind_number(Kind::Package);
-    let item = Item {
-        kind,
-        number,
-        version,
+    let package = Item {
+        kind: Kind::Package.number(),
+        number: candidate.number,
+        version: candidate.version,
     };
-    let place = graph.provider(exporter, item);
-    let Place::Within(home) = place else {
-        return false;
-    };
-    let searched = search_for(graph, item, Ends::Region(home));
-    let found = searched.found;
-    has(found.reached, region)
+    match graph.provider(candidate.exporter, package) {
+        Place::Within(home) => {
+            let search = search_for(graph, package, Ends::Region(home));
+            has(search.layers.reached, region)
+        }
+        Place::Nowhere => false,
+    }
 }
 
-// The same by the chained tables of the packages, the exporters and the spans beside them, and the predecessors that the entries for all
-// numbers give.
-fn is_offered_by(
-    exported: &[u64],
-    export_links: &[u16],
-    owned: &[u64],
-    passing: &[u64],
-    pass_links: &[u16],
-    spans: &[u32],
+// The tables of the packages with their chains, the exporters and the spans beside them, and the predecessors that the entries for all numbers
+// give.
+#[derive(Drop)]
+struct PackageTables<'a> {
+    exported: Chains<'a>,
+    owned: &'a [u64],
+    passing: Chains<'a>,
+    spans: &'a [u32],
     always: [u64; REGIONS],
-    region: u32,
-    exporter: u32,
-    number: u32,
-    version: u16,
-) -> bool
-    requires chained { Chained exported.now export_links.now }
-    requires owned_len { length owned.now ≡ length exported.now }
-    requires chained_2 { Chained passing.now pass_links.now }
-    requires spans_len { length spans.now ≡ length passing.now }
-    requires always_value { always ≡ predecessors_by (step_in passing.now everything_number) }
-    requires region_lt_regions { region < regions }
-    ensures { (m : Model) → ExportTables m exported.now owned.now passing.now spans.now → result ≡ is_offered m (record { exporter = exporter; number = number; version = version }) region }
-{
-    let owner = owner_number(exporter, version);
-    let sought = wide(number);
-    let place = place_beside(exported, export_links, owned, owner, sought);
-    let Place::Within(home) = place else {
-        return false;
-    };
-    let pred = predecessors_between(passing, pass_links, spans, sought, version, always);
-    let layers = search(&pred, singleton(home));
-    has(layers.reached, region)
+    ghost owned_len: { length owned.now ≡ length exported.table.now },
+    ghost spans_len: { length spans.now ≡ length passing.table.now },
+    ghost always_value: { always ≡ predecessors_by (step_in passing.table.now everything_number) },
+}
+
+impl<'a> PackageTables<'a> {
+    // Whether a region is offered a candidate.
+    fn offers(&self, region: u32, candidate: Candidate) -> bool
+        requires { region < regions }
+        ensures { (m : Model) → ExportTables m self.now.exported.table.now self.now.owned.now self.now.passing.table.now self.now.spans.now → result ≡ is_offered m candidate region }
+    {
+        let owner = owner_number(candidate.exporter, candidate.version);
+        let sought = wide(candidate.number);
+        match self.exported.place_beside(self.owned, owner, sought) {
+            Place::Within(home) => {
+                let pred = self
+                    .passing
+                    .predecessors_between(self.spans, sought, candidate.version, self.always);
+                has(search(&pred, singleton(home)).reached, region)
+            }
+            Place::Nowhere => false,
+        }
+    }
 }
 
 // Writes the candidates that a region is offered, by the tables of the packages, which are chained first.
-#[tactic(auto, using(crate::proofs::Resolving::candidates_length))]
-fn resolve_by(
-    exported: &[u64],
-    owned: &[u64],
-    passing: &[u64],
-    spans: &[u32],
+fn resolve_by<'a>(
+    exported: &'a [u64],
+    owned: &'a [u64],
+    passing: &'a [u64],
+    spans: &'a [u32],
     region: u32,
-    exporters: &[u32],
-    packages: &[u32],
-    versions: &[u16],
+    given: Candidates<'_>,
     out_exporters: &mut [u32],
     out_packages: &mut [u32],
     out_versions: &mut [u16],
 ) -> usize
     requires exported_len_bound { (length exported.now ≤ most_entries) × (length passing.now ≤ most_entries) }
     requires owned_len { (length owned.now ≡ length exported.now) × (length spans.now ≡ length passing.now) }
-    requires region_lt_regions { (region < regions) × Room (candidates exporters.now packages.now versions.now) out_exporters.old out_packages.old out_versions.old }
-    ensures { (m : Model) → ExportTables m exported.now owned.now passing.now spans.now → kept (Kept.Wrote result) (out_exporters.new ∷ out_packages.new ∷ out_versions.new ∷ []) ≡ resolved (keep (λ c. is_offered m c region) (candidates exporters.now packages.now versions.now)) (out_exporters.old ∷ out_packages.old ∷ out_versions.old ∷ []) }
+    requires region_lt_regions { (region < regions) × Room (candidate_list given) out_exporters.old out_packages.old out_versions.old }
+    ensures { (m : Model) → ExportTables m exported.now owned.now passing.now spans.now → kept (Kept.Wrote result) (out_exporters.new ∷ out_packages.new ∷ out_versions.new ∷ []) ≡ resolved (keep (λ c. is_offered m c region) (candidate_list given.entry)) (out_exporters.old ∷ out_packages.old ∷ out_versions.old ∷ []) }
 {
-    let export_links = chained(exported);
-    let pass_links = chained(passing);
-    let none = [0u64; REGIONS];
-    let always = predecessors(passing, &pass_links, EVERYTHING_NUMBER, none);
-    let count = counted(exporters, packages, versions);
-    let mut n: usize = 0;
-    let mut i: usize = 0;
-    while i < count {
-        let exporter = exporters[i];
-        let number = packages[i];
-        let version = versions[i];
-        i += 1;
-        if is_offered_by(
-            exported,
-            &export_links,
-            owned,
-            passing,
-            &pass_links,
-            spans,
-            always,
-            region,
-            exporter,
-            number,
-            version,
-        ) {
-            out_exporters[n] = exporter;
-            out_packages[n] = number;
-            out_versions[n] = version;
-            n += 1;
-        }
-    }
-    n
+    let passing = Chains::of(passing);
+    let always = passing.predecessors(EVERYTHING_NUMBER, [0; REGIONS]);
+    let tables = PackageTables {
+        exported: Chains::of(exported),
+        owned,
+        passing,
+        spans,
+        always,
+    };
+    keep_where(
+        given,
+        out_exporters,
+        out_packages,
+        out_versions,
+        |candidate| { tables.offers(region, candidate) },
+    )
 }
 
 // Writes the candidates that a region is offered: makes the tables of the packages.
 fn resolve_many(
     graph: Graph,
     region: u32,
-    exporters: &[u32],
-    packages: &[u32],
-    versions: &[u16],
+    given: Candidates<'_>,
     out_exporters: &mut [u32],
     out_packages: &mut [u32],
     out_versions: &mut [u16],
 ) -> usize
     requires valid { Valid graph }
-    requires region_lt_regions { (region < regions) × Room (candidates exporters.now packages.now versions.now) out_exporters.old out_packages.old out_versions.old }
-    ensures { kept (Kept.Wrote result) (out_exporters.new ∷ out_packages.new ∷ out_versions.new ∷ []) ≡ resolved (keep (λ c. is_offered (meaning graph) c region) (candidates exporters.now packages.now versions.now)) (out_exporters.old ∷ out_packages.old ∷ out_versions.old ∷ []) }
+    requires region_lt_regions { (region < regions) × Room (candidate_list given) out_exporters.old out_packages.old out_versions.old }
+    ensures { kept (Kept.Wrote result) (out_exporters.new ∷ out_packages.new ∷ out_versions.new ∷ []) ≡ resolved (keep (λ c. is_offered (meaning graph) c region) (candidate_list given.entry)) (out_exporters.old ∷ out_packages.old ∷ out_versions.old ∷ []) }
 {
     let mut exported = [0u64; MOST_ENTRIES];
-    let given = offers(&mut exported, graph, Kind::Package);
+    let exports = offers(&mut exported, graph, Kind::Package);
     let mut owned = [0u64; MOST_ENTRIES];
     let located = owners(&mut owned, graph);
     let mut passing = [0u64; MOST_ENTRIES];
@@ -173,14 +196,12 @@ fn resolve_many(
     let mut span_places = [0u32; MOST_ENTRIES];
     let spanned = spans(&mut span_places, graph);
     resolve_by(
-        &exported[..given],
+        &exported[..exports],
         &owned[..located],
         &passing[..passed],
         &span_places[..spanned],
         region,
-        exporters,
-        packages,
-        versions,
+        given,
         out_exporters,
         out_packages,
         out_versions,
@@ -188,39 +209,27 @@ fn resolve_many(
 }
 
 // Writes the candidates that a region is offered: asks the graph about each, and makes no tables.
-#[tactic(auto, using(crate::proofs::Resolving::candidates_length))]
 fn resolve_few(
     graph: Graph,
     region: u32,
-    exporters: &[u32],
-    packages: &[u32],
-    versions: &[u16],
+    given: Candidates<'_>,
     out_exporters: &mut [u32],
     out_packages: &mut [u32],
     out_versions: &mut [u16],
 ) -> usize
-    requires { Valid graph × ((region < regions) × Room (candidates exporters.now packages.now versions.now) out_exporters.old out_packages.old out_versions.old) }
-    ensures { kept (Kept.Wrote result) (out_exporters.new ∷ out_packages.new ∷ out_versions.new ∷ []) ≡ resolved (keep (λ c. is_offered (meaning graph) c region) (candidates exporters.now packages.now versions.now)) (out_exporters.old ∷ out_packages.old ∷ out_versions.old ∷ []) }
+    requires { Valid graph × ((region < regions) × Room (candidate_list given) out_exporters.old out_packages.old out_versions.old) }
+    ensures { kept (Kept.Wrote result) (out_exporters.new ∷ out_packages.new ∷ out_versions.new ∷ []) ≡ resolved (keep (λ c. is_offered (meaning graph) c region) (candidate_list given.entry)) (out_exporters.old ∷ out_packages.old ∷ out_versions.old ∷ []) }
 {
-    let count = counted(exporters, packages, versions);
-    let mut n: usize = 0;
-    let mut i: usize = 0;
-    while i < count {
-        let exporter = exporters[i];
-        let package = packages[i];
-        let version = versions[i];
-        i += 1;
-        if is_offered(graph, region, exporter, package, version) {
-            out_exporters[n] = exporter;
-            out_packages[n] = package;
-            out_versions[n] = version;
-            n += 1;
-        }
-    }
-    n
+    keep_where(
+        given,
+        out_exporters,
+        out_packages,
+        out_versions,
+        |candidate| { is_offered(graph, region, candidate) },
+    )
 }
 
-// The candidates, exporters with packages, that a bundle is offered.
+// The candidates, exporters with packages, that a bundle is offered. The C interface lends the lists one by one.
 #[tactic(auto, using(crate::proofs::Judging::region_inside, crate::proofs::Answering::resolve_not_installed, crate::proofs::Answering::resolve_no_exporter_place, crate::proofs::Answering::resolve_no_number_place, crate::proofs::Answering::resolve_no_version_place, crate::proofs::Answering::resolve_answers))]
 pub fn resolve(
     graph: Graph,
@@ -231,46 +240,38 @@ pub fn resolve(
     out_exporters: &mut [u32],
     out_packages: &mut [u32],
     out_versions: &mut [u16],
-) -> Kept
+) -> Result<usize, Refusal>
     requires { Valid graph }
-    ensures { kept result (out_exporters.new ∷ out_packages.new ∷ out_versions.new ∷ []) ≡ resolve_outcome (meaning graph) location (candidates exporters.now packages.now versions.now) (out_exporters.old ∷ out_packages.old ∷ out_versions.old ∷ []) }
+    ensures { kept (kept_answer result) (out_exporters.new ∷ out_packages.new ∷ out_versions.new ∷ []) ≡ resolve_outcome (meaning graph) location (candidates exporters.now packages.now versions.now) (out_exporters.old ∷ out_packages.old ∷ out_versions.old ∷ []) }
 {
-    let place = graph.region_of(location);
-    let Place::Within(region) = place else {
-        return Kept::Refused(NOT_INSTALLED);
+    let Place::Within(region) = graph.region_of(location) else {
+        return Err(Refusal::NotInstalled);
     };
-    let count = counted(exporters, packages, versions);
-    if out_exporters.len() < count {
-        return Kept::Refused(NO_PLACE);
-    }
-    if out_packages.len() < count {
-        return Kept::Refused(NO_PLACE);
-    }
-    if out_versions.len() < count {
-        return Kept::Refused(NO_PLACE);
-    }
-    if count < FEW {
-        let n = resolve_few(
-            graph,
-            region,
-            exporters,
-            packages,
-            versions,
-            out_exporters,
-            out_packages,
-            out_versions,
-        );
-        return Kept::Wrote(n);
-    }
-    let n = resolve_many(
-        graph,
-        region,
+    let given = Candidates {
         exporters,
         packages,
         versions,
+    };
+    let count = given.count();
+    if out_exporters.len() < count || out_packages.len() < count || out_versions.len() < count {
+        return Err(Refusal::NoPlace);
+    }
+    if count < FEW {
+        return Ok(resolve_few(
+            graph,
+            region,
+            given,
+            out_exporters,
+            out_packages,
+            out_versions,
+        ));
+    }
+    Ok(resolve_many(
+        graph,
+        region,
+        given,
         out_exporters,
         out_packages,
         out_versions,
-    );
-    Kept::Wrote(n)
+    ))
 }

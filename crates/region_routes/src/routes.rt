@@ -3,52 +3,43 @@ ghost use Rattle.std.specs.Prelude.{◌≡◌, ◌≤◌, length};
 ghost use Rattle.region_graph.specs.Size.{regions};
 ghost use Rattle.region_graph.specs.Record.{Valid, meaning};
 ghost use Rattle.region_routes.specs.Search.{Leading, Next, Walkable, Walked};
-ghost use Rattle.region_routes.specs.Hooks.{routed, route_outcome};
+ghost use Rattle.region_routes.specs.Hooks.{routed, routed_answer, route_outcome};
 
-use crate::Routed;
-use crate::search::{Ends, Layers, distance, search_for};
-use region_graph::refusals::{NO_PLACE, NOT_A_KIND, NOT_INSTALLED};
-use region_graph::region_set::{has, lowest, without_lowest};
+use crate::search::{Ends, ItemSearch, Members, search_for};
+use region_graph::refusals::Refusal;
+use region_graph::region_set::has;
 use region_graph::size::REGIONS;
 use region_graph::{Graph, Item, Place};
 
 // The smallest region of a set to which a connection from a region leads.
-fn next_to(pred: &[u64], set: u64, region: u32) -> u32
-    requires { (length pred.now ≡ regions) × Leading pred.now set region }
+fn next_to(pred: &[u64; REGIONS], set: u64, region: u32) -> u32
+    requires { Leading pred.now set region }
     ensures { Next pred.now set region result }
 {
-    let mut left = set;
-    while left != 0 {
-        let n = lowest(left);
-        let at = n as usize;
-        if has(pred[at], region) {
-            return n;
+    for next in (Members { left: set }) {
+        if has(pred[next as usize], region) {
+            return next;
         }
-        left = without_lowest(left);
     }
-    0
+    unreachable!()
 }
 
 // Writes the best route from a region of the layer `deep` at the buffer's start: the smallest next region each time.
-fn walk(out: &mut [u8], pred: &[u64], found: Layers, deep: usize, region: u32)
-    requires pred_len { (length pred.now ≡ regions) × (regions ≤ length out.old) }
-    requires walkable { Walkable pred.now found.sets deep region }
-    ensures { Walked pred.now found.sets deep region out.old out.new }
+fn walk(search: &ItemSearch, deep: usize, region: u32, out: &mut [u8])
+    requires room { regions ≤ length out.old }
+    requires walkable { Walkable search.now.pred search.now.layers.sets deep region }
+    ensures { Walked search.now.pred search.now.layers.sets deep region out.old out.new }
 {
-    let sets = found.sets;
-    let mut d = deep;
-    let mut i: usize = 0;
-    let mut r = region;
-    out[0] = region as u8;
-    while 0 < d {
-        d -= 1;
-        r = next_to(pred, sets[d], r);
-        i += 1;
-        out[i] = r as u8;
+    let mut here = region;
+    out[0] = here as u8;
+    for passed in 0..deep {
+        here = next_to(&search.pred, search.layers.sets[deep - passed - 1], here);
+        out[passed + 1] = here as u8;
     }
 }
 
-// The count of connections of the route that document 01 picks, its regions at the buffer's start, one byte each.
+// The count of connections of the route that document 01 picks, its regions at the buffer's start, one byte each; None where the item is
+// hidden. Any number is asked as a kind's, and refused after the bundle is found: so it is no Kind.
 pub fn route(
     graph: Graph,
     location: u32,
@@ -56,33 +47,28 @@ pub fn route(
     number: u32,
     version: u16,
     out: &mut [u8],
-) -> Routed
+) -> Result<Option<usize>, Refusal>
     requires { Valid graph }
-    ensures { routed result out.new ≡ route_outcome (meaning graph) location kind number version out.old }
+    ensures { routed (routed_answer result) out.new ≡ route_outcome (meaning graph) location kind number version out.old }
 {
-    let place = graph.region_of(location);
-    let Place::Within(region) = place else {
-        return Routed::Refused(NOT_INSTALLED);
+    let Place::Within(region) = graph.region_of(location) else {
+        return Err(Refusal::NotInstalled);
     };
     if 2 < kind {
-        return Routed::Refused(NOT_A_KIND);
+        return Err(Refusal::NotAKind);
     }
     if out.len() < REGIONS {
-        return Routed::Refused(NO_PLACE);
+        return Err(Refusal::NoPlace);
     }
     let item = Item {
         kind,
         number,
         version,
     };
-    let searched = search_for(graph, item, Ends::Holders);
-    let pred = searched.pred;
-    let found = searched.found;
-    let reached = found.reached;
-    if !has(reached, region) {
-        return Routed::Hidden;
-    }
-    let deep = distance(found, region);
-    walk(out, &pred, found, deep, region);
-    Routed::Count(deep)
+    let search = search_for(graph, item, Ends::Holders);
+    let Some(deep) = search.layers.distance(region) else {
+        return Ok(None);
+    };
+    walk(&search, deep, region, out);
+    Ok(Some(deep))
 }

@@ -1,5 +1,6 @@
 // The search for routes over predecessor sets: the regions in layers by their distance to a holder.
-ghost use Rattle.std.specs.Prelude.{◌≡◌, ℕ, ◌<◌, ◌^◌};
+ghost use Rattle.std.specs.Prelude.{◌≡◌, ℕ, ◌<◌, ◌≤◌, ◌^◌, MatchOption};
+ghost use Rattle.std.specs.Iterator.{at_most};
 ghost use Rattle.region_graph.specs.Size.{regions};
 ghost use Rattle.region_graph.specs.Model.{Model};
 ghost use Rattle.region_graph.specs.Promise.{predecessor_sets};
@@ -8,13 +9,35 @@ ghost use Rattle.region_graph.specs.Sets.{set_of};
 ghost use Rattle.region_routes.specs.Chosen.{sees};
 ghost use Rattle.region_routes.specs.Hooks.{item};
 ghost use Rattle.region_routes.specs.Tables.{NumberTables, everything_number, «step_in», predecessors_by};
-ghost use Rattle.region_routes.specs.Chains.{Chained};
-ghost use Rattle.region_routes.specs.Search.{RegionSets, SetOfRegions, Layer, Searched, Reached, InLayer, end_set};
+ghost use Rattle.region_routes.specs.Search.{RegionSets, SetOfRegions, TakesLowest, Layer, Searched, At, InLayer, end_set};
 
-use crate::tables::{holders, predecessors, wide};
+use crate::tables::{Chains, wide};
 use region_graph::region_set::{difference, has, lowest, singleton, without_lowest};
 use region_graph::size::REGIONS;
 use region_graph::{Graph, Item};
+
+// The members of a set of regions, lowest first.
+#[derive(Drop)]
+pub struct Members {
+    pub left: u64,
+}
+
+impl Iterator for Members {
+    type Item = u32;
+
+    ghost next_gives = { TakesLowest (λ s. s.left) };
+
+    ghost remaining = { λ s. at_most s.left };
+
+    fn next(&mut self) -> Option<u32> {
+        if self.left == 0 {
+            return None;
+        }
+        let member = lowest(self.left);
+        self.left = without_lowest(self.left);
+        Some(member)
+    }
+}
 
 // The layers sets[0] to sets[deep], and all regions in them.
 #[derive(Clone, Copy)]
@@ -24,34 +47,42 @@ pub struct Layers {
     pub reached: u64,
 }
 
+impl Layers {
+    // The layer of a region that is reached: its distance to a holder.
+    pub fn distance(&self, region: u32) -> Option<usize>
+        requires { (self.now.deep < regions) × (region < regions) }
+        ensures { MatchOption result ((j : ℕ) → j ≤ self.now.deep → At self.now.sets j region → ⊥) (λ d. InLayer self.now.sets self.now.deep region d) }
+    {
+        self.sets[..=self.deep]
+            .iter()
+            .position(|set| has(*set, region))
+    }
+}
+
 // One layer: the regions that are not reached yet and have a connection into the layer before.
-fn layer(pred: &[u64], prev: u64, reached: u64) -> u64
-    requires { RegionSets pred.now × SetOfRegions prev }
-    ensures { Layer pred.now prev reached result }
+fn layer(pred: &[u64; REGIONS], last: u64, reached: u64) -> u64
+    requires { RegionSets pred.now × SetOfRegions last }
+    ensures { Layer pred.now last reached result }
 {
-    let mut next: u64 = 0;
-    let mut left = prev;
-    while left != 0 {
-        let n = lowest(left);
-        left = without_lowest(left);
-        let at = n as usize;
-        next = next | pred[at];
+    let mut next = 0;
+    for region in (Members { left: last }) {
+        next |= pred[region as usize];
     }
     difference(next, reached)
 }
 
 // All layers, from the holders back.
-pub fn search(pred: &[u64], holders: u64) -> Layers
+pub fn search(pred: &[u64; REGIONS], holders: u64) -> Layers
     requires { RegionSets pred.now × (holders < 2 ^ regions) }
     ensures { Searched pred.now holders result.sets result.deep result.reached }
 {
-    let mut sets = [0u64; REGIONS];
+    let mut sets = [0; REGIONS];
     sets[0] = holders;
-    let mut deep: usize = 0;
+    let mut deep = 0;
     let mut reached = holders;
-    let mut prev = holders;
+    let mut last = holders;
     loop {
-        let next = layer(pred, prev, reached);
+        let next = layer(pred, last, reached);
         if next == 0 {
             return Layers {
                 sets,
@@ -61,32 +92,16 @@ pub fn search(pred: &[u64], holders: u64) -> Layers
         }
         deep += 1;
         sets[deep] = next;
-        reached = reached | next;
-        prev = next;
+        reached |= next;
+        last = next;
     }
-}
-
-// The layer of a region that was reached: its distance to a holder.
-pub fn distance(found: Layers, region: u32) -> usize
-    requires { Reached found.sets found.deep region }
-    ensures { InLayer found.sets found.deep region result }
-{
-    let mut d: usize = 0;
-    while d < REGIONS {
-        let set = found.sets[d];
-        if has(set, region) {
-            return d;
-        }
-        d += 1;
-    }
-    d
 }
 
 // The predecessors of each region for an item, and the layers over them.
 #[derive(Clone, Copy)]
 pub struct ItemSearch {
     pub pred: [u64; REGIONS],
-    pub found: Layers,
+    pub layers: Layers,
 }
 
 // Where a route for an item may end: in each region that holds it, or in one region alone.
@@ -110,12 +125,11 @@ fn end_set(graph: Graph, item: Item, ends: Ends) -> u64
 // The search for an item.
 pub fn search_for(graph: Graph, item: Item, ends: Ends) -> ItemSearch
     requires { Valid graph }
-    ensures { (result.pred ≡ predecessor_sets (meaning graph) item) × Searched (predecessor_sets (meaning graph) item) (end_set (meaning graph) item ends) result.found.sets result.found.deep result.found.reached }
+    ensures { (result.pred ≡ predecessor_sets (meaning graph) item) × Searched (predecessor_sets (meaning graph) item) (end_set (meaning graph) item ends) result.layers.sets result.layers.deep result.layers.reached }
 {
     let pred = graph.predecessors(item);
-    let set = end_set(graph, item, ends);
-    let found = search(&pred, set);
-    ItemSearch { pred, found }
+    let layers = search(&pred, end_set(graph, item, ends));
+    ItemSearch { pred, layers }
 }
 
 // The regions that see an item.
@@ -123,31 +137,24 @@ pub fn regions_seeing(graph: Graph, item: Item) -> u64
     requires { Valid graph }
     ensures { result ≡ set_of (sees (meaning graph) item) }
 {
-    let searched = search_for(graph, item, Ends::Holders);
-    let found = searched.found;
-    found.reached
+    search_for(graph, item, Ends::Holders).layers.reached
 }
 
 // The regions that see an item of a kind by number, by the chained tables of the kind and the predecessors that the entries for all numbers give.
 pub fn regions_seeing_by(
-    offered: &[u64],
-    offer_links: &[u16],
-    passing: &[u64],
-    pass_links: &[u16],
+    offered: &Chains<'_>,
+    passing: &Chains<'_>,
     always: [u64; REGIONS],
     number: u32,
 ) -> u64
-    requires chained { Chained offered.now offer_links.now }
-    requires chained_2 { Chained passing.now pass_links.now }
-    requires always_value { always ≡ predecessors_by (step_in passing.now everything_number) }
-    ensures { (m : Model) (kind : ℕ) → NumberTables m kind offered.now passing.now → result ≡ set_of (sees m (item kind number 0)) }
+    requires { always ≡ predecessors_by (step_in passing.now.table.now everything_number) }
+    ensures { (m : Model) (kind : ℕ) → NumberTables m kind offered.now.table.now passing.now.table.now → result ≡ set_of (sees m (item kind number 0)) }
 {
     let sought = wide(number);
-    let held = holders(offered, offer_links, sought);
+    let held = offered.holders(sought);
     if held == 0 {
         return 0;
     }
-    let pred = predecessors(passing, pass_links, sought, always);
-    let layers = search(&pred, held);
-    layers.reached
+    let pred = passing.predecessors(sought, always);
+    search(&pred, held).reached
 }

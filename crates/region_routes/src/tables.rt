@@ -6,7 +6,8 @@ ghost use Rattle.region_graph.specs.Places.{BundleStored, PackagePartStored, Con
 ghost use Rattle.region_graph.specs.Promise.{new_part};
 ghost use Rattle.region_routes.specs.Hooks.{kind_number};
 ghost use Rattle.region_routes.specs.Tables;
-ghost use Rattle.region_routes.specs.Chains;
+ghost use Rattle.region_routes.specs.Chains.{chain, chains, Chained, Standing, places_left, with_step};
+ghost use Rattle.std.specs.Iterator.{YieldsFirst, item_count};
 
 use crate::Kind;
 use region_graph::region_set::singleton;
@@ -37,12 +38,6 @@ pub fn wide(number: u32) -> u64
     number as u64
 }
 
-fn place(number: u16) -> usize
-    ensures { result ≡ number }
-{
-    number as usize
-}
-
 // A location and a version as one number.
 pub fn owner_number(location: u32, version: u16) -> u64
     ensures { result ≡ Tables.packed location version }
@@ -61,13 +56,7 @@ fn span_number(lowest: u16, highest: u16) -> u32
 fn is_between(version: u16, span: u32) -> bool
     ensures { result ≡ Tables.span_has version span }
 {
-    let asked = version as u32;
-    let lowest = span / (WIDTH as u32);
-    let highest = span % (WIDTH as u32);
-    if lowest <= asked {
-        return asked <= highest;
-    }
-    false
+    (span / (WIDTH as u32)..=span % (WIDTH as u32)).contains(&u32::from(version))
 }
 
 // Puts one entry at a place, and gives the next place.
@@ -269,154 +258,159 @@ pub fn spans(items: &mut [u32], graph: Graph) -> usize
 
 // The chain of a number.
 fn chain_of(number: u64) -> usize
-    ensures { (result ≡ Chains.chain number) × (result < Chains.chains) }
+    ensures { (result ≡ chain number) × (result < chains) }
 {
     (number % (CHAINS as u64)) as usize
 }
 
-// The chains of a table: for each the place of its first entry, and after those for each entry the place of the next one of its chain.
+// The number of an entry.
+fn number_in(entry: u64) -> u64
+    ensures { result ≡ Tables.number_in entry }
+{
+    entry / WIDTH
+}
+
+// The place that goes with the number of an entry.
+fn place_in(entry: u64) -> u32
+    ensures { result ≡ Tables.place_in entry }
+{
+    (entry % WIDTH) as u32
+}
+
+// Adds the step from the source of an entry to its target.
+fn add_step(sets: &mut [u64; REGIONS], entry: u64)
+    ensures { sets.new ≡ with_step sets.old entry }
+{
+    let ends = place_in(entry);
+    sets[ends as usize % REGIONS] |= singleton(ends / (REGIONS as u32));
+}
+
+// A table with its chains: for each the place of its first entry, and after those for each entry the place of the next one of its chain.
 // The table's length ends a chain.
-pub fn chained(table: &[u64]) -> [u16; LINKS]
-    requires { length table.now ≤ Tables.most_entries }
-    ensures { Chains.Chained table.now result }
-{
-    let end = table.len() as u16;
-    let mut links = [end; LINKS];
-    let mut i = table.len();
-    while 0 < i {
-        i -= 1;
-        let c = chain_of(table[i] / WIDTH);
-        let next = links[c];
-        let at = CHAINS + i;
-        links[at] = next;
-        links[c] = i as u16;
+#[derive(Drop)]
+pub struct Chains<'a> {
+    table: &'a [u64],
+    links: [u16; LINKS],
+    ghost chained: { Chained table.now links },
+}
+
+impl<'a> Chains<'a> {
+    pub fn of(table: &'a [u64]) -> Chains<'a>
+        requires { length table.now ≤ Tables.most_entries }
+        ensures { result.table.now ≡ table.now }
+    {
+        let mut links = [table.len() as u16; LINKS];
+        for i in (0..table.len()).rev() {
+            let chain = chain_of(number_in(table[i]));
+            links[CHAINS + i] = links[chain];
+            links[chain] = i as u16;
+        }
+        Chains { table, links }
     }
-    links
-}
 
-// The first place of the chain of a number.
-fn first_of(links: &[u16], number: u64) -> usize
-    requires { Chains.chains ≤ length links.now }
-    ensures { result ≡ get_or links.now (Chains.chain number) 0 }
-{
-    let c = chain_of(number);
-    place(links[c])
-}
-
-// The place after one in its chain.
-fn next_of(links: &[u16], i: usize) -> usize
-    requires { Chains.chains + i < length links.now }
-    ensures { result ≡ get_or links.now (Chains.chains + i) 0 }
-{
-    let at = CHAINS + i;
-    place(links[at])
-}
-
-// The regions of the entries that have a number.
-pub fn holders(table: &[u64], links: &[u16], number: u64) -> u64
-    requires { Chains.Chained table.now links.now }
-    ensures { result ≡ Tables.held_in table.now number }
-{
-    let mut set: u64 = 0;
-    let mut i = first_of(links, number);
-    while i < table.len() {
-        let e = table[i];
-        i = next_of(links, i);
-        if e / WIDTH == number {
-            set = set | singleton((e % WIDTH) as u32);
+    // The places of the entries that have a number, in order.
+    fn places(&self, number: u64) -> Places<'_>
+        ensures { places_left result.table.now result.number result.at ≡ places_left self.now.table.now number 0 }
+    {
+        Places {
+            table: self.table,
+            links: &self.links,
+            number,
+            at: usize::from(self.links[chain_of(number)]),
         }
     }
-    set
-}
 
-// For each region, beside those given, the regions from which the entries that have a number go to it.
-pub fn predecessors(
-    table: &[u64],
-    links: &[u16],
-    number: u64,
-    given: [u64; REGIONS],
-) -> [u64; REGIONS]
-    requires { Chains.Chained table.now links.now }
-    ensures { (step : ℕ → ℕ → Bool) → given ≡ Tables.predecessors_by step → result ≡ Tables.predecessors_by (Tables.step_or step table.now number) }
-{
-    let mut sets = given;
-    let mut i = first_of(links, number);
-    while i < table.len() {
-        let e = table[i];
-        i = next_of(links, i);
-        if e / WIDTH == number {
-            let ends = (e % WIDTH) as usize;
-            let source = ends / REGIONS;
-            let target = ends % REGIONS;
-            sets[target] = sets[target] | singleton(source as u32);
+    // The regions of the entries that have a number.
+    pub fn holders(&self, number: u64) -> u64
+        ensures { result ≡ Tables.held_in self.now.table.now number }
+    {
+        let mut set = 0;
+        for i in self.places(number) {
+            set |= singleton(place_in(self.table[i]));
         }
+        set
     }
-    sets
-}
 
-// The same of the entries that have a number, and beside them a span that has a version.
-pub fn predecessors_between(
-    table: &[u64],
-    links: &[u16],
-    spans: &[u32],
-    number: u64,
-    version: u16,
-    given: [u64; REGIONS],
-) -> [u64; REGIONS]
-    requires chained { Chains.Chained table.now links.now }
-    requires spans_len { length spans.now ≡ length table.now }
-    ensures { (step : ℕ → ℕ → Bool) → given ≡ Tables.predecessors_by step → result ≡ Tables.predecessors_by (Tables.step_or_between step table.now spans.now number version) }
-{
-    let mut sets = given;
-    let mut i = first_of(links, number);
-    while i < table.len() {
-        let e = table[i];
-        let span = spans[i];
-        i = next_of(links, i);
-        if e / WIDTH == number {
-            if is_between(version, span) {
-                let ends = (e % WIDTH) as usize;
-                let source = ends / REGIONS;
-                let target = ends % REGIONS;
-                sets[target] = sets[target] | singleton(source as u32);
+    // For each region, beside those given, the regions from which the entries that have a number go to it.
+    pub fn predecessors(&self, number: u64, given: [u64; REGIONS]) -> [u64; REGIONS]
+        ensures { (step : ℕ → ℕ → Bool) → given ≡ Tables.predecessors_by step → result ≡ Tables.predecessors_by (Tables.step_or step self.now.table.now number) }
+    {
+        let mut sets = given;
+        for i in self.places(number) {
+            add_step(&mut sets, self.table[i]);
+        }
+        sets
+    }
+
+    // The same of the entries that have a number, and beside them a span that has a version.
+    pub fn predecessors_between(
+        &self,
+        spans: &[u32],
+        number: u64,
+        version: u16,
+        given: [u64; REGIONS],
+    ) -> [u64; REGIONS]
+        requires { length spans.now ≡ length self.now.table.now }
+        ensures { (step : ℕ → ℕ → Bool) → given ≡ Tables.predecessors_by step → result ≡ Tables.predecessors_by (Tables.step_or_between step self.now.table.now spans.now number version) }
+    {
+        let mut sets = given;
+        for i in self.places(number) {
+            if is_between(version, spans[i]) {
+                add_step(&mut sets, self.table[i]);
             }
         }
+        sets
     }
-    sets
-}
 
-// The place of the first entry that has a number.
-pub fn place_of(table: &[u64], links: &[u16], number: u64) -> Place
-    requires { Chains.Chained table.now links.now }
-    ensures { result ≡ Tables.place_at table.now number }
-{
-    let mut i = first_of(links, number);
-    while i < table.len() {
-        let e = table[i];
-        i = next_of(links, i);
-        if e / WIDTH == number {
-            return Place::Within((e % WIDTH) as u32);
+    // The place of the first entry that has a number.
+    pub fn place_of(&self, number: u64) -> Place
+        ensures { result ≡ Tables.place_at self.now.table.now number }
+    {
+        match self.places(number).next() {
+            Some(i) => Place::Within(place_in(self.table[i])),
+            None => Place::Nowhere,
         }
     }
-    Place::Nowhere
-}
 
-// The place of the first entry that has a number, and an owner beside it.
-pub fn place_beside(table: &[u64], links: &[u16], owned: &[u64], asked: u64, number: u64) -> Place
-    requires chained { Chains.Chained table.now links.now }
-    requires owned_len { length owned.now ≡ length table.now }
-    ensures { result ≡ Tables.place_beside table.now owned.now asked number }
-{
-    let mut i = first_of(links, number);
-    while i < table.len() {
-        let e = table[i];
-        let owner = owned[i];
-        i = next_of(links, i);
-        if e / WIDTH == number {
-            if owner == asked {
-                return Place::Within((e % WIDTH) as u32);
+    // The place of the first entry that has a number, and an owner beside it.
+    pub fn place_beside(&self, owned: &[u64], asked: u64, number: u64) -> Place
+        requires { length owned.now ≡ length self.now.table.now }
+        ensures { result ≡ Tables.place_beside self.now.table.now owned.now asked number }
+    {
+        for i in self.places(number) {
+            if owned[i] == asked {
+                return Place::Within(place_in(self.table[i]));
             }
         }
+        Place::Nowhere
     }
-    Place::Nowhere
+}
+
+// The places of the entries of a table that have a number, from one of its chain on.
+#[derive(Drop)]
+struct Places<'a> {
+    table: &'a [u64],
+    links: &'a [u16],
+    number: u64,
+    at: usize,
+    ghost standing: { Standing table.now links.now number at },
+}
+
+impl<'a> Iterator for Places<'a> {
+    type Item = usize;
+
+    ghost next_gives = { YieldsFirst (λ s. places_left s.table.now s.number s.at) };
+
+    ghost remaining = { item_count (λ s. places_left s.table.now s.number s.at) };
+
+    fn next(&mut self) -> Option<usize> {
+        while self.at < self.table.len() {
+            let i = self.at;
+            self.at = usize::from(self.links[CHAINS + i]);
+            if number_in(self.table[i]) == self.number {
+                return Some(i);
+            }
+        }
+        None
+    }
 }

@@ -1,14 +1,8 @@
-use mathlib.Core.Path.{◌≡◌, refl, sym, ap, ◌∙◌}
-use mathlib.Core.Bool.{Bool}
-use mathlib.Core.List.{List}
-use Prim.Native.Nat.{ℕ}
-use Rattle.region_graph.specs.Sets.{set_of}
+use Rattle.std.proofs.Common.{◌≡◌, ℕ, Bool, List, sym, ap, ◌∙◌, rules}
 use Rattle.region_graph.specs.Model.{Model, Legal}
 use Rattle.region_graph.specs.Record.{meaning}
-use Rattle.region_routes.specs.Chosen.{sees}
 use Rattle.region_routes.specs.Hooks.{item, kind_number, kept_outcome, all_installed}
-use Rattle.region_routes.specs.Tables.{place_at, all_placed, offers}
-use Rattle.region_routes.proofs.TableLoops.{holding_long, holding_few}
+use Rattle.region_routes.specs.Tables.{place_at, all_placed, stands_in, offers}
 use Rattle.region_routes.proofs.TableLaws.{place_table, placed_installed}
 use Rattle.region_routes.proofs.Judging.{keep_stands}
 use Rattle.region_routes.proofs.Answering.{event_not_installed, event_no_place, event_answers}
@@ -19,58 +13,27 @@ asked : {m : Model} {es : List ℕ} (ls : List ℕ) {r b : Bool} → Legal m →
     → all_installed m ls ≡ b
 asked {m} ls h e k t = sym (k ∙ placed_installed m (place_table h e) ls) ∙ t
 
-pub offers-count-requires : goal.offers-count-requires
-offers-count-requires c = record { valid = c.requires; len = refl }
-
-pub slice_bounds-bundles-end : goal.slice_bounds-bundles-end
-slice_bounds-bundles-end c = c.offers-count.ensures.room
-
-pub slice_bounds-chained-end : goal.slice_bounds-chained-end
-slice_bounds-chained-end c = holding_long c.offers-count.ensures
-
-pub chained-links-requires : goal.chained-links-requires
-chained-links-requires c = holding_few c.offers-count.ensures
-
-pub slice_bounds-bundles-end-2 : goal.slice_bounds-bundles-end-2
-slice_bounds-bundles-end-2 c = c.offers-count.ensures.room
-
-pub slice_bounds-all_installed-end : goal.slice_bounds-all_installed-end
-slice_bounds-all_installed-end c = holding_long c.offers-count.ensures
-
-pub all_installed-requires : goal.all_installed-requires
-all_installed-requires c = c.chained-links.ensures
-
-pub returns-then-not-all_installed : goal.returns-then-not-all_installed
-returns-then-not-all_installed c =
+pub returns-then-not-all_placed : goal.returns-then-not-all_placed
+returns-then-not-all_placed c =
     let s = c.args in
     event_not_installed (meaning s.graph) s.kind s.listeners.now s.number s.out.now
-    (asked s.listeners.now c.requires.good c.offers-count.ensures.table c.all_installed.ensures c.if-not-all_installed.true)
+    (asked s.listeners.now c.requires.good (c.of-bundles.ensures ∙ c.offers-count.ensures.table) c.all_placed.ensures c.if-not-all_placed.true)
 
 pub returns-then-out-listeners : goal.returns-then-out-listeners
 returns-then-out-listeners c =
     let s = c.args in
     event_no_place (meaning s.graph) s.kind s.listeners.now s.number s.out.now
-    (asked s.listeners.now c.requires.good c.offers-count.ensures.table c.all_installed.ensures c.if-not-all_installed.false)
+    (asked s.listeners.now c.requires.good (c.of-bundles.ensures ∙ c.offers-count.ensures.table) c.all_placed.ensures c.if-not-all_placed.false)
     c.if-out-listeners.true
-
-pub slice_bounds-bundles-end-3 : goal.slice_bounds-bundles-end-3
-slice_bounds-bundles-end-3 c = c.offers-count.ensures.room
-
-pub slice_bounds-keep_standing-end : goal.slice_bounds-keep_standing-end
-slice_bounds-keep_standing-end c = holding_long c.offers-count.ensures
-
-pub keep_standing-written-requires : goal.keep_standing-written-requires
-keep_standing-written-requires c = record { chained = c.chained-links.ensures; listeners_in_bounds = c.if-out-listeners.false }
 
 pub returns : goal.returns
 returns c =
     let s = c.args in
     let m = meaning s.graph in
     event_answers m s.kind s.listeners.now s.number s.out.now
-    (asked s.listeners.now c.requires.good c.offers-count.ensures.table c.all_installed.ensures c.if-not-all_installed.false)
+    (asked s.listeners.now c.requires.good (c.of-bundles.ensures ∙ c.offers-count.ensures.table) c.all_placed.ensures c.if-not-all_placed.false)
     c.if-out-listeners.false
-    (c.keep_standing-written.ensures
+    (c.keep_where-written.ensures (λ l. stands_in c.regions_seeing-seeing.result (place_at _ l)) (λ n answer fits h. search rules)
     ∙ ap (λ (ls : List ℕ). kept_outcome ls s.out.now)
-    (keep_stands m (item (kind_number s.kind) s.number 0) c.requires.good
-    (c.regions_seeing-set.ensures ∙ ap (λ (k : ℕ). set_of (sees m (item k s.number 0))) c.kind_number-kind.ensures)
-    (place_table c.requires.good c.offers-count.ensures.table) s.listeners.now))
+    (keep_stands m (item (kind_number s.kind) s.number 0) c.requires.good (rw c.item.ensures at c.regions_seeing-seeing.ensures)
+    (place_table c.requires.good (c.of-bundles.ensures ∙ c.offers-count.ensures.table)) s.listeners.now))

@@ -1,8 +1,0 @@
-use Rattle.region_routes.proofs.Chaining.{Linking}
-use Rattle.region_routes.proofs.tables.chained.Given as goal
-
-abbrev pub invariant-loop-i : goal.invariant-loop-i
-invariant-loop-i l = Linking l.table l.links l.i
-
-abbrev pub decreases-loop-i : goal.decreases-loop-i
-decreases-loop-i l = l.i

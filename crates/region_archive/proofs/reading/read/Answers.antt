@@ -1,4 +1,5 @@
 use mathlib.Core.Path.{◌≡◌, ◌∙◌, subst}
+use native.Mathlib.Omega.{arith}
 use mathlib.Core.List.{List}
 use Prim.Native.Nat.{ℕ, ◌<◌}
 use lib.ListN.{get_or}
@@ -58,7 +59,7 @@ returns-then-c-bytes c =
     from_body s (λ i. (c.type_inv.bytes i).fits) c.in_default.ensures c.from-version.ensures
     (longer c.refused-then-c-bytes.ensures
     (three_sections c.from-version.result c.in-Some.ensures c.in-Some-section_at.ensures c.in-Some-section_at-2.ensures c.has_version.ensures
-    c.if-not-has_version.false).parsed c.if-c-bytes.true)
+    c.if-not-has_version.false).parsed (λ e. omega (arith, e, c.if-c-bytes.true)))
 
 pub returns : goal.returns
 returns c =

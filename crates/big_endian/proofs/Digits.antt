@@ -5,8 +5,9 @@ use Prim.Native.Nat.{ℕ, zero, suc, ◌+◌, ◌*◌, ◌/◌, ◌%◌, ◌^◌
 use native.Mathlib.Numerals.{add-one}
 use native.Mathlib.Nat.{add-zero, zero-add, suc-add, pow-suc, mul_comm, div-one, mod-eq_of_lt, div-div-eq-div-mul, lt_of_lt_of_le, pow-le-pow_right}
 use native.Mathlib.Omega.{arith}
-use lib.ListN.{length, drop, get_or}
+use lib.ListN.{length, take, drop, get_or}
 use lib.Seq.{drop-cons}
+use Rattle.std.proofs.lemmas.List.{take_more}
 use Rattle.big_endian.specs.Bytes.{big}
 use Rattle.big_endian.specs.Parsing.{Parsed}
 
@@ -59,6 +60,13 @@ big_join a (suc b) n r h =
 
 pub small_snoc : (w v b : ℕ) → v < 256 ^ w → b < 256 → v * 256 + b < 256 ^ suc w
 small_snoc w v b h k = rw pow-suc (omega arith)
+
+-- the number that the first bytes give, with one byte more
+pub number_more : (s : List ℕ) {i n b : ℕ} → (n < 256 ^ i) × (big i n ≡ take i s) → i < length s → b ≡ get_or s i 0 → b < 256
+    → (n * 256 + b < 256 ^ (i + 1)) × (big (i + 1) (n * 256 + b) ≡ take (i + 1) s)
+number_more s {i} {n} {b} d h e k =
+    let snoc : big (i + 1) (n * 256 + b) ≡ big i n ++ (b ∷ []) = rw add-one (big_snoc i n b k) in
+    (rw add-one (small_snoc i n b d.0 k), snoc ∙ (λ j. d.1 j ++ (e j ∷ [])) ∙ sym (take_more s i 0 h))
 
 -- the first i bytes of a number stand at a place
 pub record Digits (s : List ℕ) (at i n : ℕ) : Type 0 where

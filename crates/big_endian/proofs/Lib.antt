@@ -1,7 +1,7 @@
 -- Laws by subject, each over what stands above it.
+pub mod NumberReads
 pub mod Delimits
 pub mod Digits
-pub mod NumberReads
 pub mod Readers
 pub mod Rows
 pub mod Tested

@@ -21,6 +21,7 @@ pub fn put_hex(bytes: &mut [u8], text: &[u8]) -> usize
 }
 
 // Bytes as an answer has them: in hex, or `-` where there are none.
+#[derive(Clone, Copy)]
 pub struct Hex<'a>(pub &'a [u8]);
 
 impl fmt::Display for Hex<'_> {

@@ -1,6 +1,7 @@
 use mathlib.Core.Path.{◌≡◌, sym, subst}
 use mathlib.Core.List.{List}
 use Prim.Native.Nat.{ℕ, ◌≤◌}
+use native.Mathlib.Omega.{arith}
 use lib.ListN.{length}
 use Rattle.std.specs.Prelude.{Result, Ok}
 use Rattle.std.specs.declared.ops.Range.{Range}
@@ -18,10 +19,10 @@ inside s kind number r part e h =
     (part_ordered f kind number, part_within f kind number)
 
 pub slice_bounds-result-count : goal.slice_bounds-result-count
-slice_bounds-result-count c = (inside _ _ _ _ _ c.in_ok-part.was c.locate.ensures).0
+slice_bounds-result-count c = omega (arith, inside _ _ _ _ _ c.in_ok-part.was c.locate.ensures)
 
 pub slice_bounds-result-start : goal.slice_bounds-result-start
-slice_bounds-result-start c = (inside _ _ _ _ _ c.in_ok-part.was c.locate.ensures).0
+slice_bounds-result-start c = omega (arith, inside _ _ _ _ _ c.in_ok-part.was c.locate.ensures)
 
 pub slice_bounds-result-end : goal.slice_bounds-result-end
-slice_bounds-result-end c = (inside _ _ _ _ _ c.in_ok-part.was c.locate.ensures).1
+slice_bounds-result-end c = omega (arith, inside _ _ _ _ _ c.in_ok-part.was c.locate.ensures)

@@ -24,14 +24,14 @@ pub fn value(line: &[u8], before: usize) -> u32 {
     number(word(line, before))
 }
 
-// The version that a text is: what the lowest 16 bits of its number are.
-pub fn version_of(text: &[u8]) -> u16 {
-    (number(text) % 65536) as u16
+// The version that a number stands for: what its lowest 16 bits are.
+pub fn version_of(number: u32) -> u16 {
+    (number % 65536) as u16
 }
 
 // The version that a word of a line is.
 pub fn version(line: &[u8], before: usize) -> u16 {
-    version_of(word(line, before))
+    version_of(value(line, before))
 }
 
 // Whether a line has bytes: it starts with a digit of base 16, 0 to 9 or A to F.

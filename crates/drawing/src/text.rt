@@ -1,9 +1,8 @@
 // What regions and connections share: colours, and in labels numbers with their names and lists of them. `\l` ends a line of a label,
 // which is aligned to the left. No line starts with spaces: some programs that show SVG leave them out.
 use name_sheet::lookup;
-use std::fmt;
-use std::io;
 use std::io::Write;
+use std::{fmt, io};
 
 // How many items of a list are shown.
 const MOST_SHOWN: usize = 4;

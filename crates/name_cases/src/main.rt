@@ -17,7 +17,10 @@ const ROOM: usize = 4096;
 
 // Where the name of a kind and number starts in the sheet, and the name.
 fn found(sheet: &[u8], kind: u32, number: u32) -> Result<(usize, &[u8]), Refusal> {
-    Ok((locate(sheet, kind, number)?.start, lookup(sheet, kind, number)?))
+    Ok((
+        locate(sheet, kind, number)?.start,
+        lookup(sheet, kind, number)?,
+    ))
 }
 
 // The answer to a lookup: its number, and of the part where it starts, its length and its bytes.

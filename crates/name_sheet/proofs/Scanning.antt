@@ -9,7 +9,6 @@ use lib.ListN.{length, drop, length-append}
 use lib.Seq.{drop-length}
 use Rattle.std.specs.Prelude.{Option, None, Some, Err, ok_or}
 use Rattle.std.specs.Option.{option_or}
-
 use Rattle.std.specs.declared.ops.Range.{Range}
 use Rattle.region_graph.specs.Refusals.{not_refused, no_entry}
 use Rattle.region_graph.specs.declared.refusals.Refusal.TheVariants as Refusal

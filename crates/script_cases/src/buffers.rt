@@ -29,7 +29,9 @@ pub fn places(alloc: Global, count: u32) -> Result<Vec<u32>, AllocError> {
 
 // The same of places for versions.
 pub fn version_places(alloc: Global, count: u32) -> Result<Vec<u16>, AllocError> {
-    (FIRST_VERSION..).take(PLACES.min(count as usize)).collect(alloc)
+    (FIRST_VERSION..)
+        .take(PLACES.min(count as usize))
+        .collect(alloc)
 }
 
 // The numbers of a word, so many at most: those before its first part that does not end in a digit. There is a comma between two parts.
@@ -44,7 +46,10 @@ pub fn numbers(alloc: Global, word: &[u8], most: usize) -> Result<Vec<u32>, Allo
 // The versions that the numbers of a word stand for, so many at most.
 pub fn versions(alloc: Global, word: &[u8], most: usize) -> Result<Vec<u16>, AllocError> {
     let numbers = numbers(alloc, word, most)?;
-    numbers.iter().map(|number| version_of(*number)).collect(alloc)
+    numbers
+        .iter()
+        .map(|number| version_of(*number))
+        .collect(alloc)
 }
 
 // Places as an answer has them: with a comma between two, or `-` where there are none.

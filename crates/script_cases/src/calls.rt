@@ -26,13 +26,7 @@ fn install(alloc: Global, g: Graph, line: &[u8]) -> Result<Changed, AllocError>
     let packages = numbers(alloc, word(line, 3), ROOM)?;
     let of = versions(alloc, word(line, 4), ROOM)?;
     let services = numbers(alloc, word(line, 5), ROOM)?;
-    Ok(g.install(
-        value(line, 1),
-        value(line, 2),
-        &packages,
-        &of,
-        &services,
-    ))
+    Ok(g.install(value(line, 1), value(line, 2), &packages, &of, &services))
 }
 
 // connect SOURCE TARGET BUNDLES PACKAGES LOWEST HIGHEST SERVICES

@@ -16,7 +16,8 @@ fn with_digit(number: u32, byte: u8) -> u32 {
 }
 
 pub fn number(text: &[u8]) -> u32 {
-    text.iter().fold(0, |number, byte| with_digit(number, *byte))
+    text.iter()
+        .fold(0, |number, byte| with_digit(number, *byte))
 }
 
 // The number that a word of a line is.

@@ -14,12 +14,13 @@ mod text;
 use name_sheet::locate;
 use picture::show_picture;
 use region_archive::read;
-use region_graph::refusals::{BROKEN_SHEET, NOT_REFUSED};
+use region_graph::refusals::{BROKEN_SHEET, NOT_REFUSED, Refusal};
 use std::env::{Env, FillError};
 use std::fs::File;
 use std::io;
 use std::io::{BufWriter, Read, Write};
 use std::rt::Files;
+use text::Names;
 
 // How many bytes of the archive are judged.
 const MOST: u64 = 65536;
@@ -40,11 +41,10 @@ fn answer<W: Write>(out: &mut W, file: &[u8], sheet: &[u8]) -> io::Result<()> {
     if archive.number != NOT_REFUSED {
         return show_refusal(out, archive.number);
     }
-    let located = locate(sheet, 0, 0);
-    if located.refusal == BROKEN_SHEET {
+    if matches!(locate(sheet, 0, 0), Err(Refusal::BrokenSheet)) {
         return show_refusal(out, BROKEN_SHEET);
     }
-    show_picture(out, archive.graph, sheet)
+    show_picture(out, archive.graph, Names { sheet })
 }
 
 // What is said where the sheet cannot be opened.

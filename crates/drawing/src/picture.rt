@@ -3,6 +3,7 @@ ghost use Rattle.region_graph.specs.Record.{Valid};
 
 use crate::connections::show_connections;
 use crate::regions::show_regions;
+use crate::text::Names;
 use region_graph::Graph;
 use std::io;
 use std::io::Write;
@@ -40,15 +41,15 @@ fn show_title<W: Write>(out: &mut W, graph: Graph) -> io::Result<()>
 }
 
 // The picture. The boxes on arrows, which come after the regions, have a look of their own.
-pub fn show_picture<W: Write>(out: &mut W, graph: Graph, sheet: &[u8]) -> io::Result<()>
+pub fn show_picture<W: Write>(out: &mut W, graph: Graph, names: Names) -> io::Result<()>
     requires { Valid graph }
 {
     show_head(out)?;
     show_title(out, graph)?;
-    show_regions(out, graph, sheet)?;
+    show_regions(out, graph, names)?;
     out.write_all(
         b"  node [style=filled, fillcolor=white, fontsize=10, margin=\"0.25,0.06\", penwidth=0.8];\n",
     )?;
-    show_connections(out, graph, sheet)?;
+    show_connections(out, graph, names)?;
     out.write_all(b"}\n")
 }

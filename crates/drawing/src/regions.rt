@@ -1,11 +1,9 @@
 // The regions as boxes, each with its bundles and what these bring.
 ghost use Rattle.region_graph.specs.Record.{Valid};
 
-use crate::text::{
-    BUNDLE, PACKAGE, REGION, SERVICE, show_colour, show_item, show_list, show_numbers,
-};
+use crate::text::{Colour, Kind, List, Names, first};
 use region_graph::region_set::has;
-use region_graph::size::{MOST_BUNDLES, REGIONS};
+use region_graph::size::REGIONS;
 use region_graph::{Graph, StoredBundle};
 use std::io;
 use std::io::Write;
@@ -13,54 +11,26 @@ use std::io::Write;
 // How many bundles of a region are shown.
 const MOST_SHOWN: usize = 12;
 
-fn show_bundle<W: Write>(out: &mut W, b: StoredBundle, sheet: &[u8]) -> io::Result<()> {
-    let packages = b.packages.numbers;
-    let versions = b.packages.versions;
-    let services = b.services.items;
+fn show_bundle<W: Write>(out: &mut W, b: &StoredBundle, names: Names) -> io::Result<()> {
     out.write_all(b"bundle ")?;
-    show_item(out, sheet, BUNDLE, b.location)?;
+    names.show(out, Kind::Bundle, b.location)?;
     out.write_all(b"\\l")?;
-    show_list(
-        out,
-        sheet,
-        PACKAGE,
-        &packages,
-        &versions,
-        &[],
-        b.packages.count,
-        b"- ",
-    )?;
-    show_numbers(out, sheet, SERVICE, &services, b.services.count, b"- ")
-}
-
-// A bundle of a region, unless as many as are shown come before it.
-fn show_one<W: Write>(out: &mut W, b: StoredBundle, sheet: &[u8], before: usize) -> io::Result<()> {
-    if before < MOST_SHOWN {
-        show_bundle(out, b, sheet)?;
-    }
-    Ok(())
-}
-
-// The bundles of a region, and how many they are.
-fn show_bundles<W: Write>(
-    out: &mut W,
-    places: [StoredBundle; MOST_BUNDLES],
-    count: usize,
-    sheet: &[u8],
-    region: u32,
-) -> io::Result<usize> {
-    let mut n: usize = 0;
-    for i in 0..MOST_BUNDLES {
-        if i == count {
-            break;
-        }
-        let b = places[i];
-        if b.region == region {
-            show_one(out, b, sheet, n)?;
-            n += 1;
-        }
-    }
-    Ok(n)
+    let packages = List {
+        kind: Kind::Package,
+        margin: "- ",
+        numbers: first(&b.packages.numbers, b.packages.count),
+        lowest: &b.packages.versions,
+        highest: &[],
+    };
+    packages.show(out, names)?;
+    let services = List {
+        kind: Kind::Service,
+        margin: "- ",
+        numbers: first(&b.services.items, b.services.count),
+        lowest: &[],
+        highest: &[],
+    };
+    services.show(out, names)
 }
 
 // What is to be said after the bundles of a region that has so many.
@@ -75,28 +45,31 @@ fn show_rest<W: Write>(out: &mut W, count: usize) -> io::Result<()> {
     Ok(())
 }
 
-fn show_region<W: Write>(out: &mut W, graph: Graph, sheet: &[u8], region: u32) -> io::Result<()>
+fn show_region<W: Write>(out: &mut W, graph: Graph, names: Names, region: u32) -> io::Result<()>
     requires { Valid graph }
 {
-    let places = graph.bundle_places();
-    write!(out, "  {region} [")?;
-    show_colour(out, region)?;
-    out.write_all(b", label=\"region ")?;
-    show_item(out, sheet, REGION, region)?;
+    let colour = Colour(region);
+    write!(out, "  {region} [{colour}, label=\"region ")?;
+    names.show(out, Kind::Region, region)?;
     out.write_all(b"\\l\\l")?;
-    let n = show_bundles(out, places, graph.bundle_count(), sheet, region)?;
-    show_rest(out, n)?;
+    let places = graph.bundle_places();
+    let count = graph.bundle_count();
+    let bundles = places.iter().take(count).filter(|b| b.region == region);
+    for b in bundles.take(MOST_SHOWN) {
+        show_bundle(out, b, names)?;
+    }
+    let bundles = places.iter().take(count).filter(|b| b.region == region);
+    show_rest(out, bundles.count())?;
     out.write_all(b"\"];\n")
 }
 
-pub fn show_regions<W: Write>(out: &mut W, graph: Graph, sheet: &[u8]) -> io::Result<()>
+pub fn show_regions<W: Write>(out: &mut W, graph: Graph, names: Names) -> io::Result<()>
     requires { Valid graph }
 {
     let set = graph.region_set();
-    for i in 0..REGIONS {
-        let region = i as u32;
+    for region in 0..REGIONS as u32 {
         if has(set, region) {
-            show_region(out, graph, sheet, region)?;
+            show_region(out, graph, names, region)?;
         }
     }
     Ok(())

@@ -2,10 +2,10 @@
 // to write one. The file `stdout` has the answers.
 #![tactic(auto)]
 
-ghost use Rattle.std.specs.Prelude.{◌≤◌, length, IfOk};
-
 use name_sheet::{locate, lookup};
-use script_text::{first_line, has_bytes, is, put_hex, show_bytes, value};
+use region_graph::refusals::Refusal;
+use script_text::{Hex, has_bytes, put_hex, value, word};
+use std::alloc::{AllocError, Global};
 use std::io;
 use std::io::{BufWriter, Read, Write};
 
@@ -15,60 +15,38 @@ const SCRIPT: u64 = 65536;
 // Room for the bytes of a sheet.
 const ROOM: usize = 4096;
 
-fn show_word<W: Write>(out: &mut W, number: u64) -> io::Result<()> {
-    write!(out, "{number} ")
-}
-
-// Where the part that a lookup hands back starts in the sheet.
-fn start(sheet: &[u8], kind: u32, number: u32) -> usize {
-    let located = locate(sheet, kind, number);
-    located.from
+// Where the name of a kind and number starts in the sheet, and the name.
+fn found(sheet: &[u8], kind: u32, number: u32) -> Result<(usize, &[u8]), Refusal> {
+    Ok((
+        locate(sheet, kind, number)?.start,
+        lookup(sheet, kind, number)?,
+    ))
 }
 
 // The answer to a lookup: its number, and of the part where it starts, its length and its bytes.
 fn answer<W: Write>(out: &mut W, sheet: &[u8], kind: u32, number: u32) -> io::Result<()> {
-    let mut refusal: u32 = 0;
-    let name = lookup(sheet, kind, number, &mut refusal);
-    show_word(out, refusal as u64)?;
-    show_word(out, start(sheet, kind, number) as u64)?;
-    show_word(out, name.len() as u64)?;
-    show_bytes(out, name, name.len())
+    match found(sheet, kind, number) {
+        Ok((start, name)) => writeln!(out, "0 {start} {} {}", name.len(), Hex(name)),
+        Err(refusal) => writeln!(out, "{} 0 0 -", refusal.number()),
+    }
 }
 
-// The length of the sheet after a line: `sheet` starts one with no bytes, a line that has bytes adds them.
-fn next_length(bytes: &mut [u8], count: usize, line: &[u8]) -> usize
-    requires { count ≤ length bytes.old }
-    ensures { result ≤ length bytes.old }
-{
-    if is(line, b"sheet") {
-        return 0;
-    }
-    if has_bytes(line) {
-        return count + put_hex(&mut bytes[count..], line);
-    }
-    count
+// Adds the bytes of a line to a sheet, as many as have room.
+fn add(alloc: Global, sheet: &mut Vec<u8>, line: &[u8]) -> Result<(), AllocError> {
+    let mut bytes = vec![in alloc; 0u8; ROOM.saturating_sub(sheet.len())]?;
+    let count = put_hex(&mut bytes, line);
+    sheet.extend_from_slice(&bytes[..count])
 }
 
-// Obeys a line on the sheet, and hands back its length.
-fn obey<W: Write>(out: &mut W, bytes: &mut [u8], count: usize, line: &[u8]) -> io::Result<usize>
-    requires { count ≤ length bytes.old }
-    ensures { IfOk result (λ next. next ≤ length bytes.old) }
-{
-    if is(line, b"lookup") {
-        answer(out, &bytes[0..count], value(line, 1), value(line, 2))?;
-    }
-    Ok(next_length(bytes, count, line))
-}
-
-fn run<W: Write>(out: &mut W, script: &[u8]) -> io::Result<()> {
-    let mut room = [0u8; ROOM];
-    let bytes: &mut [u8] = &mut room;
-    let mut count: usize = 0;
-    let mut at: usize = 0;
-    while at < script.len() {
-        let line = first_line(&script[at..]);
-        count = obey(out, bytes, count, line)?;
-        at += line.len() + 1;
+fn run<W: Write>(out: &mut W, alloc: Global, script: &[u8]) -> io::Result<()> {
+    let mut sheet = Vec::new(alloc);
+    for line in script.split(|byte| *byte == b'\n') {
+        match word(line, 0) {
+            b"lookup" => answer(out, &sheet, value(line, 1), value(line, 2))?,
+            b"sheet" => sheet.clear(),
+            _ if has_bytes(line) => add(alloc, &mut sheet, line)?,
+            _ => {}
+        }
     }
     Ok(())
 }
@@ -77,6 +55,6 @@ fn main(rt: HostRuntime) -> io::Result<()> {
     let mut script = Vec::new(rt.alloc());
     rt.reader().take(SCRIPT).read_to_end(&mut script)?;
     let mut out = BufWriter::new(rt.alloc(), io::writer(&rt))?;
-    run(&mut out, script.as_slice())?;
+    run(&mut out, rt.alloc(), script.as_slice())?;
     out.flush()
 }

@@ -1,13 +1,11 @@
 -- An entry in bytes: it is told by them, and read from them.
 use mathlib.Core.Path.{◌≡◌, refl, sym, ap, ◌∙◌, subst}
-use mathlib.Core.Bool.{false}
 use mathlib.Core.List.{List, ◌++◌, append_assoc}
 use Prim.Native.Nat.{ℕ, ◌+◌, ◌-◌, ◌*◌, ◌^◌, ◌≤◌, ◌<◌}
 use native.Mathlib.Omega.{arith}
 use lib.ListN.{length, take, drop, length-append, length-drop, take-append-drop}
 use lib.Seq.{length-take-le, drop-drop, take_at}
 use Rattle.region_graph.specs.Lists.{All}
-use Rattle.region_graph.proofs.Lists.{false_true}
 use Rattle.region_graph.proofs.Ascending.{pair_order}
 use Rattle.big_endian.specs.Bytes.{big}
 use Rattle.big_endian.specs.Parsing.{Parsed, Unparsed}
@@ -18,8 +16,6 @@ use Rattle.big_endian.proofs.Rows.{Elements}
 use Rattle.name_sheet.specs.Sheet.{Entry, Printable, LegalSheetEntry, greatest_kind, sheet_entry_before, entry_fields, entry_bytes}
 use Rattle.name_sheet.specs.File.{head_length}
 use Rattle.name_sheet.specs.Promise.{between}
-use Rattle.name_sheet.specs.Reading.{EntryRead}
-use Rattle.name_sheet.specs.declared.entries.EntryAt.{EntryAt}
 
 pub fields_length : (e : Entry) → length (entry_fields e) ≡ 5 + length e.name
 fields_length e =
@@ -70,11 +66,6 @@ pub no_size : (s : List ℕ) (at : ℕ) → Unparsed (λ x. x < 256 ^ 2) (big 2)
 no_size s at u e r h f =
     let l = length (entry_fields e) in
     u l (entry_fields e ++ r) (omega (arith, fields_length e, h.few)) (f ∙ append_assoc (big 2 l) (entry_fields e) r)
-
--- the answer that there is no entry
-pub none_read : {s : List ℕ} {at : ℕ} {r : EntryAt} → r ≡ record { ok = false; next = at; kind = 0; number = 0 }
-    → Unparsed LegalSheetEntry entry_bytes s at → EntryRead s at r
-none_read e u = record { found = λ f. false_true (sym (ap (λ (q : EntryAt). q.ok) e) ∙ f); missing = λ f. u }
 
 -- a length stands at a place
 module _ {s : List ℕ} {at n a : ℕ} (size : Parsed (λ x. x < 256 ^ 2) (big 2) s at n a) where

@@ -8,6 +8,7 @@ use borrow.Author.Tests.{eqb-true, eqb-false}
 use lib.Dec.{eqb}
 use lib.ListN.{length, drop, length-drop}
 use Rattle.region_graph.specs.Lists.{All, ascends}
+use Rattle.region_graph.proofs.Lists.{false_true}
 use Rattle.big_endian.specs.Bytes.{big}
 use Rattle.big_endian.specs.Parsing.{Parsed}
 use Rattle.big_endian.proofs.Digits.{big_length}
@@ -41,11 +42,14 @@ pub one_sheet : (es fs : List Entry) → LegalEntries es → LegalEntries fs →
 one_sheet es fs l k e = sym (entries_back es l) ∙ ap entries_read e ∙ entries_back fs k
 
 module _ {s : List ℕ} where
-  -- a file of fewer bytes than the front has
-  pub front_short : length s < front_length → (es : List Entry) → LegalEntries es → sheet es ≡ s → ⊥
-  front_short h es l e = omega (arith, sheet_length es, ap length e)
+  pub no_front : ((es : List Entry) → LegalEntries es → sheet es ≡ s → ⊥) → FrontRead s false
+  no_front u = record { yes = λ e. false_true e; no = λ e. u }
 
-  module _ (long : front_length ≤ length s) {n a : ℕ} (first : Parsed (λ x. x < 256 ^ 1) (big 1) s 0 n a) where
+  -- a file of fewer bytes than the front has
+  pub front_short : (front_length ≤ length s → ⊥) → (es : List Entry) → LegalEntries es → sheet es ≡ s → ⊥
+  front_short h es l e = h (omega (arith, sheet_length es, ap length e))
+
+  module _ {n a : ℕ} (first : Parsed (λ x. x < 256 ^ 1) (big 1) s 0 n a) where
     -- the first byte is that of the version, or the file is no sheet
     first_byte : s ≡ n ∷ drop a s
     first_byte =
@@ -64,6 +68,9 @@ module _ {s : List ℕ} where
         where
           ends : (a ≡ 1) × (b ≡ front_length)
           ends = (omega (arith, first.ends, big_length 1 n), omega (arith, size.ends, big_length 4 k))
+
+          long : front_length ≤ length s
+          long = omega (arith, ends.1, size.room)
 
           opens : eqb k (length s - front_length) ≡ true → StartsAsSheet s
           opens e =

@@ -6,15 +6,6 @@ mod sheet;
 
 pub use sheet::{locate, lookup};
 
-// Where the name of a kind and number stands in a sheet: 0, and the part from a place up to another; or a refusal's number, and the
-// empty part at the sheet's start.
-#[derive(Clone, Copy)]
-pub struct Located {
-    pub refusal: u32,
-    pub from: usize,
-    pub to: usize,
-}
-
 // The first byte of a sheet.
 const VERSION: u32 = 1;
 

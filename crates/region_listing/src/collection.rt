@@ -11,6 +11,7 @@ use region_routes::Kind;
 
 pub const MOST_DIFFERENT: usize = MOST_BUNDLES * MOST_PROVIDED;
 
+// The items that are there stand in the first places. There is no heap: it has places for as many as the bundles can hold.
 #[derive(Clone, Copy)]
 pub struct Collection {
     pub count: usize,
@@ -18,32 +19,24 @@ pub struct Collection {
     pub versions: [u16; MOST_DIFFERENT],
 }
 
-// What a list has joins a collection, each unless it is there.
-fn join(collection: Collection, list: Packages) -> Collection
-    requires collected { Collected collection (items_in collection) }
-    requires packages_stored { PackagesStored list }
-    requires list_len_bound { length (items_in collection) + length (packages_of list) ≤ most_different }
-    ensures { Collected result (joined_all (items_in collection) (packages_of list)) }
-{
-    let mut numbers = collection.numbers;
-    let mut versions = collection.versions;
-    let mut n = collection.count;
-    let count = list.count;
-    let mut i: usize = 0;
-    while i < count {
-        let number = list.numbers[i];
-        let version = list.versions[i];
-        i += 1;
-        if !has_package(&numbers[..n], &versions[..n], number, version) {
-            numbers[n] = number;
-            versions[n] = version;
-            n += 1;
+impl Collection {
+    // What a list has joins the collection, each unless it is there.
+    fn join(&mut self, list: &Packages)
+        requires collected { Collected self.old (items_in self.old) }
+        requires packages_stored { PackagesStored list.now }
+        requires list_len_bound { length (items_in self.old) + length (packages_of list.now) ≤ most_different }
+        ensures { Collected self.new (joined_all (items_in self.old) (packages_of list.now)) }
+    {
+        for i in 0..list.count {
+            let number = list.numbers[i];
+            let version = list.versions[i];
+            let n = self.count;
+            if !has_package(&self.numbers[..n], &self.versions[..n], number, version) {
+                self.numbers[n] = number;
+                self.versions[n] = version;
+                self.count = n + 1;
+            }
         }
-    }
-    Collection {
-        count: n,
-        numbers,
-        versions,
     }
 }
 
@@ -87,12 +80,9 @@ pub fn collect(graph: Graph, kind: Kind) -> Collection
     };
     let places = graph.bundle_places();
     let count = graph.bundle_count();
-    let mut i: usize = 0;
-    while i < count {
-        let b = places[i];
-        let list = provided_by(b, kind);
-        all = join(all, list);
-        i += 1;
+    for i in 0..count {
+        let list = provided_by(places[i], kind);
+        all.join(&list);
     }
     all
 }

@@ -11,19 +11,17 @@ use region_graph::{Graph, Item};
 use region_routes::{Kind, kind_number, regions_seeing};
 
 // Counts each member of a set once more.
-fn count_members(counts: [u32; REGIONS], set: u64) -> [u32; REGIONS]
-    requires { CountsFit counts × (set < 2 ^ regions) }
-    ensures { CountedOnce counts set result }
+fn count_members(counts: &mut [u32; REGIONS], set: u64)
+    requires { CountsFit counts.old × (set < 2 ^ regions) }
+    ensures { CountedOnce counts.old set counts.new }
 {
-    let mut next = counts;
+    // What is left loses a member at each turn: so there are as many turns as the set has members, not one for each region.
     let mut left = set;
     while left != 0 {
         let n = lowest(left);
         left = without_lowest(left);
-        let at = n as usize;
-        next[at] = next[at] + 1;
+        counts[n as usize] += 1;
     }
-    next
 }
 
 // How many different items of a kind each region sees.
@@ -32,22 +30,15 @@ pub fn seen(graph: Graph, kind: Kind) -> [u32; REGIONS]
     ensures { Counted (meaning graph) kind result }
 {
     let all = collect(graph, kind);
-    let numbers = all.numbers;
-    let versions = all.versions;
-    let count = all.count;
     let code = kind_number(kind);
     let mut counts = [0u32; REGIONS];
-    let mut i: usize = 0;
-    while i < count {
+    for i in 0..all.count {
         let item = Item {
             kind: code,
-            number: numbers[i],
-            version: versions[i],
+            number: all.numbers[i],
+            version: all.versions[i],
         };
-        let set = regions_seeing(graph, item);
-        let next = count_members(counts, set);
-        counts = next;
-        i += 1;
+        count_members(&mut counts, regions_seeing(graph, item));
     }
     counts
 }

@@ -19,31 +19,33 @@ const LINE: usize = 25;
 
 pub const LONGEST: usize = HEADER + MOST_BUNDLES * LINE;
 
-// A text in the first places, and 0 in each other place.
+// A text in the first places, and 0 in each other place. There is no heap: it has places for the longest text.
 #[derive(Clone, Copy)]
 pub struct Text {
     pub length: usize,
     pub bytes: [u8; LONGEST],
 }
 
-// Writes the line of five numbers.
-fn put_row(
-    buffer: &mut [u8],
-    at: usize,
+// The numbers of a line.
+#[derive(Clone, Copy)]
+struct Row {
     location: u32,
     region: u32,
     bundles: u32,
     packages: u32,
     services: u32,
-) -> usize
-    requires { at + length (line_of location region bundles packages services) ≤ length buffer.old }
-    ensures { WrittenAt buffer.old buffer.new at (line_of location region bundles packages services) result }
+}
+
+// Writes a line.
+fn put_row(buffer: &mut [u8], at: usize, row: Row) -> usize
+    requires { at + length (line_of row.location row.region row.bundles row.packages row.services) ≤ length buffer.old }
+    ensures { WrittenAt buffer.old buffer.new at (line_of row.location row.region row.bundles row.packages row.services) result }
 {
-    let a = put_field(buffer, at, location, b' ');
-    let b = put_field(buffer, a, region, b' ');
-    let c = put_field(buffer, b, bundles, b' ');
-    let d = put_field(buffer, c, packages, b' ');
-    put_field(buffer, d, services, b'\n')
+    let a = put_field(buffer, at, row.location, b' ');
+    let b = put_field(buffer, a, row.region, b' ');
+    let c = put_field(buffer, b, row.bundles, b' ');
+    let d = put_field(buffer, c, row.packages, b' ');
+    put_field(buffer, d, row.services, b'\n')
 }
 
 // Writes the header, and the line of each bundle.
@@ -58,20 +60,17 @@ fn put_listing(buffer: &mut [u8], graph: Graph) -> usize
     let places = graph.bundle_places();
     let count = graph.bundle_count();
     let mut at = put_bytes(buffer, 0, b"asker region bundles packages services\n");
-    let mut i: usize = 0;
-    while i < count {
+    for i in 0..count {
         let b = places[i];
         let r = b.region as usize;
-        at = put_row(
-            buffer,
-            at,
-            b.location,
-            b.region,
-            bundles[r],
-            packages[r],
-            services[r],
-        );
-        i += 1;
+        let row = Row {
+            location: b.location,
+            region: b.region,
+            bundles: bundles[r],
+            packages: packages[r],
+            services: services[r],
+        };
+        at = put_row(buffer, at, row);
     }
     at
 }
@@ -98,15 +97,11 @@ pub fn list_archive(bytes: &[u8]) -> Text
 {
     let archive = read(bytes);
     let mut text = blank();
-    if archive.number != NOT_REFUSED {
-        let length = put_refusal(&mut text, archive.number);
-        return Text {
-            length,
-            bytes: text,
-        };
-    }
-    let graph = archive.graph;
-    let length = put_listing(&mut text, graph);
+    let length = if archive.number != NOT_REFUSED {
+        put_refusal(&mut text, archive.number)
+    } else {
+        put_listing(&mut text, archive.graph)
+    };
     Text {
         length,
         bytes: text,

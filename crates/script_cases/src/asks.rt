@@ -6,50 +6,58 @@
 // LENGTH is how many bytes the buffer has. The query is of the file that stands.
 ghost use Rattle.region_graph.specs.Record.{Valid};
 
-use crate::answers::{show_room, show_routed, show_written};
-use crate::buffers::{BEFORE, ROOM};
+use crate::buffers::{ROOM, bytes};
 use region_archive::{Written, archive_query};
 use region_graph::Graph;
-use script_text::{show_number, value, version};
+use region_routes::Routed;
+use script_text::{Hex, value, version};
+use std::alloc::Global;
 use std::io;
 use std::io::Write;
 
-pub fn route<W: Write>(out: &mut W, g: Graph, line: &[u8]) -> io::Result<()>
+pub fn route<W: Write>(out: &mut W, alloc: Global, g: Graph, line: &[u8]) -> io::Result<()>
     requires { Valid g }
 {
-    let mut room = [BEFORE; ROOM];
-    let n = ROOM.min(value(line, 5) as usize);
+    let mut room = bytes(alloc, value(line, 5) as usize)?;
     let answer = region_routes::route(
         g,
         value(line, 1),
         value(line, 2),
         value(line, 3),
         version(line, 4),
-        &mut room[..n],
+        &mut room,
     );
-    show_routed(out, answer)?;
-    show_room(out, &room, n)
+    let room = Hex(&room);
+    match answer {
+        Routed::Hidden => writeln!(out, "0 hidden {room}"),
+        Routed::Count(count) => writeln!(out, "0 {count} {room}"),
+        Routed::Refused(number) => writeln!(out, "{number} - {room}"),
+    }
 }
 
-pub fn write<W: Write>(out: &mut W, g: Graph, line: &[u8]) -> io::Result<()>
+pub fn write<W: Write>(out: &mut W, alloc: Global, g: Graph, line: &[u8]) -> io::Result<()>
     requires { Valid g }
 {
-    let mut room = [BEFORE; ROOM];
-    let n = ROOM.min(value(line, 1) as usize);
-    let answer = region_archive::write(g, &mut room[..n]);
-    show_written(out, answer)?;
-    show_room(out, &room, n)
+    let mut room = bytes(alloc, value(line, 1) as usize)?;
+    let answer = region_archive::write(g, &mut room);
+    let room = Hex(&room);
+    match answer {
+        Written::Bytes(length) => writeln!(out, "0 {length} {room}"),
+        Written::Refused(number) => writeln!(out, "{number} - {room}"),
+    }
 }
 
 // The image alone: what is written to a buffer that takes every image.
-pub fn image<W: Write>(out: &mut W, g: Graph) -> io::Result<()>
+pub fn image<W: Write>(out: &mut W, alloc: Global, g: Graph) -> io::Result<()>
     requires { Valid g }
 {
-    let mut room = [BEFORE; ROOM];
-    let answer = region_archive::write(g, &mut room);
-    match answer {
-        Written::Bytes(length) => show_room(out, &room, length),
-        Written::Refused(number) => show_number(out, number),
+    let mut room = bytes(alloc, ROOM)?;
+    match region_archive::write(g, &mut room) {
+        Written::Bytes(length) => {
+            room.truncate(length);
+            writeln!(out, "{}", Hex(&room))
+        }
+        Written::Refused(number) => writeln!(out, "{number}"),
     }
 }
 
@@ -61,5 +69,5 @@ pub fn query<W: Write>(out: &mut W, file: &[u8], line: &[u8]) -> io::Result<()> 
         value(line, 3),
         version(line, 4),
     );
-    show_number(out, number)
+    writeln!(out, "{number}")
 }

@@ -1,8 +1,11 @@
 // The changing calls, as lines of the script.
+ghost use Rattle.std.specs.Prelude.{IfOk};
 ghost use Rattle.region_graph.specs.Record.{Valid};
 
+use crate::buffers::{numbers, versions};
 use region_graph::{Changed, Graph};
-use script_text::{is, is_all, list, value, versions, word};
+use script_text::{value, word};
+use std::alloc::{AllocError, Global};
 
 // Room for the numbers of a list: more than a list may have.
 const ROOM: usize = 20;
@@ -10,93 +13,60 @@ const ROOM: usize = 20;
 // What a line that is no call is answered with.
 const NOT_A_CALL: u32 = 999;
 
+// Whether a word comes with the flag "all".
+fn is_all(word: &[u8]) -> bool {
+    word.first() == Some(&b'*')
+}
+
 // install REGION LOCATION PACKAGES VERSIONS SERVICES
-fn install(g: Graph, line: &[u8]) -> Changed
+fn install(alloc: Global, g: Graph, line: &[u8]) -> Result<Changed, AllocError>
     requires { Valid g }
-    ensures { Valid result.graph }
+    ensures { IfOk result (λ next. Valid next.graph) }
 {
-    let region = value(line, 1);
-    let location = value(line, 2);
-    let mut packages = [0u32; ROOM];
-    let mut of = [0u16; ROOM];
-    let mut services = [0u32; ROOM];
-    let n = list(word(line, 3), &mut packages);
-    let v = versions(word(line, 4), &mut of);
-    let m = list(word(line, 5), &mut services);
-    g.install(region, location, &packages[..n], &of[..v], &services[..m])
+    let packages = numbers(alloc, word(line, 3), ROOM)?;
+    let of = versions(alloc, word(line, 4), ROOM)?;
+    let services = numbers(alloc, word(line, 5), ROOM)?;
+    Ok(g.install(value(line, 1), value(line, 2), &packages, &of, &services))
 }
 
 // connect SOURCE TARGET BUNDLES PACKAGES LOWEST HIGHEST SERVICES
-fn connect(g: Graph, line: &[u8]) -> Changed
+fn connect(alloc: Global, g: Graph, line: &[u8]) -> Result<Changed, AllocError>
     requires { Valid g }
-    ensures { Valid result.graph }
+    ensures { IfOk result (λ next. Valid next.graph) }
 {
-    let mut bundles = [0u32; ROOM];
-    let mut packages = [0u32; ROOM];
-    let mut services = [0u32; ROOM];
-    let k = list(word(line, 3), &mut bundles);
-    let n = list(word(line, 4), &mut packages);
-    let m = list(word(line, 7), &mut services);
-    connect_lists(g, line, &bundles[..k], &packages[..n], &services[..m])
-}
-
-// The same, with the lists of numbers of the line.
-fn connect_lists(
-    g: Graph,
-    line: &[u8],
-    bundles: &[u32],
-    packages: &[u32],
-    services: &[u32],
-) -> Changed
-    requires { Valid g }
-    ensures { Valid result.graph }
-{
-    let source = value(line, 1);
-    let target = value(line, 2);
-    let mut lowest = [0u16; ROOM];
-    let mut highest = [0u16; ROOM];
-    let low = versions(word(line, 5), &mut lowest);
-    let high = versions(word(line, 6), &mut highest);
-    let all_packages = is_all(word(line, 4));
-    let all_services = is_all(word(line, 7));
-    g.connect(
-        source,
-        target,
-        bundles,
-        all_packages,
-        packages,
-        &lowest[..low],
-        &highest[..high],
-        all_services,
-        services,
-    )
+    let bundles = numbers(alloc, word(line, 3), ROOM)?;
+    let packages = numbers(alloc, word(line, 4), ROOM)?;
+    let lowest = versions(alloc, word(line, 5), ROOM)?;
+    let highest = versions(alloc, word(line, 6), ROOM)?;
+    let services = numbers(alloc, word(line, 7), ROOM)?;
+    Ok(g.connect(
+        value(line, 1),
+        value(line, 2),
+        &bundles,
+        is_all(word(line, 4)),
+        &packages,
+        &lowest,
+        &highest,
+        is_all(word(line, 7)),
+        &services,
+    ))
 }
 
 // The call of a line. A line that is none has a number of its own and changes nothing.
-pub fn call(g: Graph, line: &[u8]) -> Changed
+pub fn call(alloc: Global, g: Graph, line: &[u8]) -> Result<Changed, AllocError>
     requires { Valid g }
-    ensures { Valid result.graph }
+    ensures { IfOk result (λ next. Valid next.graph) }
 {
-    if is(line, b"add") {
-        return g.add_region(value(line, 1));
-    }
-    if is(line, b"remove") {
-        return g.remove_region(value(line, 1));
-    }
-    if is(line, b"install") {
-        return install(g, line);
-    }
-    if is(line, b"uninstall") {
-        return g.uninstall(value(line, 1));
-    }
-    if is(line, b"connect") {
-        return connect(g, line);
-    }
-    if is(line, b"disconnect") {
-        return g.disconnect(value(line, 1), value(line, 2));
-    }
-    Changed {
-        graph: g,
-        number: NOT_A_CALL,
+    match word(line, 0) {
+        b"add" => Ok(g.add_region(value(line, 1))),
+        b"remove" => Ok(g.remove_region(value(line, 1))),
+        b"install" => install(alloc, g, line),
+        b"uninstall" => Ok(g.uninstall(value(line, 1))),
+        b"connect" => connect(alloc, g, line),
+        b"disconnect" => Ok(g.disconnect(value(line, 1), value(line, 2))),
+        _ => Ok(Changed {
+            graph: g,
+            number: NOT_A_CALL,
+        }),
     }
 }

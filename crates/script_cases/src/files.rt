@@ -1,34 +1,41 @@
 // The file that stands, which calls read and query, and the base, a file over whose graph others are read.
-ghost use Rattle.std.specs.Prelude.{◌≤◌, length};
+use crate::buffers::ROOM;
+use script_text::{has_bytes, put_hex, word};
+use std::alloc::{AllocError, Global};
 
-use script_text::{has_bytes, is, put_hex};
-
-// Where the file starts and ends in a buffer. The bytes before it are the base.
-#[derive(Clone, Copy)]
-pub struct File {
-    pub start: usize,
-    pub end: usize,
+#[derive(Drop)]
+pub struct Files {
+    pub base: Vec<u8>,
+    pub file: Vec<u8>,
 }
 
-// The file after a line: `archive` starts one with no bytes, `keep` makes it the base, a line that has bytes adds them.
-pub fn next_file(bytes: &mut [u8], file: File, line: &[u8]) -> File
-    requires { (file.start ≤ file.end) × (file.end ≤ length bytes.old) }
-    ensures { (result.start ≤ result.end) × (result.end ≤ length bytes.old) }
-{
-    let start = file.start;
-    let end = file.end;
-    if is(line, b"archive") {
-        return File { start, end: start };
+impl Files {
+    pub fn new(alloc: Global) -> Files {
+        Files {
+            base: Vec::new(alloc),
+            file: Vec::new(alloc),
+        }
     }
-    if is(line, b"keep") {
-        return File { start: end, end };
+
+    // Follows a line: `archive` starts a file with no bytes, `keep` moves the file to the end of the base, a line that has bytes adds
+    // them to the file. Base and file have so many bytes as there is room for.
+    pub fn follow(&mut self, alloc: Global, line: &[u8]) -> Result<(), AllocError> {
+        match word(line, 0) {
+            b"archive" => self.file.clear(),
+            b"keep" => {
+                self.base.extend_from_slice(&self.file)?;
+                self.file.clear();
+            }
+            _ if has_bytes(line) => {
+                let left = ROOM
+                    .saturating_sub(self.base.len())
+                    .saturating_sub(self.file.len());
+                let mut bytes = vec![in alloc; 0u8; left]?;
+                let count = put_hex(&mut bytes, line);
+                self.file.extend_from_slice(&bytes[..count])?;
+            }
+            _ => {}
+        }
+        Ok(())
     }
-    if has_bytes(line) {
-        let count = put_hex(&mut bytes[end..], line);
-        return File {
-            start,
-            end: end + count,
-        };
-    }
-    file
 }

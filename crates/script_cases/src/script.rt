@@ -1,131 +1,86 @@
 // The script, line by line.
-ghost use Rattle.std.specs.Prelude.{◌≤◌, length, IfOk};
+ghost use Rattle.std.specs.Prelude.{IfOk};
 ghost use Rattle.region_graph.specs.Record.{Valid};
 
 use crate::asks::{image, query, route, write};
-use crate::buffers::ROOM;
 use crate::calls::call;
-use crate::files::{File, next_file};
+use crate::files::Files;
 use crate::hooks::{hook, resolve};
-use crate::words::{is_event, is_find, is_silent};
 use region_archive::{read, read_over};
 use region_graph::refusals::NOT_REFUSED;
 use region_graph::{Changed, Graph};
-use script_text::{first_line, is, show_number, value};
+use script_text::{has_bytes, value, word};
+use std::alloc::{AllocError, Global};
 use std::io;
 use std::io::Write;
 
-// Answers a line that asks something of the graph or of the file, and hands back whether it does.
-fn asked<W: Write>(out: &mut W, g: Graph, file: &[u8], line: &[u8]) -> io::Result<bool>
-    requires { Valid g }
-{
-    if is(line, b"route") {
-        route(out, g, line)?;
-        return Ok(true);
-    }
-    if is(line, b"write") {
-        write(out, g, line)?;
-        return Ok(true);
-    }
-    if is(line, b"image") {
-        image(out, g)?;
-        return Ok(true);
-    }
-    if is(line, b"query") {
-        query(out, file, line)?;
-        return Ok(true);
-    }
-    asked_hook(out, g, line)
-}
-
-// The same, of a hook.
-fn asked_hook<W: Write>(out: &mut W, g: Graph, line: &[u8]) -> io::Result<bool>
-    requires { Valid g }
-{
-    if is_find(line) {
-        hook(out, g, line, value(line, 2))?;
-        return Ok(true);
-    }
-    if is_event(line) {
-        hook(out, g, line, value(line, 1))?;
-        return Ok(true);
-    }
-    if is(line, b"resolve") {
-        resolve(out, g, line)?;
-        return Ok(true);
-    }
-    Ok(false)
+// Whether a line has no answer: it is empty or a comment, or has bytes.
+fn is_silent(line: &[u8]) -> bool {
+    matches!(line.first(), None | Some(0 | b'#')) || has_bytes(line)
 }
 
 // The file, read over the graph of the base.
-fn read_over_base(base: &[u8], file: &[u8]) -> Changed
+fn read_over_base(files: &Files) -> Changed
     ensures { Valid result.graph }
 {
-    let before = read(base);
-    read_over(before.graph, file)
+    let before = read(&files.base);
+    read_over(before.graph, &files.file)
 }
 
 // What a line makes of the graph: `start empty`, a read of the file (`read`, `lent`, `over`), or else one of the six changing calls.
-fn changed(g: Graph, base: &[u8], file: &[u8], line: &[u8]) -> Changed
+fn changed(alloc: Global, g: Graph, files: &Files, line: &[u8]) -> Result<Changed, AllocError>
     requires { Valid g }
-    ensures { Valid result.graph }
+    ensures { IfOk result (λ next. Valid next.graph) }
 {
-    if is(line, b"start") {
-        let graph = Graph::empty();
-        return Changed {
-            graph,
+    match word(line, 0) {
+        b"start" => Ok(Changed {
+            graph: Graph::empty(),
             number: NOT_REFUSED,
-        };
+        }),
+        b"read" => Ok(read(&files.file)),
+        b"lent" => Ok(read_over(g, &files.file)),
+        b"over" => Ok(read_over_base(files)),
+        _ => call(alloc, g, line),
     }
-    if is(line, b"read") {
-        return read(file);
-    }
-    if is(line, b"lent") {
-        return read_over(g, file);
-    }
-    if is(line, b"over") {
-        return read_over_base(base, file);
-    }
-    call(g, line)
 }
 
-// Obeys a line on the base and the file, which stand in a buffer one after the other, and hands back the next graph.
+// Obeys a line, and hands back the next graph.
 fn obey<W: Write>(
     out: &mut W,
+    alloc: Global,
     g: Graph,
-    bytes: &[u8],
-    start: usize,
-    end: usize,
+    files: &Files,
     line: &[u8],
 ) -> io::Result<Graph>
-    requires valid { Valid g }
-    requires start_le_end { (start ≤ end) × (end ≤ length bytes.now) }
+    requires { Valid g }
     ensures { IfOk result (λ next. Valid next) }
 {
-    let base = &bytes[0..start];
-    let file = &bytes[start..end];
-    if is_silent(line) {
-        return Ok(g);
+    match word(line, 0) {
+        b"archive" | b"keep" => {}
+        _ if is_silent(line) => {}
+        b"route" => route(out, alloc, g, line)?,
+        b"write" => write(out, alloc, g, line)?,
+        b"image" => image(out, alloc, g)?,
+        b"query" => query(out, &files.file, line)?,
+        b"bfind" | b"sfind" => hook(out, alloc, g, line, value(line, 2))?,
+        b"bevent" | b"sevent" => hook(out, alloc, g, line, value(line, 1))?,
+        b"resolve" => resolve(out, alloc, g, line)?,
+        _ => {
+            let next = changed(alloc, g, files, line)?;
+            writeln!(out, "{}", next.number)?;
+            return Ok(next.graph);
+        }
     }
-    if asked(out, g, file, line)? {
-        return Ok(g);
-    }
-    let next = changed(g, base, file, line);
-    show_number(out, next.number)?;
-    Ok(next.graph)
+    Ok(g)
 }
 
-pub fn run<W: Write>(out: &mut W, script: &[u8]) -> io::Result<()> {
-    let mut room = [0u8; ROOM];
-    let bytes: &mut [u8] = &mut room;
-    let mut file = File { start: 0, end: 0 };
+pub fn run<W: Write>(out: &mut W, alloc: Global, script: &[u8]) -> io::Result<()> {
+    let mut files = Files::new(alloc);
     let mut g = Graph::empty();
-    let mut at: usize = 0;
-    while at < script.len() {
-        let line = first_line(&script[at..]);
-        g = obey(out, g, bytes, file.start, file.end, line)?;
-        file = next_file(bytes, file, line);
-        at += line.len() + 1;
+    let lines: Vec<&[u8]> = script.split(|byte| *byte == b'\n').collect(alloc)?;
+    for line in &lines {
+        g = obey(out, alloc, g, &files, line)?;
+        files.follow(alloc, line)?;
     }
     Ok(())
 }

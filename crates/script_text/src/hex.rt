@@ -1,42 +1,37 @@
-// The bytes that a text has in hex.
-ghost use Rattle.std.specs.Prelude.{◌≤◌, ◌*◌, length};
+// Bytes as text in hex.
+ghost use Rattle.std.specs.Prelude.{◌≤◌, length};
 
-// What a hex digit is worth; 16 for any other byte.
-fn digit(byte: u8) -> u8
-    ensures { result ≤ 16 }
-{
-    match byte {
-        b'0'..=b'9' => byte - b'0',
-        b'A'..=b'F' => byte - b'A' + 10,
-        b'a'..=b'f' => byte - b'a' + 10,
-        _ => 16,
-    }
-}
+use std::fmt;
 
-// Puts a digit after so many others, and hands back how many there are then. What is no digit, or has no room, is passed over.
-fn put(bytes: &mut [u8], count: usize, byte: u8) -> usize
-    requires { count ≤ length bytes.old * 2 }
-    ensures { result ≤ length bytes.old * 2 }
-{
-    let worth = digit(byte);
-    let at = count / 2;
-    if worth == 16 {
-        return count;
-    }
-    if bytes.len() <= at {
-        return count;
-    }
-    bytes[at] = bytes[at] % 16 * 16 + worth;
-    count + 1
-}
-
-// Puts the bytes of a text at the start of `bytes`, as many as have room, and hands back how many they are.
+// Puts the bytes of a text at the start of `bytes`, as many as have room, and hands back how many they are. What is no digit is passed
+// over, and so is a last digit that has none beside it.
 pub fn put_hex(bytes: &mut [u8], text: &[u8]) -> usize
     ensures { result ≤ length bytes.old }
 {
-    let mut count: usize = 0;
-    for byte in text {
-        count = put(bytes, count, *byte);
+    let mut digits = text
+        .iter()
+        .filter_map(|byte| char::from(*byte).to_digit(16));
+    for (count, byte) in bytes.iter_mut().enumerate() {
+        let (Some(high), Some(low)) = (digits.next(), digits.next()) else {
+            return count;
+        };
+        *byte = (high * 16 + low) as u8;
     }
-    count / 2
+    bytes.len()
+}
+
+// Bytes as an answer has them: in hex, or `-` where there are none.
+#[derive(Clone, Copy)]
+pub struct Hex<'a>(pub &'a [u8]);
+
+impl fmt::Display for Hex<'_> {
+    fn fmt<W: fmt::Write>(&self, f: &mut fmt::Formatter<W>) -> fmt::Result {
+        if self.0.is_empty() {
+            return f.write_str("-");
+        }
+        for byte in self.0 {
+            write!(f, "{byte:02x}")?;
+        }
+        Ok(())
+    }
 }

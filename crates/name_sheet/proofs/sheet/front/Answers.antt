@@ -1,29 +1,20 @@
-use Prim.Native.Nat.{◌≤◌}
-use lib.ListN.{length}
 use native.Mathlib.Omega.{arith}
-use Rattle.region_graph.proofs.Lists.{false_true}
-use Rattle.big_endian.proofs.NumberReads.{number_there}
-use Rattle.name_sheet.proofs.OneSheet.{front_short, front_other, front_read}
+use borrow.Author.Tests.{eqb-true}
+use Rattle.big_endian.proofs.NumberReads.{bytes_missing}
+use Rattle.name_sheet.proofs.OneSheet.{no_front, front_short, front_other, front_read}
 use Rattle.name_sheet.proofs.sheet.front.Goals as goal
 
-pub returns-then-version-ne-VERSION : goal.returns-then-version-ne-VERSION
-returns-then-version-ne-VERSION c =
-    let long : 5 ≤ length c.args.sheet.now =
-    omega (arith, c.if-sheet-lt-FRONT.false) in
-    let v = c in
-    record {
-      yes = λ e. false_true e;
-      no = λ e. front_other long (number_there (omega arith) v.number_at-version.ensures (omega (arith, long))) c.if-version-ne-VERSION.true;
-    }
+-- a number that is not there shows that the front is not there
+pub returns-in_default : goal.returns-in_default
+returns-in_default c = no_front (front_short (λ h. bytes_missing (omega arith) (rw c.in_default.is-1 at c.number_at-2.ensures) (omega (arith, h))))
 
-pub returns : goal.returns
-returns c =
-    let long : 5 ≤ length c.args.sheet.now =
-    omega (arith, c.if-sheet-lt-FRONT.false) in
-    let l = c in
-    let v = l in
-    front_read long (number_there (omega arith) v.number_at-version.ensures (omega (arith, long))) l.if-version-ne-VERSION.false
-    (number_there (omega arith) l.number_at-size.ensures (omega (arith, long)))
+pub returns-in_default-2 : goal.returns-in_default-2
+returns-in_default-2 c = no_front (front_short (λ h. bytes_missing (omega arith) (rw c.in_default.is-0 at c.number_at.ensures) (omega (arith, h))))
 
-pub returns-then-sheet-lt-FRONT : goal.returns-then-sheet-lt-FRONT
-returns-then-sheet-lt-FRONT c = record { yes = λ e. false_true e; no = λ e. front_short c.if-sheet-lt-FRONT.true }
+pub returns-else-version-eq-VERSION : goal.returns-else-version-eq-VERSION
+returns-else-version-eq-VERSION c =
+    let other = front_other c.in-Some-Some.ensures.found c.if-version-eq-VERSION.false in
+    record { yes = λ e. absurd (c.if-version-eq-VERSION.false (eqb-true _ _ e)); no = λ e. other }
+
+pub returns-then-version-eq-VERSION : goal.returns-then-version-eq-VERSION
+returns-then-version-eq-VERSION c = front_read c.in-Some-Some.ensures.found c.if-version-eq-VERSION.true c.in-Some-Some.ensures'.found

@@ -1,4 +1,3 @@
-use Prim.Native.Nat.{◌-◌, ◌≤◌}
 use lib.ListN.{take}
 use Rattle.region_graph.specs.Record.{bundles_of}
 use Rattle.region_graph.specs.Places.{BundlesStored}
@@ -9,7 +8,4 @@ use Rattle.region_listing.proofs.collection.collect.Given as goal
 
 abbrev pub invariant-loop-i : goal.invariant-loop-i
 invariant-loop-i l =
-    (l.i ≤ l.count) × BundlesStored (in_places l.places l.count) × Collected l.all (held l.kind (take l.i (bundles_of (in_places l.places l.count))))
-
-abbrev pub decreases-loop-i : goal.decreases-loop-i
-decreases-loop-i l = l.count - l.i
+    BundlesStored (in_places l.places l.count) × Collected l.all (held l.kind (take l.i (bundles_of (in_places l.places l.count))))

@@ -13,23 +13,22 @@ use Rattle.region_listing.proofs.Counting.{Tally, tally_none, tally_fits, tally_
 use Rattle.region_listing.proofs.counts.seen.Goals as goal
 
 pub loop-i-init : goal.loop-i-init
-loop-i-init c = (omega arith, collected_own c.collect-all.ensures, tally_none)
+loop-i-init c = (collected_own c.collect-all.ensures, tally_none)
 
-pub count_members-next-requires : goal.count_members-next-requires
-count_members-next-requires c =
+pub count_members-requires : goal.count_members-requires
+count_members-requires c =
     let v = c.loop-i.invariant in (
-      tally_fits v.2 (omega (arith, v.1.count, collected_length v.1)),
-      subst (λ (x : ℕ). x < 2 ^ regions) (sym c.regions_seeing-set.ensures) (set_below_lt regions _),
+      tally_fits v.1 (omega (arith, v.0.count, collected_length v.0)),
+      subst (λ (x : ℕ). x < 2 ^ regions) (sym c.regions_seeing.ensures) (set_below_lt regions _),
     )
 
 pub loop-i-preserved : goal.loop-i-preserved
 loop-i-preserved c =
     let l = c.loop-i in
     let v = l.invariant in (
-      omega arith,
-      v.1,
-      tally_more v.2 (omega (arith, collected_length v.1)) (collected_at v.1 l.i (omega arith)) c.regions_seeing-set.ensures
-          c.count_members-next.ensures,
+      v.0,
+      tally_more v.1 (omega (arith, collected_length v.0)) (collected_at v.0 l.i (omega arith)) c.regions_seeing.ensures
+          c.count_members.ensures,
     )
 
 pub returns : goal.returns
@@ -38,6 +37,6 @@ returns c =
     let l = c.loop-i in
     let d = c.collect-all in
     let m = meaning s.graph in
-    let t = subst (λ (k : ℕ). Tally m k (items_in d.result) l.counts l.i) c.kind_number-code.ensures l.invariant.2 in
+    let t = subst (λ (k : ℕ). Tally m k (items_in d.result) l.counts l.i) c.kind_number-code.ensures l.invariant.1 in
     tally_all (omega (arith, collected_length d.ensures))
     (subst (λ (ps : List Package). Tally m (kind_number s.kind) ps l.counts l.i) d.ensures.those t)

@@ -17,8 +17,8 @@ put_listing-length-requires c =
     let b = c in
     record { valid = b.read-archive.ensures.valid; longest_text_in_bounds = omega (arith, ap length b.blank-text.ensures, length-replicate {A = ℕ} longest_text 0) }
 
-pub returns : goal.returns
-returns c =
+pub returns-else-archive-ne-NOT_REFUSED : goal.returns-else-archive-ne-NOT_REFUSED
+returns-else-archive-ne-NOT_REFUSED c =
     let b = c in
     let r = b.read-archive.ensures in
     λ f. text_stored b.blank-text.ensures c.put_listing-length.ensures

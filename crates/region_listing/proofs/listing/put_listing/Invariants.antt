@@ -1,10 +1,6 @@
-use Prim.Native.Nat.{◌-◌}
 use Rattle.region_listing.proofs.ListingLaws.{row, Lining}
 use Rattle.region_listing.proofs.listing.put_listing.Given as goal
 
 abbrev pub invariant-loop-i : goal.invariant-loop-i
 invariant-loop-i l =
     Lining (row l.bundles l.packages l.services) l.places l.count l.initial.buffer l.buffer l.initial.at l.at l.i
-
-abbrev pub decreases-loop-i : goal.decreases-loop-i
-decreases-loop-i l = l.count - l.i

@@ -16,14 +16,8 @@ from_2 region bundles packages services = decimal_field region space ++ from_3 b
 
 pub returns : goal.returns
 returns c =
-    let w5 = c in
-    let w4 = w5 in
-    let w3 = w4 in
-    let w2 = w3 in
-    let w1 = w2 in
-    let s = w1 in
-    let a = s.args in
-    puts (decimal_field a.location space) (from_2 a.region a.bundles a.packages a.services) w1.put_field-a.ensures
-    (puts (decimal_field a.region space) (from_3 a.bundles a.packages a.services) w2.put_field-b.ensures
-    (puts (decimal_field a.bundles space) (from_4 a.packages a.services) w3.put_field-c.ensures
-    (puts (decimal_field a.packages space) (decimal_field a.services newline) w4.put_field-d.ensures (put_wrote w5.put_field.ensures)))) s.requires
+    let a = c.args.row in
+    puts (decimal_field a.location space) (from_2 a.region a.bundles a.packages a.services) c.put_field-a.ensures
+    (puts (decimal_field a.region space) (from_3 a.bundles a.packages a.services) c.put_field-b.ensures
+    (puts (decimal_field a.bundles space) (from_4 a.packages a.services) c.put_field-c.ensures
+    (puts (decimal_field a.packages space) (decimal_field a.services newline) c.put_field-d.ensures (put_wrote c.put_field.ensures)))) c.requires

@@ -39,7 +39,7 @@ returns-then-to-stop c =
       size = c.loop-field.invariant.0 ∙ sym c.requires.1;
       answer =
           misfit q c.in_ok-length.ensures c.loop-field.invariant.1 (omega (arith, c.loop-field-test.false, c.field_count-field-end.ensures))
-          c.if-to-stop.true;
+          (λ e. omega (arith, e, c.if-to-stop.true));
     }
 
 pub returns : goal.returns

@@ -1,17 +1,17 @@
 -- The sections of a body, read one after the other.
-use mathlib.Core.Path.{◌≡◌, sym, ap, ◌∙◌, subst}
+use mathlib.Core.Path.{◌≡◌, refl, sym, ap, ◌∙◌, subst}
 use mathlib.Core.Bool.{Bool, true, false}
 use mathlib.Core.List.{List, [], ◌++◌, append-nil, append_assoc}
 use Prim.Native.Nat.{ℕ}
 use native.Mathlib.Omega.{arith}
 use lib.ListN.{length, take, drop, length-append, length-drop}
-use Rattle.region_graph.specs.Refusals.{broken_layout}
+use Rattle.std.specs.Prelude.{Result, Err}
+use Rattle.region_graph.specs.declared.refusals.Refusal.{Refusal}
+use Rattle.region_graph.specs.declared.Graph.{Graph}
 use Rattle.region_graph.specs.Sets.{members}
 use Rattle.region_graph.specs.Size.{regions}
 use Rattle.region_graph.specs.Model.{Model, Bundle, Connection, Legal}
-use Rattle.region_graph.specs.Promise.{Empty}
 use Rattle.region_graph.specs.Flat.{FlatModel, Made}
-use Rattle.region_graph.specs.declared.Changed.{Changed}
 use Rattle.region_graph.proofs.Lists.{false_true}
 use Rattle.region_graph.proofs.FlatModels.{flat_made}
 use Rattle.region_graph.specs.Decoded.{GoodRegions}
@@ -103,12 +103,12 @@ module _ (v : ℕ) {s : List ℕ} {at : ℕ} where
           }
 
 -- no body stands there, or one that ends before the bytes do
-module _ {v : ℕ} {s : List ℕ} {at : ℕ} {r : Changed} (refused : (r.number ≡ broken_layout) × Empty r.graph) where
-  pub no_body : NoBody v s at → BodyRead v s at r
-  no_body u = broken (λ m l e. u m [] l (e ∙ sym (append-nil (body_in v m)))) refused.0 refused.1
+module _ {v : ℕ} {s : List ℕ} {at : ℕ} where
+  pub no_body : NoBody v s at → BodyRead v s at (Err Refusal.BrokenLayout)
+  no_body u = broken (λ m l e. u m [] l (e ∙ sym (append-nil (body_in v m)))) refl
 
-  pub longer : {x : Model} {end : ℕ} → Body v s at x end → (end ≡ length s → ⊥) → BodyRead v s at r
-  longer {x} {end} p u = broken other refused.0 refused.1
+  pub longer : {x : Model} {end : ℕ} → Body v s at x end → (end ≡ length s → ⊥) → BodyRead v s at (Err Refusal.BrokenLayout)
+  longer {x} {end} p u = broken other refl
     where
       other : (m : Model) → LegalIn v m → drop at s ≡ body_in v m → ⊥
       other m l e =
@@ -144,7 +144,7 @@ module _ (v : ℕ) {s : List ℕ} {at : ℕ} {list : List ℕ} {x : Regions} {mi
 
 -- the graph of these lists is the body's
 pub body_made : {v : ℕ} {s : List ℕ} {at : ℕ} {rl bl cl : List ℕ} {end : ℕ} → Sections v s at rl bl cl end → end ≡ length s
-    → {r : Changed} → Made rl bl cl r → BodyRead v s at r
+    → {r : Result Graph Refusal} → Made rl bl cl r → BodyRead v s at r
 body_made {v} {s} {at} {rl} {bl} {cl} t e d =
     let g = flat_made rl bl cl t.model t.parsed.is_good.0 t.flat d in
-    whole t.model (subst (λ (n : ℕ). Parsed (LegalIn v) (body_in v) s at t.model n) e t.parsed) g.number g.valid g.means
+    whole t.model (subst (λ (n : ℕ). Parsed (LegalIn v) (body_in v) s at t.model n) e t.parsed) g.graph g.is g.valid g.means

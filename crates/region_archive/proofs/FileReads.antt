@@ -14,9 +14,8 @@ use Rattle.region_graph.specs.Lists.{pick}
 use Rattle.region_graph.specs.Model.{Model, Legal, nothing}
 use Rattle.region_graph.specs.Calls.{Question, first_no, ask}
 use Rattle.region_graph.specs.Record.{Valid, meaning}
-use Rattle.region_graph.specs.Promise.{Empty}
 use Rattle.region_graph.specs.declared.Graph.{Graph}
-use Rattle.region_graph.specs.declared.Changed.{Changed}
+use Rattle.std.specs.Prelude.{Result, Ok, Err}
 use Rattle.region_graph.proofs.Lists.{and_fst}
 use Rattle.region_graph.proofs.Legal.{all_yes, first_no_stops, first_no_goes_on}
 use Rattle.big_endian.specs.Bytes.{big}
@@ -25,7 +24,7 @@ use Rattle.region_archive.specs.File.{FileMeaning, means, means_none, is_image, 
 use Rattle.region_archive.specs.File.{oldest, opens, length_field, front_questions}
 use Rattle.big_endian.specs.Parsing.{Parsed}
 use Rattle.big_endian.proofs.Digits.{drop_byte, digits_none, digits_more, digits_all}
-use Rattle.region_archive.specs.Promise.{Reads, ReadsOver}
+use Rattle.region_archive.specs.Promise.{ReadsOver, Given}
 use Rattle.region_archive.specs.Sections.{LegalIn, BodyRead, whole, broken}
 use Rattle.region_archive.proofs.OneImage.{image_body, first_version, one_image, image_front}
 
@@ -139,41 +138,37 @@ module _ {s : List ℕ} where
   refused_model (means v m l h e) u = absurd (u (sym (accepted (means v m l h e) v m (l, h) e).0))
   refused_model (means_none n) u = refl
 
-  -- a refused read gives the empty record
-  pub reads_refused : {r : Changed} {k : ℕ} → (r.number ≡ k) × Empty r.graph → (k ≡ not_refused → ⊥)
-      → ((f : FileMeaning s) → k ≡ read_number f) → Reads s r
-  reads_refused {r} {k} (n, z) u e = record {
-    valid = z.valid;
-    says = λ f. record { number = n ∙ e f; next = z.model ∙ sym (refused_model f (λ h. u (e f ∙ h))) };
-  }
+  -- a refusal, with the number that the file is read with
+  pub read_refused : (e : Refusal) → ((f : FileMeaning s) → refusal_number e ≡ read_number f) → Given s (Err e)
+  read_refused e u f = (u f, sym (refused_model f (λ h. refusal_positive e (u f ∙ h))))
 
   -- what the body gave is what the file means
-  pub body_reads : (bytes : (i : ℕ) → get_or s i 0 < 256) → not_refused ≡ first_no (asked s) → {r : Changed} → BodyRead (first_byte s) s 5 r
-      → Reads s r
-  body_reads bytes z {r} (whole m p n v e) = record {
-    valid = v;
-    says = λ f.
-        let a = accepted f (first_byte s) m p.is_good (image_is s bytes z m p refl) in
-        record { number = n ∙ a.0; next = e ∙ a.1 };
-  }
-  body_reads bytes z {r} (broken u n v) = reads_refused (n, v) (λ e. omega arith) (λ f. broken_file f z (bodiless s u))
+  pub body_reads : (bytes : (i : ℕ) → get_or s i 0 < 256) → not_refused ≡ first_no (asked s) → {r : Result Graph Refusal}
+      → BodyRead (first_byte s) s 5 r → Given s r
+  body_reads bytes z {r} (whole m p g i v e) =
+      subst (Given s) (sym i) (record {
+        valid = v;
+        says = λ f.
+            let a = accepted f (first_byte s) m p.is_good (image_is s bytes z m p refl) in
+            record { number = a.0; next = e ∙ a.1 };
+      })
+  body_reads bytes z {r} (broken u i) = subst (Given s) (sym i) (read_refused Refusal.BrokenLayout (λ f. broken_file f z (bodiless s u)))
 
   -- over a record at hand, a refused read hands that record back
-  pub over_refused : {g : Graph} → Valid g → {a : Changed} → Reads s a → (a.number ≡ not_refused → ⊥)
-      → ReadsOver g s (record { graph = g; number = a.number })
-  over_refused {g} v {a} h u = record {
+  pub over_refused : {g : Graph} → Valid g → (e : Refusal) → Given s (Err e) → ReadsOver g s (record { graph = g; number = refusal_number e })
+  over_refused {g} v e h = record {
     valid = v;
     kept = λ w. refl;
     says = λ f.
-        let refuse = ne_eqb (read_number f) not_refused (λ z. u ((h.says f).number ∙ z)) in
-        record { number = (h.says f).number; next = sym (ap (λ (b : Bool). pick b (read_model f) (meaning g)) refuse) };
+        let refuse = ne_eqb (read_number f) not_refused (λ z. refusal_positive e ((h f).0 ∙ z)) in
+        record { number = (h f).0; next = sym (ap (λ (b : Bool). pick b (read_model f) (meaning g)) refuse) };
   }
 
-  pub over_accepted : {g : Graph} {a : Changed} → Reads s a → a.number ≡ not_refused → ReadsOver g s a
-  over_accepted {g} {a} h e = record {
-    valid = h.valid;
-    kept = λ w. absurd (w e);
+  pub over_accepted : {g h : Graph} → Given s (Ok h) → ReadsOver g s (record { graph = h; number = not_refused })
+  over_accepted {g} r = record {
+    valid = r.valid;
+    kept = λ w. absurd (w refl);
     says = λ f.
-        let accept = eq-eqb (read_number f) not_refused (sym (h.says f).number ∙ e) in
-        record { number = (h.says f).number; next = (h.says f).next ∙ sym (ap (λ (b : Bool). pick b (read_model f) (meaning g)) accept) };
+        let accept = eq-eqb (read_number f) not_refused (sym (r.says f).number) in
+        record { number = (r.says f).number; next = (r.says f).next ∙ sym (ap (λ (b : Bool). pick b (read_model f) (meaning g)) accept) };
   }

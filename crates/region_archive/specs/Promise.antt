@@ -1,14 +1,14 @@
 -- What the public calls of the archive promise.
-use Rattle.std.specs.Prelude.{◌≡◌, List, [], ◌∷◌, ◌++◌, ℕ, eqb, leb, length, Result, Ok, Err}
+use Rattle.std.specs.Prelude.{◌≡◌, Bool, Result, Ok, Err, List, [], ◌∷◌, ◌++◌, ℕ, eqb, leb, length}
 use Rattle.region_graph.specs.Refusals.{not_refused, not_installed, not_a_kind, no_place, has_versions, refusal_number}
 use Rattle.region_graph.specs.declared.refusals.Refusal.{Refusal}
 use Rattle.region_graph.specs.Lists.{pick}
-use Rattle.region_graph.specs.Model.{Model}
+use Rattle.region_graph.specs.Model.{Model, nothing}
 use Rattle.region_graph.specs.Calls.{Question, ask, first_no}
 use Rattle.region_graph.specs.Record.{Valid, meaning}
 use Rattle.region_graph.specs.Promise.{place_of}
 use Rattle.region_graph.specs.declared.Graph.{Graph}
-use Rattle.region_graph.specs.declared.Changed.{Changed}
+use Rattle.region_graph.specs.Promise.{Changed}
 use Rattle.region_routes.specs.Hooks.{Returned, Outcome, written, is_installed, judged, item, sees_from}
 use Rattle.region_archive.specs.Image.{image, unversioned, older_image}
 use Rattle.region_archive.specs.File.{FileMeaning, read_model, read_questions, read_number}
@@ -65,6 +65,11 @@ pub record Reads (s : List ℕ) (r : Changed) : Type 0 where
   pub valid : Valid r.graph
   pub says : (f : FileMeaning s) → ReadAs f r
 
+-- what a read answers: a graph, or a refusal with the empty sets
+abbrev pub Given : List ℕ → Result Graph Refusal → Type 0
+Given s (Ok g) = Reads s (record { graph = g; number = not_refused })
+Given s (Err e) = (f : FileMeaning s) → (refusal_number e ≡ read_number f) × (nothing ≡ read_model f)
+
 -- the same with a record at hand: a refused read hands that record back
 pub record ReadOver {s : List ℕ} (g : Graph) (f : FileMeaning s) (r : Changed) : Type 0 where
   pub number : r.number ≡ read_number f
@@ -96,3 +101,8 @@ query_answer f location kind number version =
 
 abbrev pub Queried : List ℕ → ℕ → ℕ → ℕ → ℕ → ℕ → Type 0
 Queried s location kind number version r = (f : FileMeaning s) → r ≡ query_answer f location kind number version
+
+-- the number that an archive query's answer gives
+abbrev pub query_number : Result Bool Refusal → ℕ
+query_number (Ok sees) = pick sees seen_number hidden_number
+query_number (Err e) = refusal_number e

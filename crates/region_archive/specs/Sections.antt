@@ -1,11 +1,10 @@
 -- What the private functions promise of an archive's records and sections.
-use Rattle.std.specs.Prelude.{◌≡◌, Bool, true, List, ◌++◌, ℕ, suc, ◌+◌, ◌≤◌, ◌<◌, ◌^◌, length, take, drop, Option, MatchOption}
+use Rattle.std.specs.Prelude.{◌≡◌, Bool, true, List, ◌++◌, ℕ, suc, ◌+◌, ◌≤◌, ◌<◌, ◌^◌, length, take, drop, Option, MatchOption, Result, Ok, Err}
 use Rattle.region_graph.specs.Sets.{members}
-use Rattle.region_graph.specs.Refusals.{not_refused, broken_layout}
+use Rattle.region_graph.specs.declared.refusals.Refusal.{Refusal}
 use Rattle.region_graph.specs.Model.{Model, Part, Legal}
 use Rattle.region_graph.specs.Record.{Valid, meaning}
-use Rattle.region_graph.specs.Promise.{Empty}
-use Rattle.region_graph.specs.declared.Changed.{Changed}
+use Rattle.region_graph.specs.declared.Graph.{Graph}
 use Rattle.region_graph.specs.Decoded.{GoodRegions}
 use Rattle.region_graph.specs.Flat.{Fields, FlatPart, Flat}
 use Rattle.big_endian.specs.Bytes.{big, counted}
@@ -77,9 +76,7 @@ SectionRead k rs bytes at rows r =
 abbrev pub LegalIn : ℕ → Model → Type 0
 LegalIn v m = Legal m × (in_version v m ≡ true)
 
--- a body was read at a place, to the end, in a file of version v: the graph of the model whose body it is, or a refusal and the empty
--- graph where it is none's
-pub data BodyRead (v : ℕ) (s : List ℕ) (at : ℕ) (r : Changed) : Type 0 where
-  whole : (m : Model) → Parsed (LegalIn v) (body_in v) s at m (length s) → r.number ≡ not_refused → Valid r.graph
-      → meaning r.graph ≡ m → BodyRead v s at r
-  broken : ((m : Model) → LegalIn v m → drop at s ≡ body_in v m → ⊥) → r.number ≡ broken_layout → Empty r.graph → BodyRead v s at r
+-- a body was read at a place, to the end, in a file of version v: the graph of the model whose body it is, or a refusal where it is none's
+pub data BodyRead (v : ℕ) (s : List ℕ) (at : ℕ) (r : Result Graph Refusal) : Type 0 where
+  whole : (m : Model) → Parsed (LegalIn v) (body_in v) s at m (length s) → (g : Graph) → r ≡ Ok g → Valid g → meaning g ≡ m → BodyRead v s at r
+  broken : ((m : Model) → LegalIn v m → drop at s ≡ body_in v m → ⊥) → r ≡ Err Refusal.BrokenLayout → BodyRead v s at r

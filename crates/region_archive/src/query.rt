@@ -4,10 +4,10 @@ ghost use Rattle.region_graph.specs.Record.{Valid, meaning};
 ghost use Rattle.region_graph.specs.Promise.{place_of};
 ghost use Rattle.region_graph.specs.Sets.{set_of};
 ghost use Rattle.region_routes.specs.Chosen.{sees};
-ghost use Rattle.region_archive.specs.Promise.{Queried};
+ghost use Rattle.region_archive.specs.Promise.{Queried, query_number};
 
 use crate::reading::read;
-use region_graph::refusals::{NOT_A_KIND, NOT_INSTALLED, NOT_REFUSED};
+use region_graph::refusals::Refusal;
 use region_graph::region_set::has;
 use region_graph::{Graph, Item, Place};
 use region_routes::regions_seeing;
@@ -34,29 +34,32 @@ fn seeing_in(graph: &Graph, item: Item) -> u64
     regions_seeing(*graph, item)
 }
 
-// Whether the bundle at a location sees an item in the graph of an archive; or a refusal's number.
-pub fn archive_query(bytes: &[u8], location: u32, kind: u32, item: u32, version: u16) -> u32
-    ensures { Queried bytes.now location kind item version result }
+// Whether the bundle at a location sees an item in the graph of an archive. The graph is read where the answer stands, so that the stack
+// holds it once.
+pub fn archive_query(
+    bytes: &[u8],
+    location: u32,
+    kind: u32,
+    item: u32,
+    version: u16,
+) -> Result<bool, Refusal>
+    ensures { Queried bytes.now location kind item version (query_number result) }
 {
     let archive = read(bytes);
-    if archive.number != NOT_REFUSED {
-        return archive.number;
-    }
-    let place = place_in(&archive.graph, location);
-    let Place::Within(region) = place else {
-        return NOT_INSTALLED;
+    let graph = match &archive {
+        Ok(graph) => graph,
+        Err(refusal) => return Err(*refusal),
+    };
+    let Place::Within(region) = place_in(graph, location) else {
+        return Err(Refusal::NotInstalled);
     };
     if 2 < kind {
-        return NOT_A_KIND;
+        return Err(Refusal::NotAKind);
     }
     let sought = Item {
         kind,
         number: item,
         version,
     };
-    let set = seeing_in(&archive.graph, sought);
-    if has(set, region) {
-        return SEEN;
-    }
-    HIDDEN
+    Ok(has(seeing_in(graph, sought), region))
 }

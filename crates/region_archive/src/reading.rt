@@ -3,20 +3,19 @@ ghost use Rattle.std.specs.Prelude.{◌≡◌};
 ghost use Rattle.region_graph.specs.Record.{Valid};
 ghost use Rattle.region_graph.specs.Calls.{first_no};
 ghost use Rattle.region_graph.specs.Refusals.{answer_number};
-ghost use Rattle.region_graph.specs.Promise.{Empty};
 ghost use Rattle.region_archive.specs.File.{oldest, opens, front_questions};
 ghost use Rattle.region_archive.specs.Image.{latest};
-ghost use Rattle.region_archive.specs.Promise.{Reads, ReadsOver};
+ghost use Rattle.region_archive.specs.Promise.{Given, ReadsOver};
 
 use crate::FRONT;
 use crate::record_fields::Section;
 use crate::sections::{regions_at, section_at};
 use crate::version::{LATEST, OLDEST, has_version};
 use big_endian::number_at;
+use region_graph::Graph;
 use region_graph::flat::{BUNDLE_WIDTH, CONNECTION_WIDTH};
-use region_graph::refusals::{BROKEN_LAYOUT, NOT_REFUSED, Refusal};
+use region_graph::refusals::Refusal;
 use region_graph::size::{MOST_BUNDLES, MOST_CONNECTIONS, REGIONS};
-use region_graph::{Changed, Graph};
 
 // Whether bytes have the front of an archive, of a version from an oldest to a latest.
 pub fn opens(bytes: &[u8], oldest: usize, latest: usize) -> bool
@@ -38,76 +37,52 @@ fn front(bytes: &[u8]) -> Result<(), Refusal>
     }
 }
 
-// A refusal's number and the empty graph.
-fn refused(number: u32) -> Changed
-    ensures { (result.number ≡ number) × Empty result.graph }
-{
-    let empty = Graph::empty();
-    Changed {
-        graph: empty,
-        number,
-    }
-}
-
-// The graph whose image the bytes are, or a refusal's number and the empty graph. It is one function, and a call of its own, so that
-// the stack holds the graph no more often than it must.
+// The graph whose image the bytes are. It is one function, and a call of its own, so that the stack holds the graph no more often than it
+// must.
 #[inline(never)]
-pub fn read(bytes: &[u8]) -> Changed
-    ensures { Reads bytes.now result }
+pub fn read(bytes: &[u8]) -> Result<Graph, Refusal>
+    ensures { Given bytes.now result }
 {
-    if let Err(refusal) = front(bytes) {
-        return refused(refusal.number());
-    }
+    front(bytes)?;
     let version = usize::from(bytes[0]);
     let mut list = [0u32; REGIONS];
-    let mut bundles = [0u64; MOST_BUNDLES * BUNDLE_WIDTH];
-    let mut connections = [0u64; MOST_CONNECTIONS * CONNECTION_WIDTH];
+    let mut bundle_rows = [0u64; MOST_BUNDLES * BUNDLE_WIDTH];
+    let mut connection_rows = [0u64; MOST_CONNECTIONS * CONNECTION_WIDTH];
     let Some(regions) = regions_at(bytes, FRONT, &mut list) else {
-        return refused(BROKEN_LAYOUT);
+        return Err(Refusal::BrokenLayout);
     };
     let set = regions.value.set;
     if !has_version(set, version) {
-        return refused(BROKEN_LAYOUT);
+        return Err(Refusal::BrokenLayout);
     }
-    let Some(b) = section_at(
-        bytes,
-        regions.next,
-        Section::Bundles(version),
-        set,
-        &mut bundles,
-    ) else {
-        return refused(BROKEN_LAYOUT);
+    let kind = Section::Bundles(version);
+    let Some(bundles) = section_at(bytes, regions.next, kind, set, &mut bundle_rows) else {
+        return Err(Refusal::BrokenLayout);
     };
-    let Some(c) = section_at(
-        bytes,
-        b.next,
-        Section::Connections(version),
-        set,
-        &mut connections,
-    ) else {
-        return refused(BROKEN_LAYOUT);
+    let kind = Section::Connections(version);
+    let Some(connections) = section_at(bytes, bundles.next, kind, set, &mut connection_rows) else {
+        return Err(Refusal::BrokenLayout);
     };
-    if c.next != bytes.len() {
-        return refused(BROKEN_LAYOUT);
+    if connections.next != bytes.len() {
+        return Err(Refusal::BrokenLayout);
     }
     Graph::of_flat(
         &list[..regions.value.count],
-        &bundles[..b.value],
-        &connections[..c.value],
+        &bundle_rows[..bundles.value],
+        &connection_rows[..connections.value],
     )
 }
 
-// The graph whose image the bytes are, or a refusal's number and the graph that was at hand.
-pub fn read_over(graph: Graph, bytes: &[u8]) -> Changed
-    requires { Valid graph }
-    ensures { ReadsOver graph bytes.now result }
+// Makes a graph the one whose image the bytes are; on a refusal it stays as it was.
+pub fn read_over(graph: &mut Graph, bytes: &[u8]) -> Result<(), Refusal>
+    requires { Valid graph.old }
+    ensures { ReadsOver graph.old bytes.now (record { graph = graph.new; number = answer_number result }) }
 {
-    let archive = read(bytes);
-    if archive.number != NOT_REFUSED {
-        return Changed {
-            graph,
-            number: archive.number,
-        };
+    match read(bytes) {
+        Ok(archive) => {
+            *graph = archive;
+            Ok(())
+        }
+        Err(refusal) => Err(refusal),
     }
-    archive
 }

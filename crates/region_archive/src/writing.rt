@@ -83,96 +83,113 @@ fn region_count(set: u64) -> usize
         .count()
 }
 
-// A list: its count, then its elements.
-fn put_list(buffer: &mut [u8], at: usize, form: Form, list: &Codes) -> usize
-    requires form_fits { FormFits form × CodesFit list.now }
-    requires list_in_bounds { at + length (counted (element_bytes form) (codes_of list.now)) ≤ length buffer.old }
-    ensures { WrittenAt buffer.old buffer.new at (counted (element_bytes form) (codes_of list.now)) result }
-{
-    let mut to = put_number(buffer, at, 1, list.count);
-    for code in &list.items[..list.count] {
-        to = put_element(buffer, to, form.width, (*code >> form.skipped) as usize);
-    }
-    to
-}
-
-// A part: a list, or the sign for everything.
-fn put_part(buffer: &mut [u8], at: usize, form: Form, part: &Codes) -> usize
-    requires form_fits { FormFits form × CodePartFits part.now }
-    requires part_in_bounds { at + length (part_bytes (element_bytes form) (part_of part.now)) ≤ length buffer.old }
-    ensures { WrittenAt buffer.old buffer.new at (part_bytes (element_bytes form) (part_of part.now)) result }
-{
-    if part.count == EVERYTHING {
-        put_number(buffer, at, 1, EVERYTHING)
-    } else {
-        put_list(buffer, at, form, part)
-    }
-}
-
-// A field of a record.
-fn put_field(
-    buffer: &mut [u8],
+// A buffer that is written from a place on.
+#[derive(Drop)]
+struct Writer<'a> {
+    buffer: &'a mut [u8],
     at: usize,
-    section: Section,
-    field: usize,
-    values: &FieldValues,
-) -> usize
-    requires values_fit { ValuesFit values.now }
-    requires field_within { (field + 1 ≤ field_count section) × (at + length (field_bytes section field (fields_in values.now)) ≤ length buffer.old) }
-    ensures { WrittenAt buffer.old buffer.new at (field_bytes section field (fields_in values.now)) result }
-{
-    match field {
-        0 => put_number(buffer, at, first_width(section), values.first as usize),
-        1 => put_number(buffer, at, 1, values.second as usize),
-        _ => put_part(
-            buffer,
-            at,
-            form_of(section, field),
-            &values.parts[field - 2],
-        ),
-    }
 }
 
-// A record: the length of its fields, then the fields.
-fn put_record(buffer: &mut [u8], at: usize, section: Section, values: &FieldValues) -> usize
-    requires values_fit { ValuesFit values.now }
-    requires values_in_bounds { at + length (sized 2 (fields_bytes section) (fields_in values.now)) ≤ length buffer.old }
-    ensures { WrittenAt buffer.old buffer.new at (sized 2 (fields_bytes section) (fields_in values.now)) result }
-{
-    let mut to = put_number(buffer, at, 2, fields_size(section, values));
-    for field in 0..field_count(section) {
-        to = put_field(buffer, to, section, field, values);
+impl Writer<'_> {
+    fn number(&mut self, width: usize, number: usize)
+        requires { self.old.at + width ≤ length self.old.buffer.now }
+        ensures written { WrittenAt self.old.buffer.now self.new.buffer.now self.old.at (big width number) self.new.at }
+        ensures same_buffer { self.new.buffer.ghost_name ≡ self.old.buffer.ghost_name }
+    {
+        self.at = put_number(self.buffer, self.at, width, number);
     }
-    to
-}
 
-// A section: the count of its records, then the records.
-fn put_records<R: Record>(buffer: &mut [u8], at: usize, records: &[R], version: usize) -> usize
-    requires each_fits { All R.fits records.now }
-    requires few { length records.now ≤ most_bundles }
-    requires records_in_bounds { at + length (records_bytes (R.section version) R.fields records.now) ≤ length buffer.old }
-    ensures { WrittenAt buffer.old buffer.new at (records_bytes (R.section version) R.fields records.now) result }
-{
-    let section = R::section(version);
-    let mut to = put_number(buffer, at, 1, records.len());
-    for record in records {
-        to = put_record(buffer, to, section, &record.values());
+    fn element(&mut self, width: usize, number: usize)
+        requires { self.old.at + width ≤ length self.old.buffer.now }
+        ensures written { WrittenAt self.old.buffer.now self.new.buffer.now self.old.at (big width number) self.new.at }
+        ensures same_buffer { self.new.buffer.ghost_name ≡ self.old.buffer.ghost_name }
+    {
+        self.at = put_element(self.buffer, self.at, width, number);
     }
-    to
-}
 
-// The regions of a set: their count, then their numbers.
-fn put_regions(buffer: &mut [u8], at: usize, set: u64) -> usize
-    requires { at + length (counted (big 1) (members set)) ≤ length buffer.old }
-    ensures { WrittenAt buffer.old buffer.new at (counted (big 1) (members set)) result }
-{
-    let mut to = put_number(buffer, at, 1, region_count(set));
-    for region in 0..REGIONS as u32 {
-        if has(set, region) {
-            to = put_number(buffer, to, 1, region as usize);
+    // A list: its count, then its elements.
+    fn list(&mut self, form: Form, list: &Codes)
+        requires form_fits { FormFits form × CodesFit list.now }
+        requires list_in_bounds { self.old.at + length (counted (element_bytes form) (codes_of list.now)) ≤ length self.old.buffer.now }
+        ensures written { WrittenAt self.old.buffer.now self.new.buffer.now self.old.at (counted (element_bytes form) (codes_of list.now)) self.new.at }
+        ensures same_buffer { self.new.buffer.ghost_name ≡ self.old.buffer.ghost_name }
+    {
+        self.number(1, list.count);
+        for code in &list.items[..list.count] {
+            self.element(form.width, (*code >> form.skipped) as usize);
         }
     }
-    to
+
+    // A part: a list, or the sign for everything.
+    fn part(&mut self, form: Form, part: &Codes)
+        requires form_fits { FormFits form × CodePartFits part.now }
+        requires part_in_bounds { self.old.at + length (part_bytes (element_bytes form) (part_of part.now)) ≤ length self.old.buffer.now }
+        ensures written { WrittenAt self.old.buffer.now self.new.buffer.now self.old.at (part_bytes (element_bytes form) (part_of part.now)) self.new.at }
+        ensures same_buffer { self.new.buffer.ghost_name ≡ self.old.buffer.ghost_name }
+    {
+        if part.count == EVERYTHING {
+            self.number(1, EVERYTHING);
+        } else {
+            self.list(form, part);
+        }
+    }
+
+    // A field of a record.
+    fn field(&mut self, section: Section, field: usize, values: &FieldValues)
+        requires values_fit { ValuesFit values.now }
+        requires field_within { field + 1 ≤ field_count section }
+        requires field_in_bounds { self.old.at + length (field_bytes section field (fields_in values.now)) ≤ length self.old.buffer.now }
+        ensures written { WrittenAt self.old.buffer.now self.new.buffer.now self.old.at (field_bytes section field (fields_in values.now)) self.new.at }
+        ensures same_buffer { self.new.buffer.ghost_name ≡ self.old.buffer.ghost_name }
+    {
+        match field {
+            0 => self.number(first_width(section), values.first as usize),
+            1 => self.number(1, values.second as usize),
+            _ => self.part(form_of(section, field), &values.parts[field - 2]),
+        }
+    }
+
+    // A record: the length of its fields, then the fields.
+    fn record(&mut self, section: Section, values: &FieldValues)
+        requires values_fit { ValuesFit values.now }
+        requires values_in_bounds { self.old.at + length (sized 2 (fields_bytes section) (fields_in values.now)) ≤ length self.old.buffer.now }
+        ensures written { WrittenAt self.old.buffer.now self.new.buffer.now self.old.at (sized 2 (fields_bytes section) (fields_in values.now)) self.new.at }
+        ensures same_buffer { self.new.buffer.ghost_name ≡ self.old.buffer.ghost_name }
+    {
+        self.number(2, fields_size(section, values));
+        for field in 0..field_count(section) {
+            self.field(section, field, values);
+        }
+    }
+
+    // A section: the count of its records, then the records.
+    fn records<R: Record>(&mut self, records: &[R], version: usize)
+        requires each_fits { All R.fits records.now }
+        requires few { length records.now ≤ most_bundles }
+        requires records_in_bounds { self.old.at + length (records_bytes (R.section version) R.fields records.now) ≤ length self.old.buffer.now }
+        ensures written { WrittenAt self.old.buffer.now self.new.buffer.now self.old.at (records_bytes (R.section version) R.fields records.now) self.new.at }
+        ensures same_buffer { self.new.buffer.ghost_name ≡ self.old.buffer.ghost_name }
+    {
+        let section = R::section(version);
+        self.number(1, records.len());
+        for record in records {
+            self.record(section, &record.values());
+        }
+    }
+
+    // The regions of a set: their count, then their numbers.
+    fn regions(&mut self, set: u64)
+        requires { self.old.at + length (counted (big 1) (members set)) ≤ length self.old.buffer.now }
+        ensures written { WrittenAt self.old.buffer.now self.new.buffer.now self.old.at (counted (big 1) (members set)) self.new.at }
+        ensures same_buffer { self.new.buffer.ghost_name ≡ self.old.buffer.ghost_name }
+    {
+        self.number(1, region_count(set));
+        for region in 0..REGIONS as u32 {
+            if has(set, region) {
+                self.number(1, region as usize);
+            }
+        }
+    }
 }
 
 // How many bytes follow the length in the image of a graph in a version.
@@ -206,12 +223,13 @@ fn write_in(graph: Graph, version: usize, buffer: &mut [u8]) -> Result<usize, Re
     }
     let bundles = graph.bundle_places();
     let connections = graph.connection_places();
-    let a = put_number(buffer, 0, 1, version);
-    let b = put_number(buffer, a, 4, size);
-    let c = put_regions(buffer, b, graph.region_set());
-    let d = put_records(buffer, c, &bundles[..graph.bundle_count()], version);
-    let end = put_records(buffer, d, &connections[..graph.connection_count()], version);
-    Ok(end)
+    let mut writer = Writer { buffer, at: 0 };
+    writer.number(1, version);
+    writer.number(4, size);
+    writer.regions(graph.region_set());
+    writer.records(&bundles[..graph.bundle_count()], version);
+    writer.records(&connections[..graph.connection_count()], version);
+    Ok(writer.at)
 }
 
 // The image of a graph at the buffer's start.

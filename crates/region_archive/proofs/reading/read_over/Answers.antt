@@ -1,8 +1,8 @@
 use Rattle.region_archive.proofs.FileReads.{over_refused, over_accepted}
 use Rattle.region_archive.proofs.reading.read_over.Goals as goal
 
-pub returns-then-archive-ne-NOT_REFUSED : goal.returns-then-archive-ne-NOT_REFUSED
-returns-then-archive-ne-NOT_REFUSED c = over_refused c.requires c.read-archive.ensures c.if-archive-ne-NOT_REFUSED.true
+pub returns-in-Ok : goal.returns-in-Ok
+returns-in-Ok c = over_accepted c.in-Ok.ensures
 
-pub returns : goal.returns
-returns c = over_accepted c.read-archive.ensures c.if-archive-ne-NOT_REFUSED.false
+pub returns-in-Err : goal.returns-in-Err
+returns-in-Err c = over_refused c.requires c.in-Err.refusal c.in-Err.ensures

@@ -10,7 +10,7 @@ ghost use Rattle.region_routes.specs.Hooks.{kind_number, item, kept, kept_outcom
 ghost use Rattle.region_routes.specs.Tables.{NumberTables, most_entries, «place_at», «all_placed», stands_in};
 
 use crate::search::{regions_seeing, regions_seeing_by};
-use crate::tables::{Chains, EVERYTHING_NUMBER, FEW, MOST_ENTRIES, offers, passages, wide};
+use crate::tables::{Chains, EVERYTHING_NUMBER, FEW, Table};
 use crate::{Kept, Kind};
 use region_graph::refusals::{NO_PLACE, NOT_INSTALLED};
 use region_graph::region_set::has;
@@ -63,13 +63,13 @@ fn keep_many(graph: Graph, kind: Kind, region: u32, candidates: &[u32], out: &mu
     requires region_lt_regions { (region < regions) × (length candidates.now ≤ length out.old) }
     ensures { kept (Kept.Wrote result) out.new ≡ kept_outcome (keep (λ n. sees (meaning graph) (item (kind_number kind) n 0) region) candidates.now) out.old }
 {
-    let mut offered = [0u64; MOST_ENTRIES];
-    let given = offers(&mut offered, graph, kind);
-    let mut passing = [0u64; MOST_ENTRIES];
-    let passed = passages(&mut passing, graph, kind);
+    let mut offered = Table::new();
+    offered.put_offers(graph, kind);
+    let mut passing = Table::new();
+    passing.put_passages(graph, kind);
     keep_seen(
-        &offered[..given],
-        &passing[..passed],
+        offered.entries(),
+        passing.entries(),
         region,
         candidates,
         out,
@@ -130,7 +130,7 @@ fn all_installed(bundles: &Chains<'_>, listeners: &[u32]) -> bool
 {
     let mut i: usize = 0;
     while i < listeners.len() {
-        let place = bundles.place_of(wide(listeners[i]));
+        let place = bundles.place_of(u64::from(listeners[i]));
         i += 1;
         if let Place::Nowhere = place {
             return false;
@@ -143,7 +143,7 @@ fn all_installed(bundles: &Chains<'_>, listeners: &[u32]) -> bool
 fn stands_in(bundles: &Chains<'_>, listener: u32, set: u64) -> bool
     ensures { result ≡ stands_in set (place_at bundles.now.table.now listener) }
 {
-    let place = bundles.place_of(wide(listener));
+    let place = bundles.place_of(u64::from(listener));
     let Place::Within(region) = place else {
         return false;
     };
@@ -172,9 +172,9 @@ fn event(graph: Graph, kind: Kind, listeners: &[u32], number: u32, out: &mut [u3
     requires { Valid graph }
     ensures { kept result out.new ≡ event_outcome (meaning graph) kind listeners.now number out.old }
 {
-    let mut bundles = [0u64; MOST_ENTRIES];
-    let count = offers(&mut bundles, graph, Kind::Bundle);
-    let bundles = Chains::of(&bundles[..count]);
+    let mut bundles = Table::new();
+    bundles.put_offers(graph, Kind::Bundle);
+    let bundles = Chains::of(bundles.entries());
     if !all_installed(&bundles, listeners) {
         return Kept::Refused(NOT_INSTALLED);
     }

@@ -11,10 +11,7 @@ ghost use Rattle.region_routes.specs.Tables.{ExportTables, Room, most_entries, e
 
 use crate::hooks::kind_number;
 use crate::search::{Ends, search, search_for};
-use crate::tables::{
-    Chains, EVERYTHING_NUMBER, FEW, MOST_ENTRIES, offers, owner_number, owners, passages, spans,
-    wide,
-};
+use crate::tables::{Chains, EVERYTHING_NUMBER, FEW, Table, owner_number};
 use crate::{Kept, Kind};
 use region_graph::refusals::{NO_PLACE, NOT_INSTALLED};
 use region_graph::region_set::{has, singleton};
@@ -66,7 +63,7 @@ fn is_offered_by(
     exported: &Chains<'_>,
     owned: &[u64],
     passing: &Chains<'_>,
-    spans: &[u32],
+    spans: &[u64],
     always: [u64; REGIONS],
     region: u32,
     exporter: u32,
@@ -80,7 +77,7 @@ fn is_offered_by(
     ensures { (m : Model) → ExportTables m exported.now.table.now owned.now passing.now.table.now spans.now → result ≡ is_offered m (record { exporter = exporter; number = number; version = version }) region }
 {
     let owner = owner_number(exporter, version);
-    let sought = wide(number);
+    let sought = u64::from(number);
     let place = exported.place_beside(owned, owner, sought);
     let Place::Within(home) = place else {
         return false;
@@ -96,7 +93,7 @@ fn resolve_by(
     exported: &[u64],
     owned: &[u64],
     passing: &[u64],
-    spans: &[u32],
+    spans: &[u64],
     region: u32,
     exporters: &[u32],
     packages: &[u32],
@@ -148,19 +145,19 @@ fn resolve_many(
     requires region_lt_regions { (region < regions) × Room (candidates exporters.now packages.now versions.now) out_exporters.old out_packages.old out_versions.old }
     ensures { kept (Kept.Wrote result) (out_exporters.new ∷ out_packages.new ∷ out_versions.new ∷ []) ≡ resolved (keep (λ c. is_offered (meaning graph) c region) (candidates exporters.now packages.now versions.now)) (out_exporters.old ∷ out_packages.old ∷ out_versions.old ∷ []) }
 {
-    let mut exported = [0u64; MOST_ENTRIES];
-    let given = offers(&mut exported, graph, Kind::Package);
-    let mut owned = [0u64; MOST_ENTRIES];
-    let located = owners(&mut owned, graph);
-    let mut passing = [0u64; MOST_ENTRIES];
-    let passed = passages(&mut passing, graph, Kind::Package);
-    let mut span_places = [0u32; MOST_ENTRIES];
-    let spanned = spans(&mut span_places, graph);
+    let mut exported = Table::new();
+    exported.put_offers(graph, Kind::Package);
+    let mut owned = Table::new();
+    owned.put_owners(graph);
+    let mut passing = Table::new();
+    passing.put_passages(graph, Kind::Package);
+    let mut spans = Table::new();
+    spans.put_connection_spans(graph);
     resolve_by(
-        &exported[..given],
-        &owned[..located],
-        &passing[..passed],
-        &span_places[..spanned],
+        exported.entries(),
+        owned.entries(),
+        passing.entries(),
+        spans.entries(),
         region,
         exporters,
         packages,

@@ -13,7 +13,7 @@ pub returns-in-Nowhere : goal.returns-in-Nowhere
 returns-in-Nowhere c =
     let place : (let s = c.args in place_at s.bundles.now.table.now (get_or s.listeners.now c.loop-i.i 0) ≡ c.place_of-place.result) =
     sym (c.place_of-place.ensures ∙ ap (place_at c.args.bundles.now.table.now)
-    c.wide.ensures.0) in
+    c.from.ensures) in
     placing_stop c.loop-i.invariant (omega arith)
     (ap is_installed (place ∙ c.in-Nowhere.is))
 
@@ -21,7 +21,7 @@ pub loop-i-preserved : goal.loop-i-preserved
 loop-i-preserved c =
     let place : (let s = c.args in place_at s.bundles.now.table.now (get_or s.listeners.now c.loop-i.i 0) ≡ c.place_of-place.result) =
     sym (c.place_of-place.ensures ∙ ap (place_at c.args.bundles.now.table.now)
-    c.wide.ensures.0) in
+    c.from.ensures) in
     placing_next c.loop-i.invariant (omega arith)
     (ap is_installed (place ∙ c.in_default.is))
 

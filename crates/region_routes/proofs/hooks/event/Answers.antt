@@ -1,4 +1,4 @@
-use mathlib.Core.Path.{◌≡◌, refl, sym, ap, ◌∙◌}
+use mathlib.Core.Path.{◌≡◌, sym, ap, ◌∙◌}
 use mathlib.Core.Bool.{Bool}
 use mathlib.Core.List.{List}
 use Prim.Native.Nat.{ℕ}
@@ -8,7 +8,6 @@ use Rattle.region_graph.specs.Record.{meaning}
 use Rattle.region_routes.specs.Chosen.{sees}
 use Rattle.region_routes.specs.Hooks.{item, kind_number, kept_outcome, all_installed}
 use Rattle.region_routes.specs.Tables.{place_at, all_placed, offers}
-use Rattle.region_routes.proofs.TableLoops.{holding_long, holding_few}
 use Rattle.region_routes.proofs.TableLaws.{place_table, placed_installed}
 use Rattle.region_routes.proofs.Judging.{keep_stands}
 use Rattle.region_routes.proofs.Answering.{event_not_installed, event_no_place, event_answers}
@@ -19,29 +18,17 @@ asked : {m : Model} {es : List ℕ} (ls : List ℕ) {r b : Bool} → Legal m →
     → all_installed m ls ≡ b
 asked {m} ls h e k t = sym (k ∙ placed_installed m (place_table h e) ls) ∙ t
 
-pub offers-count-requires : goal.offers-count-requires
-offers-count-requires c = record { valid = c.requires; len = refl }
-
-pub slice_bounds-bundles-end : goal.slice_bounds-bundles-end
-slice_bounds-bundles-end c = c.offers-count.ensures.room
-
-pub slice_bounds-of-end : goal.slice_bounds-of-end
-slice_bounds-of-end c = holding_long c.offers-count.ensures
-
-pub of-bundles-requires : goal.of-bundles-requires
-of-bundles-requires c = holding_few c.offers-count.ensures
-
 pub returns-then-not-all_installed : goal.returns-then-not-all_installed
 returns-then-not-all_installed c =
     let s = c.args in
     event_not_installed (meaning s.graph) s.kind s.listeners.now s.number s.out.now
-    (asked s.listeners.now c.requires.good (c.of-bundles.ensures ∙ c.offers-count.ensures.table) c.all_installed.ensures c.if-not-all_installed.true)
+    (asked s.listeners.now c.requires.good (c.of-bundles.ensures ∙ c.entries.ensures.0 ∙ c.put_offers.ensures) c.all_installed.ensures c.if-not-all_installed.true)
 
 pub returns-then-out-listeners : goal.returns-then-out-listeners
 returns-then-out-listeners c =
     let s = c.args in
     event_no_place (meaning s.graph) s.kind s.listeners.now s.number s.out.now
-    (asked s.listeners.now c.requires.good (c.of-bundles.ensures ∙ c.offers-count.ensures.table) c.all_installed.ensures c.if-not-all_installed.false)
+    (asked s.listeners.now c.requires.good (c.of-bundles.ensures ∙ c.entries.ensures.0 ∙ c.put_offers.ensures) c.all_installed.ensures c.if-not-all_installed.false)
     c.if-out-listeners.true
 
 pub returns : goal.returns
@@ -49,10 +36,10 @@ returns c =
     let s = c.args in
     let m = meaning s.graph in
     event_answers m s.kind s.listeners.now s.number s.out.now
-    (asked s.listeners.now c.requires.good (c.of-bundles.ensures ∙ c.offers-count.ensures.table) c.all_installed.ensures c.if-not-all_installed.false)
+    (asked s.listeners.now c.requires.good (c.of-bundles.ensures ∙ c.entries.ensures.0 ∙ c.put_offers.ensures) c.all_installed.ensures c.if-not-all_installed.false)
     c.if-out-listeners.false
     (c.keep_standing-written.ensures
     ∙ ap (λ (ls : List ℕ). kept_outcome ls s.out.now)
     (keep_stands m (item (kind_number s.kind) s.number 0) c.requires.good
     (c.regions_seeing-set.ensures ∙ ap (λ (k : ℕ). set_of (sees m (item k s.number 0))) c.kind_number-kind.ensures)
-    (place_table c.requires.good (c.of-bundles.ensures ∙ c.offers-count.ensures.table)) s.listeners.now))
+    (place_table c.requires.good (c.of-bundles.ensures ∙ c.entries.ensures.0 ∙ c.put_offers.ensures)) s.listeners.now))

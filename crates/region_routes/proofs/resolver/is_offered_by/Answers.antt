@@ -32,14 +32,14 @@ pub returns-in_default : goal.returns-in_default
 returns-in_default c m t =
     let a = c.args in
     ap (offered_at m (candidate a.exporter a.number a.version) a.region)
-    (sym (provided t a.exporter a.number a.version c.place_beside-place.ensures (omega arith) c.owner_number-owner.ensures c.wide-sought.ensures.0
+    (sym (provided t a.exporter a.number a.version c.place_beside-place.ensures (omega arith) c.owner_number-owner.ensures c.from-sought.ensures
     c.in_default.is))
 
 pub search-layers-requires : goal.search-layers-requires
 search-layers-requires c =
     let a = c.args in
     let e = c.predecessors_between-pred.ensures (step_in a.passing.now.table.now everything_number) c.requires.always_value in
-    (rw e (preceding_sets (steps a.passing.now.table.now a.spans.now a.version c.wide-sought.result)), search rules)
+    (rw e (preceding_sets (steps a.passing.now.table.now a.spans.now a.version c.from-sought.result)), search rules)
 
 -- a route ends in the exporter's region
 pub returns : goal.returns
@@ -48,9 +48,9 @@ returns c m t =
     let home = c.in-Within.home in
     let wanted = item 1 a.number a.version in
     let pred = c.predecessors_between-pred.ensures (step_in a.passing.now.table.now everything_number) c.requires.always_value
-    ∙ ap (λ (n : ℕ). predecessors_by (steps a.passing.now.table.now a.spans.now a.version n)) c.wide-sought.ensures.0
+    ∙ ap (λ (n : ℕ). predecessors_by (steps a.passing.now.table.now a.spans.now a.version n)) c.from-sought.ensures
     ∙ between_table t a.number a.version in
-    let e = provided t a.exporter a.number a.version c.place_beside-place.ensures (omega arith) c.owner_number-owner.ensures c.wide-sought.ensures.0
+    let e = provided t a.exporter a.number a.version c.place_beside-place.ensures (omega arith) c.owner_number-owner.ensures c.from-sought.ensures
     c.in-Within.is in
     let alone : c.singleton.result ≡ singleton home = search (rules, c.singleton.ensures) in
     sym (has_by (reaches m wanted home) a.region

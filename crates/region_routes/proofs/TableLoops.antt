@@ -1,22 +1,21 @@
 -- Tables: the columns of a part, and how a loop puts the entries of the elements of a list.
-use mathlib.Core.Path.{◌≡◌, refl, sym, ap, ◌∙◌}
+use mathlib.Core.Path.{◌≡◌, refl, ap, ◌∙◌}
 use mathlib.Core.Bool.{Bool, true, false}
 use mathlib.Core.List.{List, [], ◌∷◌, ◌++◌, map, map-map}
 use Prim.Native.Nat.{ℕ, suc, ◌-◌, ◌+◌, ◌*◌, ◌≤◌, ◌<◌}
 use native.Mathlib.Nat.{mul-le-mul_right}
 use native.Mathlib.Omega.{arith}
 use lib.Dec.{eqb}
-use lib.ListN.{length, get_or, take, replicate, length-append, length-map, length-replicate}
+use lib.ListN.{length, get_or, take, replicate, length-map}
 use lib.Seq.{take_all}
 use borrow.Author.Tests.{eqb-false}
 use Rattle.std.specs.List.{zip}
 use Rattle.region_graph.specs.Size.{most_listed, everything_sign}
 use Rattle.region_graph.specs.Lists.{pick, All, concat_map}
 use Rattle.region_graph.specs.Model.{PackageEntry, Part}
-use Rattle.region_graph.specs.Record.{store_numbers, store_part, part_in, entries_of, package_part_in}
-use Rattle.region_graph.specs.Places.{ShortPart, PartStored, PackagePartStored}
+use Rattle.region_graph.specs.Record.{entries_of, package_part_in}
+use Rattle.region_graph.specs.Places.{PackagePartStored}
 use Rattle.region_graph.specs.Promise.{new_part}
-use Rattle.region_graph.specs.declared.numbers.Numbers.{Numbers}
 use Rattle.region_graph.specs.declared.packages.Entries.{Entries}
 use Rattle.region_graph.proofs.Lists.{all_at, concat_next, concat_few}
 use Rattle.region_graph.proofs.Arrays.{Filled, filled_taken, getD_map_in}
@@ -33,15 +32,6 @@ entries_in p s = go (eqb p.count everything_sign) refl
     go true e = refl
     go false e =
         ap Part.listed (filled_taken (entry_numbers_column p (listed_entries_stored p s (eqb-false p.count everything_sign e))))
-
--- the places of a part, used or not
-pub part_long : (p : Numbers) → PartStored p → most_listed ≡ length p.items
-unfolding store_numbers
-part_long p s = sym (ap (λ (q : Numbers). length q.items) s.stored ∙ go (part_in p) s.good)
-  where
-    go : (q : Part ℕ) → ShortPart q → length (store_part q).items ≡ most_listed
-    go (Part.listed xs) h = rw (length-append, length-map, length-replicate) (omega (arith, h))
-    go Part.everything h = refl
 
 -- the columns of the versions of entries
 pub record SpanColumns (count : ℕ) (lowest highest : List ℕ) (es : List PackageEntry) : Type 0 where

@@ -25,7 +25,7 @@ const WIDTH: u64 = 65536;
 pub const EVERYTHING_NUMBER: u64 = 4294967296;
 
 // What the connections pass at most; the bundles bring no more.
-pub const MOST_ENTRIES: usize = MOST_CONNECTIONS * MOST_LISTED;
+const MOST_ENTRIES: usize = MOST_CONNECTIONS * MOST_LISTED;
 
 // Below so many candidates tables cost more than a search for each.
 pub const FEW: usize = 4;
@@ -388,7 +388,8 @@ impl<'a> Chains<'a> {
     }
 }
 
-// The places of the entries of a table that have a number, from one of its chain on.
+// The places of the entries of a table that have a number, from one of its chain on. What stands beside the entries is a slice of the
+// caller's: the tables of bundles and services have nothing beside them.
 #[derive(Drop)]
 struct Places<'a> {
     table: &'a [u64],
@@ -406,6 +407,7 @@ impl<'a> Iterator for Places<'a> {
     ghost remaining = { item_count (λ s. places_left s.table.now s.number s.at) };
 
     fn next(&mut self) -> Option<usize> {
+        // Each turn reads from its entry's link where the next one begins, so that no range counts the places.
         while self.at < self.table.len() {
             let i = self.at;
             self.at = usize::from(self.links[CHAINS + i]);

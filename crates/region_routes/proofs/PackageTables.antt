@@ -26,26 +26,17 @@ use Rattle.region_graph.proofs.Storing.{packages_stored, versions_column}
 use Rattle.region_routes.specs.Hooks.{item}
 use Rattle.region_routes.specs.Tables.{width, everything_number, packed, number_in, ends, source_in, target_in, version_span, span_has, part_spans}
 use Rattle.region_routes.specs.Tables.{passed, listed_numbers, offer, passage, owner, passage_spans, offers, passages, owners, spans, step_in}
-use Rattle.region_routes.specs.Tables.{step_between, step_or_between, predecessors_by, place_beside, Appended, ExportTables}
-use Rattle.region_routes.proofs.TableLaws.{packed_number, packed_place, packed_of, packed_source, packed_target, source_inside, target_inside}
+use Rattle.region_routes.specs.Tables.{step_between, step_or_between, predecessors_by, place_beside, ExportTables}
+use Rattle.region_routes.proofs.TableLaws.{packed_number, packed_place, packed_of, packed_source, packed_target, connection_source, target_inside}
 
 -- owners
 
 -- the owners that a stored bundle has, by its column of versions
-module _ (b : StoredBundle) (s : BundleStored b) where
-  abbrev column : List ℕ
-  column = map (λ v. packed b.location v) (take b.packages.count b.packages.versions)
-
-  owner_column : column ≡ owner (bundle_in b)
-  owner_column =
-      ap (map (λ v. packed b.location v)) (filled_taken (versions_column b.packages (packages_stored b s)))
-      ∙ map-map (λ v. packed b.location v) (λ p. p.version) (bundle_in b).packages
-
-  pub owner_room : (n : ℕ) {k : ℕ} → n + length (owner (bundle_in b)) ≤ k → n + length column ≤ k
-  owner_room n h = rw owner_column h
-
-  pub owner_put : {before after : List ℕ} {at next : ℕ} → Appended before at column after next → Appended before at (owner (bundle_in b)) after next
-  owner_put a = rw owner_column at a
+pub owner_column : (b : StoredBundle) → BundleStored b
+    → map (λ v. packed b.location v) (take b.packages.count b.packages.versions) ≡ owner (bundle_in b)
+owner_column b s =
+    ap (map (λ v. packed b.location v)) (filled_taken (versions_column b.packages (packages_stored b s)))
+    ∙ map-map (λ v. packed b.location v) (λ p. p.version) (bundle_in b).packages
 
 -- a location and a version as one number
 packed_same : (l v k w : ℕ) → v < width → w < width → eqb (packed k w) (packed l v) ≡ (eqb k l && eqb v w)
@@ -220,7 +211,7 @@ module _ (m : Model) (h : Legal m) (n v : ℕ) where
           ∙ apart (all (passage 1 c)) (all (passages 1 cs)) (step_between (passage 1 c) (passage_spans c) n v r s)
           (step_between (passages 1 cs) (spans cs) n v r s)
           ∙ ap₂ ◌||◌
-          (part_says n v r s (source_inside m h {c = c} l.0) (target_inside m h {c = c} l.0) c.filter.packages l.0.filter.packages)
+          (part_says n v r s (connection_source m h {c = c} l.0) (target_inside m h {c = c} l.0) c.filter.packages l.0.filter.packages)
           (go cs l.1)
 
   stepped_spans : predecessors_by

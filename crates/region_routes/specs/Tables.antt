@@ -1,5 +1,5 @@
 -- What the functions on tables promise each other. A table has the items of one kind as plain numbers, so that it is lent and not copied.
-use Rattle.std.specs.Prelude.{◌≡◌, Bool, true, false, ◌&&◌, ◌||◌, List, [], ◌∷◌, ◌++◌, map, ℕ, zero, suc, ◌+◌, ◌*◌, ◌/◌, ◌%◌, ◌^◌, ◌≤◌, eqb, leb, length, take}
+use Rattle.std.specs.Prelude.{◌≡◌, Bool, true, false, ◌&&◌, ◌||◌, List, [], ◌∷◌, map, ℕ, zero, suc, ◌+◌, ◌*◌, ◌/◌, ◌%◌, ◌^◌, ◌≤◌, eqb, leb, length}
 use Rattle.region_graph.specs.Size.{regions, most_connections, most_listed}
 use Rattle.region_graph.specs.Lists.{pick, exists, concat_map, count_from}
 use Rattle.region_graph.specs.Sets.{has, set_of}
@@ -103,17 +103,6 @@ passage_spans c = part_spans c.filter.packages
 
 abbrev pub spans : List Connection → List ℕ
 spans cs = concat_map passage_spans cs
-
--- xs was put at the places from `at` on; what stands before them is as it was, and `next` is the place after them
-pub record Appended (before : List ℕ) (at : ℕ) (xs after : List ℕ) (next : ℕ) : Type 0 where
-  pub counted : next ≡ at + length xs
-  pub kept : take next after ≡ take at before ++ xs
-
--- the first `count` places hold the table
-pub record Holding (xs items : List ℕ) (count : ℕ) : Type 0 where
-  pub few : count ≤ most_entries
-  pub room : count ≤ length items
-  pub table : take count items ≡ xs
 
 -- the regions that the entries of a number name, and whether one of them goes from region r to region s
 abbrev pub held_in : List ℕ → ℕ → ℕ

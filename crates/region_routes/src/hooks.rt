@@ -11,7 +11,7 @@ ghost use Rattle.region_routes.specs.Tables.{NumberTables, most_entries, everyth
 
 use crate::Kind;
 use crate::search::{regions_seeing, regions_seeing_by};
-use crate::tables::{Chains, EVERYTHING_NUMBER, FEW, MOST_ENTRIES, offers, passages, wide};
+use crate::tables::{Chains, EVERYTHING_NUMBER, FEW, Table};
 use region_graph::refusals::Refusal;
 use region_graph::region_set::has;
 use region_graph::size::REGIONS;
@@ -33,20 +33,18 @@ fn keep_where<F: Fn(u32) -> bool>(candidates: &[u32], out: &mut [u32], keeps: F)
     count
 }
 
-// Writes the candidates of a kind that a region sees, by the tables of the kind, which are chained first.
-fn keep_seen(
-    offered: &[u64],
-    passing: &[u64],
-    region: u32,
-    candidates: &[u32],
-    out: &mut [u32],
-) -> usize
-    requires offered_len_bound { (length offered.now ≤ most_entries) × (length passing.now ≤ most_entries) }
+// Writes the candidates of a kind by number that a region sees: makes the tables of the kind, with their chains.
+fn keep_many(graph: Graph, kind: Kind, region: u32, candidates: &[u32], out: &mut [u32]) -> usize
+    requires valid { Valid graph × (eqb (kind_number kind) (kind_number Kind.Package) ≡ false) }
     requires region_lt_regions { (region < regions) × (length candidates.now ≤ length out.old) }
-    ensures { (m : Model) (kind : ℕ) → NumberTables m kind offered.now passing.now → kept (Kept.Wrote result) out.new ≡ kept_outcome (keep (λ n. sees m (item kind n 0) region) candidates.now) out.old }
+    ensures { kept (Kept.Wrote result) out.new ≡ kept_outcome (keep (λ n. sees (meaning graph) (item (kind_number kind) n 0) region) candidates.now) out.old }
 {
-    let offered = Chains::of(offered);
-    let passing = Chains::of(passing);
+    let mut offered = Table::new();
+    offered.put_offers(graph, kind);
+    let offered = Chains::of(offered.entries());
+    let mut passing = Table::new();
+    passing.put_passages(graph, kind);
+    let passing = Chains::of(passing.entries());
     let always = passing.predecessors(EVERYTHING_NUMBER, [0; REGIONS]);
     keep_where(
         candidates,
@@ -60,25 +58,6 @@ fn keep_seen(
                 region,
             )
         },
-    )
-}
-
-// Writes the candidates of a kind by number that a region sees: makes the tables of the kind.
-fn keep_many(graph: Graph, kind: Kind, region: u32, candidates: &[u32], out: &mut [u32]) -> usize
-    requires valid { Valid graph × (eqb (kind_number kind) (kind_number Kind.Package) ≡ false) }
-    requires region_lt_regions { (region < regions) × (length candidates.now ≤ length out.old) }
-    ensures { kept (Kept.Wrote result) out.new ≡ kept_outcome (keep (λ n. sees (meaning graph) (item (kind_number kind) n 0) region) candidates.now) out.old }
-{
-    let mut offered = [0u64; MOST_ENTRIES];
-    let given = offers(&mut offered, graph, kind);
-    let mut passing = [0u64; MOST_ENTRIES];
-    let passed = passages(&mut passing, graph, kind);
-    keep_seen(
-        &offered[..given],
-        &passing[..passed],
-        region,
-        candidates,
-        out,
     )
 }
 
@@ -125,7 +104,7 @@ fn find(
 fn is_placed(bundles: &Chains<'_>, listener: u32) -> bool
     ensures { result ≡ is_installed (place_at bundles.now.table.now listener) }
 {
-    matches!(bundles.place_of(wide(listener)), Place::Within(_))
+    matches!(bundles.place_of(u64::from(listener)), Place::Within(_))
 }
 
 // Whether every listener has a place in the table of the bundles.
@@ -141,7 +120,7 @@ fn all_placed(bundles: &Chains<'_>, listeners: &[u32]) -> bool
 fn stands_in(bundles: &Chains<'_>, listener: u32, set: u64) -> bool
     ensures { result ≡ stands_in set (place_at bundles.now.table.now listener) }
 {
-    match bundles.place_of(wide(listener)) {
+    match bundles.place_of(u64::from(listener)) {
         Place::Within(region) => has(set, region),
         Place::Nowhere => false,
     }
@@ -158,9 +137,9 @@ fn event(
     requires { Valid graph }
     ensures { kept (kept_answer result) out.new ≡ event_outcome (meaning graph) kind listeners.now number out.old }
 {
-    let mut offered = [0u64; MOST_ENTRIES];
-    let count = offers(&mut offered, graph, Kind::Bundle);
-    let bundles = Chains::of(&offered[..count]);
+    let mut bundles = Table::new();
+    bundles.put_offers(graph, Kind::Bundle);
+    let bundles = Chains::of(bundles.entries());
     if !all_placed(&bundles, listeners) {
         return Err(Refusal::NotInstalled);
     }

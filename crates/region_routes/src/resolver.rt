@@ -11,10 +11,7 @@ ghost use Rattle.region_routes.specs.Tables.{ExportTables, Room, most_entries, e
 
 use crate::Kind;
 use crate::search::{Ends, search, search_for};
-use crate::tables::{
-    Chains, EVERYTHING_NUMBER, FEW, MOST_ENTRIES, offers, owner_number, owners, passages, spans,
-    wide,
-};
+use crate::tables::{Chains, EVERYTHING_NUMBER, FEW, Table, owner_number};
 use region_graph::refusals::Refusal;
 use region_graph::region_set::{has, singleton};
 use region_graph::size::REGIONS;
@@ -112,7 +109,7 @@ struct PackageTables<'a> {
     exported: Chains<'a>,
     owned: &'a [u64],
     passing: Chains<'a>,
-    spans: &'a [u32],
+    spans: &'a [u64],
     always: [u64; REGIONS],
     ghost owned_len: { length owned.now ≡ length exported.table.now },
     ghost spans_len: { length spans.now ≡ length passing.table.now },
@@ -126,7 +123,7 @@ impl<'a> PackageTables<'a> {
         ensures { (m : Model) → ExportTables m self.now.exported.table.now self.now.owned.now self.now.passing.table.now self.now.spans.now → result ≡ is_offered m candidate region }
     {
         let owner = owner_number(candidate.exporter, candidate.version);
-        let sought = wide(candidate.number);
+        let sought = u64::from(candidate.number);
         match self.exported.place_beside(self.owned, owner, sought) {
             Place::Within(home) => {
                 let pred = self
@@ -137,41 +134,6 @@ impl<'a> PackageTables<'a> {
             Place::Nowhere => false,
         }
     }
-}
-
-// Writes the candidates that a region is offered, by the tables of the packages, which are chained first.
-fn resolve_by<'a>(
-    exported: &'a [u64],
-    owned: &'a [u64],
-    passing: &'a [u64],
-    spans: &'a [u32],
-    region: u32,
-    given: Candidates<'_>,
-    out_exporters: &mut [u32],
-    out_packages: &mut [u32],
-    out_versions: &mut [u16],
-) -> usize
-    requires exported_len_bound { (length exported.now ≤ most_entries) × (length passing.now ≤ most_entries) }
-    requires owned_len { (length owned.now ≡ length exported.now) × (length spans.now ≡ length passing.now) }
-    requires region_lt_regions { (region < regions) × Room (candidate_list given) out_exporters.old out_packages.old out_versions.old }
-    ensures { (m : Model) → ExportTables m exported.now owned.now passing.now spans.now → kept (Kept.Wrote result) (out_exporters.new ∷ out_packages.new ∷ out_versions.new ∷ []) ≡ resolved (keep (λ c. is_offered m c region) (candidate_list given.entry)) (out_exporters.old ∷ out_packages.old ∷ out_versions.old ∷ []) }
-{
-    let passing = Chains::of(passing);
-    let always = passing.predecessors(EVERYTHING_NUMBER, [0; REGIONS]);
-    let tables = PackageTables {
-        exported: Chains::of(exported),
-        owned,
-        passing,
-        spans,
-        always,
-    };
-    keep_where(
-        given,
-        out_exporters,
-        out_packages,
-        out_versions,
-        |candidate| { tables.offers(region, candidate) },
-    )
 }
 
 // Writes the candidates that a region is offered: makes the tables of the packages.
@@ -187,24 +149,29 @@ fn resolve_many(
     requires region_lt_regions { (region < regions) × Room (candidate_list given) out_exporters.old out_packages.old out_versions.old }
     ensures { kept (Kept.Wrote result) (out_exporters.new ∷ out_packages.new ∷ out_versions.new ∷ []) ≡ resolved (keep (λ c. is_offered (meaning graph) c region) (candidate_list given.entry)) (out_exporters.old ∷ out_packages.old ∷ out_versions.old ∷ []) }
 {
-    let mut exported = [0u64; MOST_ENTRIES];
-    let exports = offers(&mut exported, graph, Kind::Package);
-    let mut owned = [0u64; MOST_ENTRIES];
-    let located = owners(&mut owned, graph);
-    let mut passing = [0u64; MOST_ENTRIES];
-    let passed = passages(&mut passing, graph, Kind::Package);
-    let mut span_places = [0u32; MOST_ENTRIES];
-    let spanned = spans(&mut span_places, graph);
-    resolve_by(
-        &exported[..exports],
-        &owned[..located],
-        &passing[..passed],
-        &span_places[..spanned],
-        region,
+    let mut exported = Table::new();
+    exported.put_offers(graph, Kind::Package);
+    let mut owned = Table::new();
+    owned.put_owners(graph);
+    let mut passing = Table::new();
+    passing.put_passages(graph, Kind::Package);
+    let mut spans = Table::new();
+    spans.put_connection_spans(graph);
+    let passing = Chains::of(passing.entries());
+    let always = passing.predecessors(EVERYTHING_NUMBER, [0; REGIONS]);
+    let tables = PackageTables {
+        exported: Chains::of(exported.entries()),
+        owned: owned.entries(),
+        passing,
+        spans: spans.entries(),
+        always,
+    };
+    keep_where(
         given,
         out_exporters,
         out_packages,
         out_versions,
+        |candidate| { tables.offers(region, candidate) },
     )
 }
 

@@ -11,7 +11,7 @@ ghost use Rattle.region_routes.specs.Hooks.{item};
 ghost use Rattle.region_routes.specs.Tables.{NumberTables, everything_number, «step_in», predecessors_by};
 ghost use Rattle.region_routes.specs.Search.{RegionSets, SetOfRegions, TakesLowest, Layer, Searched, At, InLayer, end_set};
 
-use crate::tables::{Chains, wide};
+use crate::tables::Chains;
 use region_graph::region_set::{difference, has, lowest, singleton, without_lowest};
 use region_graph::size::REGIONS;
 use region_graph::{Graph, Item};
@@ -150,7 +150,7 @@ pub fn regions_seeing_by(
     requires { always ≡ predecessors_by (step_in passing.now.table.now everything_number) }
     ensures { (m : Model) (kind : ℕ) → NumberTables m kind offered.now.table.now passing.now.table.now → result ≡ set_of (sees m (item kind number 0)) }
 {
-    let sought = wide(number);
+    let sought = u64::from(number);
     let held = offered.holders(sought);
     if held == 0 {
         return 0;

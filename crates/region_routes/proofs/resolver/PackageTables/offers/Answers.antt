@@ -27,13 +27,13 @@ pub returns-in-Nowhere : goal.returns-in-Nowhere
 returns-in-Nowhere c m t =
     let x = c.args.candidate in
     ap (offered_at m x c.args.region)
-    (sym (provided t x.exporter x.number x.version c.place_beside.ensures (search rules) c.owner_number-owner.ensures c.wide-sought.ensures.0 c.in-Nowhere.is))
+    (sym (provided t x.exporter x.number x.version c.place_beside.ensures (search rules) c.owner_number-owner.ensures c.from-sought.ensures c.in-Nowhere.is))
 
 pub search-requires : goal.search-requires
 search-requires c =
     let s = c.args.self.now in
     let e = c.predecessors_between-pred.ensures (step_in s.passing.table.now everything_number) s.always_value in
-    (rw e (preceding_sets (steps s.passing.table.now s.spans.now c.args.candidate.version c.wide-sought.result)), search rules)
+    (rw e (preceding_sets (steps s.passing.table.now s.spans.now c.args.candidate.version c.from-sought.result)), search rules)
 
 -- a route ends in the exporter's region
 pub returns-in-Within : goal.returns-in-Within
@@ -43,9 +43,9 @@ returns-in-Within c m t =
     let home = c.in-Within.home in
     let wanted = package_of x in
     let pred = c.predecessors_between-pred.ensures (step_in s.passing.table.now everything_number) s.always_value
-    ∙ ap (λ (n : ℕ). predecessors_by (steps s.passing.table.now s.spans.now x.version n)) c.wide-sought.ensures.0
+    ∙ ap (λ (n : ℕ). predecessors_by (steps s.passing.table.now s.spans.now x.version n)) c.from-sought.ensures
     ∙ between_table t x.number x.version in
-    let e = provided t x.exporter x.number x.version c.place_beside.ensures (search rules) c.owner_number-owner.ensures c.wide-sought.ensures.0 c.in-Within.is in
+    let e = provided t x.exporter x.number x.version c.place_beside.ensures (search rules) c.owner_number-owner.ensures c.from-sought.ensures c.in-Within.is in
     let alone : c.singleton.result ≡ singleton home = search (rules, c.singleton.ensures) in
     sym (has_by (reaches m wanted home) c.args.region
     (reached_reaches m wanted t.tables.legal home (provider_inside m t.tables.legal x.exporter wanted e) (rw alone at (rw pred at c.search.ensures)))

@@ -54,6 +54,13 @@ module _ {A B : Type 0} {store : A → B} {none : B} {size : ℕ} where
     pub filled_part : count ≡ length (take count items)
     filled_part = sym (length-take-le count items filled_within)
 
+    -- a place is left
+    pub filled_room : length xs < size → count < size
+    filled_room l = omega (arith, h.counted)
+
+    pub filled_free : length xs < size → count < length items
+    filled_free l = omega (arith, filled_room l, filled_length)
+
     -- what stands at a place
     pub filled_at : (i : ℕ) (e : B) (d : A) → i < count → get_or items i e ≡ store (get_or xs i d)
     filled_at i e d k =

@@ -10,6 +10,7 @@ use lib.Dec.{ltb, eqb}
 use lib.ListN.{length, get_or, take, drop, length-drop}
 use lib.Seq.{drop-cons}
 use borrow.Author.Tests.{lt-ltb, le-ltb, ltb-true, ltb-false, eqb-true, eq-eqb, ne_eqb}
+use Rattle.std.specs.List.{IsAllAdjacentAnswer, AllAdjacentBelow}
 use Rattle.region_graph.specs.Lists.{pick, exists, All, keep, insert_by, ascends, member, count_from}
 use Rattle.region_graph.specs.Model.{Connection, bundle_before, connection_before}
 use Rattle.region_graph.specs.Calls.{joins}
@@ -181,6 +182,31 @@ pair_order n a b c d h k = go (dec_lt a c) (dec_lt c a) (dec_lt b d)
 pub connection_order : (n : ℕ) (a b : Connection) → a.target < n → b.target < n
     → connection_before a b ≡ ltb (a.source * n + a.target) (b.source * n + b.target)
 connection_order n a b h k = pair_order n a.source a.target b.source b.target h k
+
+-- what `is_sorted_by` answers
+
+and_no : (a : Bool) {b : Bool} → b ≡ false → (a && b) ≡ false
+and_no true e = e
+and_no false e = refl
+
+module _ {A : Type 0} (before : A → A → Bool) where
+  next : (k : ℕ) → suc k + 1 ≡ suc (k + 1)
+  next k = omega arith
+
+  adjacent_all : (xs : List A) → AllAdjacentBelow (λ x y. true ≡ before x y) xs (length xs) → ascends before xs ≡ true
+  adjacent_all [] h = refl
+  adjacent_all (x ∷ []) h = refl
+  adjacent_all (x ∷ y ∷ ys) h = and_yes (sym (h 0 x (omega arith))) (adjacent_all (y ∷ ys) (λ k d l. rw (next k) at (h (suc k) d (omega arith))))
+
+  adjacent_fails : (xs : List A) (k : ℕ) → k + 1 < length xs → ((d : A) → false ≡ before (get_or xs k d) (get_or xs (k + 1) d)) → ascends before xs ≡ false
+  adjacent_fails [] k l h = absurd (omega arith)
+  adjacent_fails (x ∷ []) k l h = absurd (omega arith)
+  adjacent_fails (x ∷ y ∷ ys) zero l h = and_left _ (sym (h x))
+  adjacent_fails (x ∷ y ∷ ys) (suc k) l h = and_no (before x y) (adjacent_fails (y ∷ ys) k (omega arith) (λ d. rw (next k) at (h d)))
+
+  pub ascends_adjacent : (xs : List A) (r : Bool) → IsAllAdjacentAnswer (λ x y b. b ≡ before x y) xs r → r ≡ ascends before xs
+  ascends_adjacent xs true h = sym (adjacent_all xs h)
+  ascends_adjacent xs false h = sym (adjacent_fails xs h.0 h.1 h.2)
 
 -- a test of each element from the second on against the one before it
 

@@ -6,6 +6,7 @@ pub mod Columns
 pub mod Legal
 pub mod Storing
 pub mod PlaceLoops
+pub mod PlaceEdits
 pub mod Codes
 pub mod FlatLaws
 pub mod Views

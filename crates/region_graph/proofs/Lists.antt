@@ -221,6 +221,10 @@ module _ {A : Type 0} where
   all_map P Q f [] h = tt
   all_map P Q f (x ∷ xs) h = (f x h.0, all_map P Q f xs h.1)
 
+  pub all_made : {B : Type 0} (f : A → B) (P : A → Type 0) (Q : B → Type 0) → ((x : A) → P x → Q (f x)) → (xs : List A) → All P xs → All Q (map f xs)
+  all_made f P Q h [] a = tt
+  all_made f P Q h (x ∷ xs) a = (h x a.0, all_made f P Q h xs a.1)
+
   pub all_both : (P Q : A → Type 0) (xs : List A) → All P xs → All Q xs → All (λ x. P x × Q x) xs
   all_both P Q [] h k = tt
   all_both P Q (x ∷ xs) h k = ((h.0, k.0), all_both P Q xs h.1 k.1)

@@ -8,6 +8,7 @@ pub mod Steps
 pub mod Calls
 pub mod Items
 pub mod Record
+pub mod Handed
 pub mod Promise
 pub mod Flat
 -- What only private functions cite.

@@ -1,15 +1,15 @@
 -- What the functions of the record ask of its parts, and the tests by which they search and filter them.
-use Rattle.std.specs.Prelude.{Bool, ◌&&◌, ◌||◌, List, ◌++◌, ℕ, ◌≤◌, eqb, ltb, length, drop}
+use Rattle.std.specs.Prelude.{◌≡◌, Bool, true, false, ◌&&◌, ◌||◌, List, ◌∷◌, ◌++◌, ℕ, ◌+◌, ◌-◌, ◌≤◌, eqb, ltb, length, take, drop, replicate, filter}
+use Rattle.std.specs.List.Sorted.{IsPartitionedBy, IsPartitionPoint}
 use Rattle.region_graph.specs.Size.{most_bundles, most_connections, most_listed, most_provided}
 use Rattle.region_graph.specs.Lists.{All}
 use Rattle.region_graph.specs.Model.{Bundle, Part, Connection}
 use Rattle.region_graph.specs.Calls.{at_location, in_region, joins, touches, names}
-use Rattle.region_graph.specs.Record.{Stored, store_numbers, numbers_of, store_provided, provided_of, store_part, part_in}
+use Rattle.region_graph.specs.Record.{Stored, Numbers, Provided, store_list, list_of, store_part, part_in}
 use Rattle.region_graph.specs.Record.{store_packages, packages_of, store_entries, entries_of, store_package_part, package_part_in}
 use Rattle.region_graph.specs.Record.{store_bundle, bundle_in, store_bundles, bundles_of}
 use Rattle.region_graph.specs.Record.{store_connection, connection_in, store_connections, connections_of}
-use Rattle.region_graph.specs.declared.numbers.Numbers.{Numbers}
-use Rattle.region_graph.specs.declared.numbers.Provided.{Provided}
+use Rattle.region_graph.specs.declared.numbers.NumberList.{NumberList}
 use Rattle.region_graph.specs.declared.packages.Packages.{Packages}
 use Rattle.region_graph.specs.declared.packages.Entries.{Entries}
 use Rattle.region_graph.specs.declared.bundles.StoredBundle.{StoredBundle}
@@ -45,11 +45,14 @@ pub record AtMost {A : Type 0} (most : ℕ) (Good : A → Type 0) (xs : List A) 
   pub few : length xs ≤ most
   pub each : All Good xs
 
+abbrev pub ListStored : {most : ℕ} → NumberList most → Type 0
+ListStored {most} n = Stored (store_list most) list_of (Short most) n
+
 abbrev pub NumbersStored : Numbers → Type 0
-NumbersStored n = Stored store_numbers numbers_of (Short most_listed) n
+NumbersStored n = ListStored n
 
 abbrev pub ProvidedStored : Provided → Type 0
-ProvidedStored n = Stored store_provided provided_of (Short most_provided) n
+ProvidedStored n = ListStored n
 
 abbrev pub PackagesStored : Packages → Type 0
 PackagesStored p = Stored store_packages packages_of (Short most_provided) p
@@ -74,6 +77,23 @@ BundlesStored bs = Stored store_bundles bundles_of (AtMost most_bundles ShortBun
 
 abbrev pub ConnectionsStored : Connections → Type 0
 ConnectionsStored cs = Stored store_connections connections_of (AtMost most_connections ShortConnection) cs
+
+-- what answers a test answers p
+abbrev pub Tests : {A : Type 0} → (A → Bool → Type 0) → (A → Bool) → Type 0
+Tests {A} Answers p = (x : A) (b : Bool) → Answers x b → b ≡ p x
+
+-- of the first `count` places those that pass are kept, the places that they leave hold `blank`, and the others are as they were
+abbrev pub Retained : {A : Type 0} → (A → Bool) → List A → ℕ → A → ℕ → List A → Type 0
+Retained p old count blank kept new =
+    (kept ≡ length (filter p (take count old)))
+    × (new ≡ filter p (take count old) ++ (replicate (count - kept) blank ++ drop count old))
+
+-- an item stands behind those of the first `count` places that come before it, where these stand first; one place behind them is given up
+abbrev pub Inserted : {A : Type 0} → (A → Bool) → List A → ℕ → A → List A → Type 0
+Inserted p old count item new =
+    IsPartitionedBy p (take count old)
+    → (at : ℕ) × (at ≤ count) × IsPartitionPoint (λ x. p x ≡ true) (λ x. p x ≡ false) (take count old) at
+    × (new ≡ take at old ++ (item ∷ (drop at (take count old) ++ drop (count + 1) old)))
 
 -- the tests by which bundles and connections are looked for and left out
 abbrev pub bundle_meets : BundleTest → Bundle → Bool

@@ -1,14 +1,16 @@
 // The places of the bundles, in ascending order of location.
-ghost use Rattle.std.specs.Prelude.{◌≡◌, true, not, ◌&&◌, [], ◌<◌, ltb, length};
+ghost use Rattle.std.specs.Prelude.{◌≡◌, true, not, ◌&&◌, [], map, ◌<◌, ltb, length};
 ghost use Rattle.region_graph.specs.Size.{most_bundles, most_provided};
-ghost use Rattle.region_graph.specs.Lists.{ascends, keep, position, insert_by};
+ghost use Rattle.region_graph.specs.Lists.{All, ascends, keep, position, insert_by};
 ghost use Rattle.region_graph.specs.Model.{packages, package_before, bundle_before};
-ghost use Rattle.region_graph.specs.Calls.{within};
+ghost use Rattle.region_graph.specs.Calls.{within, in_region, at_location};
 ghost use Rattle.region_graph.specs.Record.{store_bundle, bundle_in, no_bundle, store_bundles, bundles_of};
 ghost use Rattle.region_graph.specs.Places.{BundleStored, BundlesStored, bundle_meets};
+ghost use Rattle.region_graph.specs.Handed.{package_list};
 
 use crate::numbers::{Provided, ascending};
-use crate::packages::{Packages, package_count, packages_ascending};
+use crate::packages::{PackageList, Packages, package_count, packages_ascending};
+use crate::places::{insert, retain};
 use crate::size::{MOST_BUNDLES, MOST_PROVIDED};
 
 #[repr(C)]
@@ -33,6 +35,28 @@ pub enum BundleTest {
     At(u32),
     In(u32),
     After(u32),
+}
+
+// The packages and the services that a bundle is handed in with.
+#[derive(Clone, Copy)]
+pub struct BundleLists<'a> {
+    pub packages: PackageList<'a>,
+    pub services: &'a [u32],
+}
+
+impl<'a> BundleLists<'a> {
+    // Whether both are within their count.
+    pub fn within(self) -> bool
+        ensures { result ≡ (within most_provided (package_list self.entry.packages) && within most_provided self.entry.services.now) }
+    {
+        self.packages.count() <= MOST_PROVIDED && self.services.len() <= MOST_PROVIDED
+    }
+
+    pub fn ascends(self) -> bool
+        ensures { result ≡ (ascends package_before (package_list self.entry.packages) && ascends ltb self.entry.services.now) }
+    {
+        self.packages.ascends() && ascending(self.services)
+    }
 }
 
 // What stands in a place that is not used.
@@ -92,6 +116,58 @@ impl Bundles {
             count: 0,
             items: [none; MOST_BUNDLES],
         }
+    }
+
+    // The bundles in their order.
+    pub fn as_slice(&self) -> &[StoredBundle]
+        requires { BundlesStored self.now }
+        ensures places { result.now ≡ map store_bundle (bundles_of self.now) }
+        ensures means { map bundle_in result.now ≡ bundles_of self.now }
+        ensures each { All BundleStored result.now }
+    {
+        &self.items[..self.count]
+    }
+
+    // The bundles in a region leave.
+    pub fn remove_in(&mut self, region: u32)
+        requires { BundlesStored self.old }
+        ensures { self.new ≡ store_bundles (keep (λ b. not (in_region region b)) (bundles_of self.old)) }
+    {
+        self.count = retain(
+            &mut self.items,
+            self.count,
+            no_bundle(),
+            |b| b.region != region,
+        );
+    }
+
+    // The bundle at a location leaves.
+    pub fn remove_at(&mut self, location: u32)
+        requires { BundlesStored self.old }
+        ensures { self.new ≡ store_bundles (keep (λ b. not (at_location location b)) (bundles_of self.old)) }
+    {
+        self.count = retain(
+            &mut self.items,
+            self.count,
+            no_bundle(),
+            |b| b.location != location,
+        );
+    }
+
+    // One bundle more, at its place in the order.
+    pub fn insert(&mut self, bundle: &StoredBundle)
+        requires bundles_stored { BundlesStored self.old }
+        requires bundle_stored { BundleStored bundle.now }
+        requires self_value { (ascends bundle_before (bundles_of self.old) ≡ true) × (length (bundles_of self.old) < most_bundles) }
+        ensures { self.new ≡ store_bundles (insert_by bundle_before (bundle_in bundle.now) (bundles_of self.old)) }
+    {
+        insert(
+            &mut self.items,
+            self.count,
+            *bundle,
+            |b| b.location <= bundle.location,
+        );
+        self.count += 1;
     }
 
     // The place of the first bundle that meets a test, or the count where there is none.

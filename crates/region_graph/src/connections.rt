@@ -1,18 +1,21 @@
 // The places of the connections, in ascending order of their two ends, and their filters.
-ghost use Rattle.std.specs.Prelude.{◌≡◌, true, not, [], ◌<◌, ltb, length};
+ghost use Rattle.std.specs.Prelude.{◌≡◌, true, not, [], map, ◌<◌, ltb, length};
 ghost use Rattle.region_graph.specs.Size.{most_connections};
-ghost use Rattle.region_graph.specs.Lists.{ascends, every, keep, position, insert_by};
+ghost use Rattle.region_graph.specs.Lists.{All, ascends, every, keep, position, insert_by};
 ghost use Rattle.region_graph.specs.Model.{Part, entries, entry_before, ordered, connection_before};
-ghost use Rattle.region_graph.specs.Calls.{part_within, of_listed, filter_within, filter_ascends};
+ghost use Rattle.region_graph.specs.Calls.{part_within, of_listed, filter_within, filter_ascends, filter_ordered, joins, touches, names};
 ghost use Rattle.region_graph.specs.Record.{store_part, store_package_part, store_connection, store_connections};
 ghost use Rattle.region_graph.specs.Record.{connection_in, no_connection, connections_of};
 ghost use Rattle.region_graph.specs.Places.{ConnectionStored, ConnectionsStored, connection_meets};
 ghost use Rattle.region_graph.specs.Promise.{new_part, new_filter};
+ghost use Rattle.region_graph.specs.Handed.{filter_lists, handed_connection};
 
 use crate::numbers::{Numbers, ascending, copied, has_number};
 use crate::packages::{
-    Entries, entries_ascending, entries_copied, entries_ordered, entry_count, every_package,
+    Entries, EntryList, PartList, entries_ascending, entries_copied, entries_ordered, entry_count,
+    every_package,
 };
+use crate::places::{insert, retain};
 use crate::size::{EVERYTHING, MOST_CONNECTIONS, MOST_LISTED};
 
 // A service part has the numbers listed, or the count EVERYTHING and no numbers.
@@ -41,6 +44,74 @@ pub enum ConnectionTest {
     Touching(u32),
     Naming(u32, u32),
     After(u32, u32),
+}
+
+// The parts of a filter that is handed in.
+#[derive(Clone, Copy)]
+pub struct FilterLists<'a> {
+    pub bundles: &'a [u32],
+    pub packages: PartList<EntryList<'a>>,
+    pub services: PartList<&'a [u32]>,
+}
+
+impl<'a> FilterLists<'a> {
+    // Whether each part is within its count.
+    pub fn within(self) -> bool
+        ensures { result ≡ filter_within (filter_lists self.entry) }
+    {
+        self.bundles.len() <= MOST_LISTED && self.packages.within() && self.services.within()
+    }
+
+    pub fn ascends(self) -> bool
+        ensures { result ≡ filter_ascends (filter_lists self.entry) }
+    {
+        ascending(self.bundles) && self.packages.ascends() && self.services.ascends()
+    }
+
+    // Whether no entry of the package part has a lowest version above its highest.
+    pub fn ordered(self) -> bool
+        ensures { result ≡ filter_ordered (filter_lists self.entry) }
+    {
+        self.packages.ordered()
+    }
+}
+
+impl StoredConnection {
+    // A connection from one region to another whose filter is handed in.
+    pub fn new(source: u32, target: u32, filter: FilterLists<'_>) -> StoredConnection
+        requires { filter_within (filter_lists filter) ≡ true }
+        ensures { result ≡ store_connection (handed_connection source target filter.entry) }
+    {
+        StoredConnection {
+            source,
+            target,
+            bundles: Numbers::from_slice(filter.bundles),
+            packages: Entries::from_part(filter.packages),
+            services: Numbers::from_part(filter.services),
+        }
+    }
+
+    // Whether it leads from one region to another.
+    pub fn joins(&self, source: u32, target: u32) -> bool
+        ensures { result ≡ joins source target (connection_in self.now) }
+    {
+        self.source == source && self.target == target
+    }
+
+    // Whether it leads from a region or to it.
+    pub fn touches(&self, region: u32) -> bool
+        ensures { result ≡ touches region (connection_in self.now) }
+    {
+        self.source == region || self.target == region
+    }
+
+    // Whether it leads from a region, and has a location in its bundle part.
+    pub fn names(&self, region: u32, location: u32) -> bool
+        requires { ConnectionStored self.now }
+        ensures { result ≡ names region location (connection_in self.now) }
+    {
+        self.source == region && self.bundles.as_slice().contains(&location)
+    }
 }
 
 // Whether a service part handed in is within its count.
@@ -225,6 +296,52 @@ impl Connections {
             count: 0,
             items: [none; MOST_CONNECTIONS],
         }
+    }
+
+    // The connections in their order.
+    pub fn as_slice(&self) -> &[StoredConnection]
+        requires { ConnectionsStored self.now }
+        ensures places { result.now ≡ map store_connection (connections_of self.now) }
+        ensures means { map connection_in result.now ≡ connections_of self.now }
+        ensures each { All ConnectionStored result.now }
+    {
+        &self.items[..self.count]
+    }
+
+    // The connections from or to a region leave.
+    pub fn remove_touching(&mut self, region: u32)
+        requires { ConnectionsStored self.old }
+        ensures { self.new ≡ store_connections (keep (λ c. not (touches region c)) (connections_of self.old)) }
+    {
+        self.count = retain(
+            &mut self.items,
+            self.count,
+            no_connection(),
+            |c| !c.touches(region),
+        );
+    }
+
+    // The connection from one region to another leaves.
+    pub fn remove_joining(&mut self, source: u32, target: u32)
+        requires { ConnectionsStored self.old }
+        ensures { self.new ≡ store_connections (keep (λ c. not (joins source target c)) (connections_of self.old)) }
+    {
+        self.count = retain(&mut self.items, self.count, no_connection(), |c| {
+            !c.joins(source, target)
+        });
+    }
+
+    // One connection more, at its place in the order.
+    pub fn insert(&mut self, connection: &StoredConnection)
+        requires connections_stored { ConnectionsStored self.old }
+        requires connection_stored { ConnectionStored connection.now }
+        requires self_value { (ascends connection_before (connections_of self.old) ≡ true) × (length (connections_of self.old) < most_connections) }
+        ensures { self.new ≡ store_connections (insert_by connection_before (connection_in connection.now) (connections_of self.old)) }
+    {
+        insert(&mut self.items, self.count, *connection, |c| {
+            (c.source, c.target) <= (connection.source, connection.target)
+        });
+        self.count += 1;
     }
 
     // The place of the first connection that meets a test, or the count where there is none.

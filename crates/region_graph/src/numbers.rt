@@ -2,52 +2,58 @@
 ghost use Rattle.std.specs.Prelude.{◌≡◌, ◌≤◌, ltb, length};
 ghost use Rattle.region_graph.specs.Size.{most_listed, most_provided};
 ghost use Rattle.region_graph.specs.Lists.{ascends, member};
-ghost use Rattle.region_graph.specs.Record.{store_numbers, store_provided};
-ghost use Rattle.region_graph.specs.Places.{put_into};
+ghost use Rattle.region_graph.specs.Record.{store_list, list_of, store_numbers, store_provided};
+ghost use Rattle.region_graph.specs.Places.{put_into, ListStored};
 
 use crate::size::{MOST_LISTED, MOST_PROVIDED};
 
+// At most MOST numbers: `count` of them, in the first places.
 #[repr(C)]
 #[derive(Clone, Copy)]
-pub struct Numbers {
+pub struct NumberList<const MOST: usize> {
     pub count: usize,
-    pub items: [u32; MOST_LISTED],
+    pub items: [u32; MOST],
 }
 
-// What a bundle brings: as Numbers, with fewer places.
-#[repr(C)]
-#[derive(Clone, Copy)]
-pub struct Provided {
-    pub count: usize,
-    pub items: [u32; MOST_PROVIDED],
+pub type Numbers = NumberList<MOST_LISTED>;
+
+// What a bundle brings.
+pub type Provided = NumberList<MOST_PROVIDED>;
+
+impl<const MOST: usize> NumberList<MOST> {
+    // What a list hands in as a value of its own.
+    pub fn from_slice(list: &[u32]) -> NumberList<MOST>
+        requires { length list.now ≤ MOST }
+        ensures { result ≡ store_list MOST list.now }
+    {
+        let mut items = [0u32; MOST];
+        items[..list.len()].copy_from_slice(list);
+        NumberList {
+            count: list.len(),
+            items,
+        }
+    }
+
+    pub fn as_slice(&self) -> &[u32]
+        requires { ListStored self.now }
+        ensures { result.now ≡ list_of self.now }
+    {
+        &self.items[..self.count]
+    }
 }
 
 // Whether a list is strictly ascending.
 pub fn ascending(list: &[u32]) -> bool
     ensures { result ≡ ascends ltb list.now }
 {
-    let mut i: usize = 1;
-    while i < list.len() {
-        if list[i] <= list[i - 1] {
-            return false;
-        }
-        i += 1;
-    }
-    true
+    list.is_sorted_by(|a, b| a < b)
 }
 
 // Whether a list has a number.
 pub fn has_number(list: &[u32], number: u32) -> bool
     ensures { result ≡ member number list.now }
 {
-    let mut i: usize = 0;
-    while i < list.len() {
-        if list[i] == number {
-            return true;
-        }
-        i += 1;
-    }
-    false
+    list.contains(&number)
 }
 
 // Puts a list into the first places.

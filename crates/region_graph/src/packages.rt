@@ -1,13 +1,16 @@
 // Packages and entries of package parts, in columns: the parts of one stand at equal places of lists, and the shortest list counts.
-ghost use Rattle.std.specs.Prelude.{◌≡◌, ◌&&◌, leb, ◌≤◌, length};
+ghost use Rattle.std.specs.Prelude.{◌≡◌, true, ◌&&◌, leb, ltb, ◌≤◌, length};
 ghost use Rattle.region_graph.specs.Size.{most_listed, most_provided};
-ghost use Rattle.region_graph.specs.Lists.{ascends, exists, every};
+ghost use Rattle.region_graph.specs.Lists.{ascends, exists, every, member};
 ghost use Rattle.region_graph.specs.Model.{Part, packages, entries, package_before, entry_before, ordered};
 ghost use Rattle.region_graph.specs.Items.{is_package, entry_passes};
 ghost use Rattle.region_graph.specs.Record.{store_packages, store_entries, store_package_part};
-ghost use Rattle.region_graph.specs.Places.{put_into};
+ghost use Rattle.region_graph.specs.Calls.{part_within, of_listed};
+ghost use Rattle.region_graph.specs.Record.{packages_of, entries_of, package_part_in, store_part, part_in};
+ghost use Rattle.region_graph.specs.Places.{put_into, PackagesStored, EntriesStored, PackagePartStored, PartStored};
+ghost use Rattle.region_graph.specs.Handed.{package_list, entry_list, entry_part, number_part};
 
-use crate::numbers::{ascending, put_numbers};
+use crate::numbers::{Numbers, ascending, has_number, put_numbers};
 use crate::size::{EVERYTHING, MOST_LISTED, MOST_PROVIDED};
 
 // What a bundle exports.
@@ -27,6 +30,252 @@ pub struct Entries {
     pub numbers: [u32; MOST_LISTED],
     pub lowest: [u16; MOST_LISTED],
     pub highest: [u16; MOST_LISTED],
+}
+
+// Packages that are handed in as a list of their numbers and one of their versions.
+#[derive(Clone, Copy)]
+pub struct PackageList<'a> {
+    pub numbers: &'a [u32],
+    pub versions: &'a [u16],
+}
+
+// Entries of a package part that are handed in.
+#[derive(Clone, Copy)]
+pub struct EntryList<'a> {
+    pub numbers: &'a [u32],
+    pub lowest: &'a [u16],
+    pub highest: &'a [u16],
+}
+
+// A part of a filter that is handed in.
+#[derive(Clone, Copy)]
+pub enum PartList<T> {
+    Everything,
+    Listed(T),
+}
+
+impl<'a> PackageList<'a> {
+    pub fn count(self) -> usize
+        ensures { result ≡ length (package_list self.entry) }
+    {
+        self.numbers.len().min(self.versions.len())
+    }
+
+    // Whether they strictly ascend by number, then version.
+    pub fn ascends(self) -> bool
+        ensures { result ≡ ascends package_before (package_list self.entry) }
+    {
+        packages_ascending(self.numbers, self.versions)
+    }
+
+    // Whether they have a package.
+    pub fn has(self, number: u32, version: u16) -> bool
+        ensures { result ≡ exists (is_package number version) (package_list self.entry) }
+    {
+        has_package(self.numbers, self.versions, number, version)
+    }
+}
+
+impl<'a> EntryList<'a> {
+    pub fn count(self) -> usize
+        ensures { result ≡ length (entry_list self.entry) }
+    {
+        entry_count(self.numbers, self.lowest, self.highest)
+    }
+
+    // Whether they strictly ascend by number.
+    pub fn ascends(self) -> bool
+        ensures { result ≡ ascends entry_before (entry_list self.entry) }
+    {
+        entries_ascending(self.numbers, self.lowest, self.highest)
+    }
+
+    // Whether no lowest version exceeds its highest.
+    pub fn ordered(self) -> bool
+        ensures { result ≡ every ordered (entry_list self.entry) }
+    {
+        entries_ordered(self.numbers, self.lowest, self.highest)
+    }
+
+    // Whether one of them passes a package.
+    pub fn passes(self, number: u32, version: u16) -> bool
+        ensures { result ≡ exists (entry_passes number version) (entry_list self.entry) }
+    {
+        entries_pass(self.numbers, self.lowest, self.highest, number, version)
+    }
+}
+
+impl<'a> PartList<EntryList<'a>> {
+    // Whether it is within its count.
+    pub fn within(self) -> bool
+        ensures { result ≡ part_within (entry_part self.entry) }
+    {
+        match self {
+            PartList::Everything => true,
+            PartList::Listed(list) => list.count() <= MOST_LISTED,
+        }
+    }
+
+    pub fn ascends(self) -> bool
+        ensures { result ≡ of_listed (ascends entry_before) (entry_part self.entry) }
+    {
+        match self {
+            PartList::Everything => true,
+            PartList::Listed(list) => list.ascends(),
+        }
+    }
+
+    // Whether no entry's lowest version exceeds its highest.
+    pub fn ordered(self) -> bool
+        ensures { result ≡ of_listed (every ordered) (entry_part self.entry) }
+    {
+        match self {
+            PartList::Everything => true,
+            PartList::Listed(list) => list.ordered(),
+        }
+    }
+
+    // Whether it passes a package.
+    pub fn passes(self, number: u32, version: u16) -> bool
+        ensures { result ≡ of_listed (exists (entry_passes number version)) (entry_part self.entry) }
+    {
+        match self {
+            PartList::Everything => true,
+            PartList::Listed(list) => list.passes(number, version),
+        }
+    }
+}
+
+impl<'a> PartList<&'a [u32]> {
+    pub fn within(self) -> bool
+        ensures { result ≡ part_within (number_part self.entry) }
+    {
+        match self {
+            PartList::Everything => true,
+            PartList::Listed(list) => list.len() <= MOST_LISTED,
+        }
+    }
+
+    pub fn ascends(self) -> bool
+        ensures { result ≡ of_listed (ascends ltb) (number_part self.entry) }
+    {
+        match self {
+            PartList::Everything => true,
+            PartList::Listed(list) => ascending(list),
+        }
+    }
+
+    // Whether it passes a number.
+    pub fn passes(self, number: u32) -> bool
+        ensures { result ≡ of_listed (member number) (number_part self.entry) }
+    {
+        match self {
+            PartList::Everything => true,
+            PartList::Listed(list) => has_number(list, number),
+        }
+    }
+}
+
+impl Numbers {
+    // A part that is everything.
+    pub fn everything() -> Numbers
+        ensures { result ≡ store_part Part.everything }
+    {
+        Numbers {
+            count: EVERYTHING,
+            items: [0u32; MOST_LISTED],
+        }
+    }
+
+    pub fn from_part(part: PartList<&[u32]>) -> Numbers
+        requires { part_within (number_part part) ≡ true }
+        ensures { result ≡ store_part (number_part part.entry) }
+    {
+        match part {
+            PartList::Everything => Numbers::everything(),
+            PartList::Listed(list) => Numbers::from_slice(list),
+        }
+    }
+
+    pub fn as_part(&self) -> PartList<&[u32]>
+        requires { PartStored self.now }
+        ensures { number_part result ≡ part_in self.now }
+    {
+        if self.count == EVERYTHING {
+            PartList::Everything
+        } else {
+            PartList::Listed(self.as_slice())
+        }
+    }
+}
+
+impl Packages {
+    // What lists hand in as a value of its own.
+    pub fn from_list(list: PackageList<'_>) -> Packages
+        requires { length (package_list list) ≤ most_provided }
+        ensures { result ≡ store_packages (package_list list.entry) }
+    {
+        packages_copied(list.numbers, list.versions)
+    }
+
+    pub fn as_list(&self) -> PackageList<'_>
+        requires { PackagesStored self.now }
+        ensures { package_list result ≡ packages_of self.now }
+    {
+        PackageList {
+            numbers: &self.numbers[..self.count],
+            versions: &self.versions[..self.count],
+        }
+    }
+}
+
+impl Entries {
+    // What lists hand in as a value of its own.
+    pub fn from_list(list: EntryList<'_>) -> Entries
+        requires { length (entry_list list) ≤ most_listed }
+        ensures { result ≡ store_entries (entry_list list.entry) }
+    {
+        entries_copied(list.numbers, list.lowest, list.highest)
+    }
+
+    // A package part that is everything.
+    pub fn everything() -> Entries
+        ensures { result ≡ store_package_part Part.everything }
+    {
+        every_package()
+    }
+
+    pub fn from_part(part: PartList<EntryList<'_>>) -> Entries
+        requires { part_within (entry_part part) ≡ true }
+        ensures { result ≡ store_package_part (entry_part part.entry) }
+    {
+        match part {
+            PartList::Everything => Entries::everything(),
+            PartList::Listed(list) => Entries::from_list(list),
+        }
+    }
+
+    pub fn as_part(&self) -> PartList<EntryList<'_>>
+        requires { PackagePartStored self.now }
+        ensures { entry_part result ≡ package_part_in self.now }
+    {
+        if self.count == EVERYTHING {
+            PartList::Everything
+        } else {
+            PartList::Listed(self.as_list())
+        }
+    }
+
+    pub fn as_list(&self) -> EntryList<'_>
+        requires { EntriesStored self.now }
+        ensures { entry_list result ≡ entries_of self.now }
+    {
+        EntryList {
+            numbers: &self.numbers[..self.count],
+            lowest: &self.lowest[..self.count],
+            highest: &self.highest[..self.count],
+        }
+    }
 }
 
 // How many packages two lists hand in.

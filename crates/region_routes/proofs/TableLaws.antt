@@ -1,4 +1,5 @@
 -- Tables: what an entry says, what a table says of the model whose table it is, and what a loop puts it together from.
+use Rattle.std.specs.Prelude.{Option}
 use mathlib.Core.Path.{◌≡◌, refl, sym, ap, ap₂, ◌∙◌}
 use mathlib.Core.Bool.{Bool, true, false, ◌&&◌, ◌||◌, and-false, or-true, or-false}
 use mathlib.Core.List.{List, [], ◌∷◌, map}
@@ -7,22 +8,20 @@ use native.Mathlib.Omega.{arith}
 use lib.Dec.{eqb, ltb}
 use lib.ListN.{length, get_or, take, replicate, length-map}
 use borrow.Author.Tests.{ne_eqb}
-use Rattle.region_graph.specs.Size.{regions, most_bundles, most_connections, most_provided, most_listed}
+use Rattle.region_graph.specs.Size.{regions, most_provided, most_listed}
 use Rattle.region_graph.specs.Lists.{exists, All, member, concat_map}
 use Rattle.region_graph.specs.Sets.{set_of}
 use Rattle.region_graph.specs.Model.{Model, PackageEntry, Bundle, Filter, Part, Connection, Word, SortedPart, LegalEntry, entry_before}
 use Rattle.region_graph.specs.Model.{Legal, LegalBundle, LegalFilter, LegalConnection}
 use Rattle.region_graph.specs.Calls.{of_listed}
 use Rattle.region_graph.specs.Items.{provides, passes, crosses}
-use Rattle.region_graph.specs.Record.{places, store_bundle, store_connection, bundle_in, connection_in, no_bundle, no_connection}
+use Rattle.region_graph.specs.Record.{store_bundle, store_connection, bundle_in, connection_in, no_bundle, no_connection}
 use Rattle.region_graph.specs.Places.{ShortBundle, ShortConnection, BundleStored, ConnectionStored}
 use Rattle.region_graph.specs.Promise.{place_of, holder_set, predecessor_sets}
-use Rattle.region_graph.specs.declared.Place.{Place}
 use Rattle.region_graph.specs.declared.bundles.StoredBundle.{StoredBundle}
 use Rattle.region_graph.specs.declared.connections.StoredConnection.{StoredConnection}
 use Rattle.region_graph.proofs.Lists.{exists_append, all_at, all_map, member_all, eqb_sym, false_true}
 use Rattle.region_graph.proofs.Bits.{set_below_lt, set_none}
-use Rattle.region_graph.proofs.Arrays.{filled_taken}
 use Rattle.region_graph.proofs.Storing.{stored_as, bundle_back, connection_back, bundles_each, connections_each}
 use Rattle.region_graph.proofs.Storing.{short_bundle, short_connection, short_connections}
 use Rattle.region_routes.specs.Hooks.{item, is_installed, all_installed}
@@ -215,10 +214,10 @@ module _ (m : Model) (h : Legal m) where
     abbrev pub BundlesFrom : List StoredBundle → Type 0
     BundlesFrom stored = Source store_bundle bundle_in f most_provided stored m.bundles
 
-    pub bundles_from : {items : List StoredBundle} {count : ℕ} → All (λ b. length (f b) ≤ most_provided) m.bundles
-        → items ≡ places store_bundle (store_bundle no_bundle) most_bundles m.bundles → count ≡ length m.bundles → BundlesFrom (take count items)
-    bundles_from few s c = record {
-      stored_is = filled_taken (record { shape = s; counted = c; room = h.bundles_legal.few });
+    pub bundles_from : {stored : List StoredBundle} → All (λ b. length (f b) ≤ most_provided) m.bundles → stored ≡ map store_bundle m.bundles
+        → BundlesFrom stored
+    bundles_from few s = record {
+      stored_is = s;
       back = bundles_each m.bundles;
       few = few;
       fits = omega (arith, h.bundles_legal.few);
@@ -240,11 +239,10 @@ module _ (m : Model) (h : Legal m) where
     abbrev pub ConnectionsFrom : List StoredConnection → Type 0
     ConnectionsFrom stored = Source store_connection connection_in f most_listed stored m.connections
 
-    pub connections_from : {items : List StoredConnection} {count : ℕ} → All (λ c. length (f c) ≤ most_listed) m.connections
-        → items ≡ places store_connection (store_connection no_connection) most_connections m.connections → count ≡ length m.connections
-        → ConnectionsFrom (take count items)
-    connections_from few s c = record {
-      stored_is = filled_taken (record { shape = s; counted = c; room = h.connections_legal.few });
+    pub connections_from : {stored : List StoredConnection} → All (λ c. length (f c) ≤ most_listed) m.connections
+        → stored ≡ map store_connection m.connections → ConnectionsFrom stored
+    connections_from few s = record {
+      stored_is = s;
       back = connections_each m.connections (short_connections h);
       few = few;
       fits = omega (arith, h.connections_legal.few);
@@ -267,7 +265,7 @@ pub place_table : {m : Model} → Legal m → {es : List ℕ} → es ≡ offers 
 place_table {m} h e l = ap (λ (es : List ℕ). place_at es l) e ∙ place_offers m h l
 
 -- each listener has a place where each is installed
-pub placed_installed : (m : Model) {place : ℕ → Place} → ((l : ℕ) → place l ≡ place_of m.bundles l) → (ls : List ℕ)
+pub placed_installed : (m : Model) {place : ℕ → Option ℕ} → ((l : ℕ) → place l ≡ place_of m.bundles l) → (ls : List ℕ)
     → all_placed place ls ≡ all_installed m ls
 placed_installed m e [] = refl
 placed_installed m e (l ∷ ls) = ap₂ ◌&&◌ (ap is_installed (e l)) (placed_installed m e ls)

@@ -15,7 +15,7 @@ use crate::tables::{Chains, EVERYTHING_NUMBER, FEW, Table, owner_number};
 use region_graph::refusals::Refusal;
 use region_graph::region_set::{has, singleton};
 use region_graph::size::REGIONS;
-use region_graph::{Graph, Item, Place};
+use region_graph::{Graph, Item};
 
 // A candidate: an exporter's location with a package.
 #[derive(Clone, Copy)]
@@ -83,10 +83,10 @@ fn keep_where<F: Fn(Candidate) -> bool>(
 }
 
 // Whether a region is offered a candidate: asks the graph, and makes no tables.
-fn is_offered(graph: Graph, region: u32, candidate: Candidate) -> bool
-    requires valid { Valid graph }
+fn is_offered(graph: &Graph, region: u32, candidate: Candidate) -> bool
+    requires valid { Valid graph.now }
     requires region_lt_regions { region < regions }
-    ensures { result ≡ is_offered (meaning graph) candidate region }
+    ensures { result ≡ is_offered (meaning graph.now) candidate region }
 {
     let package = Item {
         kind: Kind::Package.number(),
@@ -94,11 +94,11 @@ fn is_offered(graph: Graph, region: u32, candidate: Candidate) -> bool
         version: candidate.version,
     };
     match graph.provider(candidate.exporter, package) {
-        Place::Within(home) => {
+        Some(home) => {
             let search = search_for(graph, package, Ends::Region(home));
             has(search.layers.reached, region)
         }
-        Place::Nowhere => false,
+        None => false,
     }
 }
 
@@ -125,29 +125,29 @@ impl<'a> PackageTables<'a> {
         let owner = owner_number(candidate.exporter, candidate.version);
         let sought = u64::from(candidate.number);
         match self.exported.place_beside(self.owned, owner, sought) {
-            Place::Within(home) => {
+            Some(home) => {
                 let pred = self
                     .passing
                     .predecessors_between(self.spans, sought, candidate.version, self.always);
                 has(search(&pred, singleton(home)).reached, region)
             }
-            Place::Nowhere => false,
+            None => false,
         }
     }
 }
 
 // Writes the candidates that a region is offered: makes the tables of the packages.
 fn resolve_many(
-    graph: Graph,
+    graph: &Graph,
     region: u32,
     given: Candidates<'_>,
     out_exporters: &mut [u32],
     out_packages: &mut [u32],
     out_versions: &mut [u16],
 ) -> usize
-    requires valid { Valid graph }
+    requires valid { Valid graph.now }
     requires region_lt_regions { (region < regions) × Room (candidate_list given) out_exporters.old out_packages.old out_versions.old }
-    ensures { kept (Kept.Wrote result) (out_exporters.new ∷ out_packages.new ∷ out_versions.new ∷ []) ≡ resolved (keep (λ c. is_offered (meaning graph) c region) (candidate_list given.entry)) (out_exporters.old ∷ out_packages.old ∷ out_versions.old ∷ []) }
+    ensures { kept (Kept.Wrote result) (out_exporters.new ∷ out_packages.new ∷ out_versions.new ∷ []) ≡ resolved (keep (λ c. is_offered (meaning graph.now) c region) (candidate_list given.entry)) (out_exporters.old ∷ out_packages.old ∷ out_versions.old ∷ []) }
 {
     let mut exported = Table::new();
     exported.put_offers(graph, Kind::Package);
@@ -177,15 +177,15 @@ fn resolve_many(
 
 // Writes the candidates that a region is offered: asks the graph about each, and makes no tables.
 fn resolve_few(
-    graph: Graph,
+    graph: &Graph,
     region: u32,
     given: Candidates<'_>,
     out_exporters: &mut [u32],
     out_packages: &mut [u32],
     out_versions: &mut [u16],
 ) -> usize
-    requires { Valid graph × ((region < regions) × Room (candidate_list given) out_exporters.old out_packages.old out_versions.old) }
-    ensures { kept (Kept.Wrote result) (out_exporters.new ∷ out_packages.new ∷ out_versions.new ∷ []) ≡ resolved (keep (λ c. is_offered (meaning graph) c region) (candidate_list given.entry)) (out_exporters.old ∷ out_packages.old ∷ out_versions.old ∷ []) }
+    requires { Valid graph.now × ((region < regions) × Room (candidate_list given) out_exporters.old out_packages.old out_versions.old) }
+    ensures { kept (Kept.Wrote result) (out_exporters.new ∷ out_packages.new ∷ out_versions.new ∷ []) ≡ resolved (keep (λ c. is_offered (meaning graph.now) c region) (candidate_list given.entry)) (out_exporters.old ∷ out_packages.old ∷ out_versions.old ∷ []) }
 {
     keep_where(
         given,
@@ -199,7 +199,7 @@ fn resolve_few(
 // The candidates, exporters with packages, that a bundle is offered. The C interface lends the lists one by one.
 #[tactic(auto, using(crate::proofs::Judging::region_inside, crate::proofs::Answering::resolve_not_installed, crate::proofs::Answering::resolve_no_exporter_place, crate::proofs::Answering::resolve_no_number_place, crate::proofs::Answering::resolve_no_version_place, crate::proofs::Answering::resolve_answers))]
 pub fn resolve(
-    graph: Graph,
+    graph: &Graph,
     location: u32,
     exporters: &[u32],
     packages: &[u32],
@@ -208,12 +208,10 @@ pub fn resolve(
     out_packages: &mut [u32],
     out_versions: &mut [u16],
 ) -> Result<usize, Refusal>
-    requires { Valid graph }
-    ensures { kept (kept_answer result) (out_exporters.new ∷ out_packages.new ∷ out_versions.new ∷ []) ≡ resolve_outcome (meaning graph) location (candidates exporters.now packages.now versions.now) (out_exporters.old ∷ out_packages.old ∷ out_versions.old ∷ []) }
+    requires { Valid graph.now }
+    ensures { kept (kept_answer result) (out_exporters.new ∷ out_packages.new ∷ out_versions.new ∷ []) ≡ resolve_outcome (meaning graph.now) location (candidates exporters.now packages.now versions.now) (out_exporters.old ∷ out_packages.old ∷ out_versions.old ∷ []) }
 {
-    let Place::Within(region) = graph.region_of(location) else {
-        return Err(Refusal::NotInstalled);
-    };
+    let region = graph.region_of(location).ok_or(Refusal::NotInstalled)?;
     let given = Candidates {
         exporters,
         packages,

@@ -112,9 +112,9 @@ pub enum Ends {
 }
 
 // The regions in which a route may end.
-fn end_set(graph: Graph, item: Item, ends: Ends) -> u64
-    requires { Valid graph }
-    ensures { result ≡ end_set (meaning graph) item ends }
+fn end_set(graph: &Graph, item: Item, ends: Ends) -> u64
+    requires { Valid graph.now }
+    ensures { result ≡ end_set (meaning graph.now) item ends }
 {
     match ends {
         Ends::Holders => graph.holders(item),
@@ -123,9 +123,9 @@ fn end_set(graph: Graph, item: Item, ends: Ends) -> u64
 }
 
 // The search for an item.
-pub fn search_for(graph: Graph, item: Item, ends: Ends) -> ItemSearch
-    requires { Valid graph }
-    ensures { (result.pred ≡ predecessor_sets (meaning graph) item) × Searched (predecessor_sets (meaning graph) item) (end_set (meaning graph) item ends) result.layers.sets result.layers.deep result.layers.reached }
+pub fn search_for(graph: &Graph, item: Item, ends: Ends) -> ItemSearch
+    requires { Valid graph.now }
+    ensures { (result.pred ≡ predecessor_sets (meaning graph.now) item) × Searched (predecessor_sets (meaning graph.now) item) (end_set (meaning graph.now) item ends) result.layers.sets result.layers.deep result.layers.reached }
 {
     let pred = graph.predecessors(item);
     let layers = search(&pred, end_set(graph, item, ends));
@@ -133,9 +133,9 @@ pub fn search_for(graph: Graph, item: Item, ends: Ends) -> ItemSearch
 }
 
 // The regions that see an item.
-pub fn regions_seeing(graph: Graph, item: Item) -> u64
-    requires { Valid graph }
-    ensures { result ≡ set_of (sees (meaning graph) item) }
+pub fn regions_seeing(graph: &Graph, item: Item) -> u64
+    requires { Valid graph.now }
+    ensures { result ≡ set_of (sees (meaning graph.now) item) }
 {
     search_for(graph, item, Ends::Holders).layers.reached
 }

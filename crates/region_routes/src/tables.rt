@@ -14,7 +14,7 @@ ghost use Rattle.std.specs.List.{zip};
 use crate::Kind;
 use region_graph::region_set::singleton;
 use region_graph::size::{EVERYTHING, MOST_CONNECTIONS, MOST_LISTED, REGIONS};
-use region_graph::{Entries, Graph, Place, StoredBundle, StoredConnection};
+use region_graph::{Entries, Graph, StoredBundle, StoredConnection};
 use std::marker::Model;
 use std::slice;
 
@@ -224,49 +224,45 @@ impl Table {
     }
 
     // Puts what the bundles of a graph bring to their regions.
-    pub fn put_offers(&mut self, graph: Graph, kind: Kind)
-        requires valid { Valid graph }
+    pub fn put_offers(&mut self, graph: &Graph, kind: Kind)
+        requires valid { Valid graph.now }
         requires empty { self.old ≡ [] }
-        ensures { self.new ≡ Tables.offers (kind_number kind) (meaning graph).bundles }
+        ensures { self.new ≡ Tables.offers (kind_number kind) (meaning graph.now).bundles }
     {
-        let bundles = graph.bundle_places();
-        for b in &bundles[..graph.bundle_count()] {
+        for b in graph.bundles() {
             self.put_offer(b, kind);
         }
     }
 
     // Puts, for each package that the bundles of a graph bring, the exporter's location with the version.
-    pub fn put_owners(&mut self, graph: Graph)
-        requires valid { Valid graph }
+    pub fn put_owners(&mut self, graph: &Graph)
+        requires valid { Valid graph.now }
         requires empty { self.old ≡ [] }
-        ensures { self.new ≡ Tables.owners (meaning graph).bundles }
+        ensures { self.new ≡ Tables.owners (meaning graph.now).bundles }
     {
-        let bundles = graph.bundle_places();
-        for b in &bundles[..graph.bundle_count()] {
+        for b in graph.bundles() {
             self.put_owner(b);
         }
     }
 
     // Puts what the connections of a graph pass.
-    pub fn put_passages(&mut self, graph: Graph, kind: Kind)
-        requires valid { Valid graph }
+    pub fn put_passages(&mut self, graph: &Graph, kind: Kind)
+        requires valid { Valid graph.now }
         requires empty { self.old ≡ [] }
-        ensures { self.new ≡ Tables.passages (kind_number kind) (meaning graph).connections }
+        ensures { self.new ≡ Tables.passages (kind_number kind) (meaning graph.now).connections }
     {
-        let connections = graph.connection_places();
-        for c in &connections[..graph.connection_count()] {
+        for c in graph.connections() {
             self.put_passage(c, kind);
         }
     }
 
     // Puts, for each entry of what the connections of a graph pass of packages, its span.
-    pub fn put_connection_spans(&mut self, graph: Graph)
-        requires valid { Valid graph }
+    pub fn put_connection_spans(&mut self, graph: &Graph)
+        requires valid { Valid graph.now }
         requires empty { self.old ≡ [] }
-        ensures { self.new ≡ Tables.spans (meaning graph).connections }
+        ensures { self.new ≡ Tables.spans (meaning graph.now).connections }
     {
-        let connections = graph.connection_places();
-        for c in &connections[..graph.connection_count()] {
+        for c in graph.connections() {
             self.put_spans(&c.packages);
         }
     }
@@ -365,26 +361,24 @@ impl<'a> Chains<'a> {
     }
 
     // The place of the first entry that has a number.
-    pub fn place_of(&self, number: u64) -> Place
+    pub fn place_of(&self, number: u64) -> Option<u32>
         ensures { result ≡ Tables.place_at self.now.table.now number }
     {
-        match self.places(number).next() {
-            Some(i) => Place::Within(place_in(self.table[i])),
-            None => Place::Nowhere,
-        }
+        let i = self.places(number).next()?;
+        Some(place_in(self.table[i]))
     }
 
     // The place of the first entry that has a number, and an owner beside it.
-    pub fn place_beside(&self, owned: &[u64], asked: u64, number: u64) -> Place
+    pub fn place_beside(&self, owned: &[u64], asked: u64, number: u64) -> Option<u32>
         requires { length owned.now ≡ length self.now.table.now }
         ensures { result ≡ Tables.place_beside self.now.table.now owned.now asked number }
     {
         for i in self.places(number) {
             if owned[i] == asked {
-                return Place::Within(place_in(self.table[i]));
+                return Some(place_in(self.table[i]));
             }
         }
-        Place::Nowhere
+        None
     }
 }
 

@@ -2,7 +2,7 @@ use mathlib.Core.Path.{sym}
 use mathlib.Core.Bool.{or-false}
 use native.Mathlib.Omega.{arith}
 use borrow.Author.Tests.{eq-eqb, ne_eqb, le-ltb}
-use Rattle.region_graph.specs.Record.{numbers_of}
+use Rattle.region_graph.specs.Record.{list_of}
 use Rattle.region_graph.proofs.Arrays.{filled_within, filled_part}
 use Rattle.region_graph.proofs.Storing.{named_stored, numbers_filled}
 use Rattle.region_graph.proofs.connections.connection_meets.Goals as goal
@@ -22,7 +22,7 @@ slice_bounds-has_number-end c =
     let s = c in filled_part (numbers_filled s.args.c.bundles (named_stored s.args.c s.requires))
 
 pub returns-then-c-region-2 : goal.returns-then-c-region-2
-unfolding numbers_of
+unfolding list_of
 returns-then-c-region-2 c =
     rw (c.in-Naming.is, eq-eqb _ _ c.if-c-region-2.true) c.has_number.ensures
 

@@ -16,20 +16,20 @@ asked {m} ls h e k t = sym (k ∙ placed_installed m (place_table h e) ls) ∙ t
 pub returns-then-not-all_placed : goal.returns-then-not-all_placed
 returns-then-not-all_placed c =
     let s = c.args in
-    event_not_installed (meaning s.graph) s.kind s.listeners.now s.number s.out.now
+    event_not_installed (meaning s.graph.now) s.kind s.listeners.now s.number s.out.now
     (asked s.listeners.now c.requires.good (c.of-bundles.ensures ∙ c.entries.ensures.0 ∙ c.put_offers.ensures) c.all_placed.ensures c.if-not-all_placed.true)
 
 pub returns-then-out-listeners : goal.returns-then-out-listeners
 returns-then-out-listeners c =
     let s = c.args in
-    event_no_place (meaning s.graph) s.kind s.listeners.now s.number s.out.now
+    event_no_place (meaning s.graph.now) s.kind s.listeners.now s.number s.out.now
     (asked s.listeners.now c.requires.good (c.of-bundles.ensures ∙ c.entries.ensures.0 ∙ c.put_offers.ensures) c.all_placed.ensures c.if-not-all_placed.false)
     c.if-out-listeners.true
 
 pub returns : goal.returns
 returns c =
     let s = c.args in
-    let m = meaning s.graph in
+    let m = meaning s.graph.now in
     event_answers m s.kind s.listeners.now s.number s.out.now
     (asked s.listeners.now c.requires.good (c.of-bundles.ensures ∙ c.entries.ensures.0 ∙ c.put_offers.ensures) c.all_placed.ensures c.if-not-all_placed.false)
     c.if-out-listeners.false

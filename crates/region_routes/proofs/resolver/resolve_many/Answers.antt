@@ -6,7 +6,7 @@ use Rattle.region_routes.proofs.resolver.resolve_many.Goals as goal
 
 pub invariant_of-tables : goal.invariant_of-tables
 invariant_of-tables c =
-    let m = meaning c.args.graph in
+    let m = meaning c.args.graph.now in
     record {
       owned_len = owned_long m.bundles (c.entries-3.ensures.0 ∙ c.put_owners.ensures) (c.of.ensures ∙ c.entries-2.ensures.0 ∙ c.put_offers.ensures);
       spans_len =

@@ -9,24 +9,24 @@ use Rattle.region_routes.proofs.tables.Table.put_connection_spans.Goals as goal
 
 pub put_spans-requires-clause-stored : goal.put_spans-requires-clause-stored
 put_spans-requires-clause-stored c =
-    let m = meaning c.args.graph in
+    let m = meaning c.args.graph.now in
     let h = c.requires.valid.good in
-    package_part_stored _ (connections_asked m h passage_spans (connections_from m h passage_spans (spans_few h) c.connection_places-connections.ensures c.connection_count.ensures) c.loop-c.invariant _ c.loop-c-test.true).0
+    package_part_stored _ (connections_asked m h passage_spans (connections_from m h passage_spans (spans_few h) c.connections-c-items.ensures) c.loop-c.invariant _ c.loop-c-test.true).0
 
 pub put_spans-requires-clause-room : goal.put_spans-requires-clause-room
 put_spans-requires-clause-room c =
-    let m = meaning c.args.graph in
+    let m = meaning c.args.graph.now in
     let h = c.requires.valid.good in
-    (connections_asked m h passage_spans (connections_from m h passage_spans (spans_few h) c.connection_places-connections.ensures c.connection_count.ensures) c.loop-c.invariant _ c.loop-c-test.true).1.1
+    (connections_asked m h passage_spans (connections_from m h passage_spans (spans_few h) c.connections-c-items.ensures) c.loop-c.invariant _ c.loop-c-test.true).1.1
 
 pub loop-c-preserved : goal.loop-c-preserved
 loop-c-preserved c =
-    let m = meaning c.args.graph in
+    let m = meaning c.args.graph.now in
     let h = c.requires.valid.good in
-    gathering_next (connections_from m h passage_spans (spans_few h) c.connection_places-connections.ensures c.connection_count.ensures) c.loop-c.invariant _ no_connection c.loop-c-test.true c.put_spans.ensures
+    gathering_next (connections_from m h passage_spans (spans_few h) c.connections-c-items.ensures) c.loop-c.invariant _ no_connection c.loop-c-test.true c.put_spans.ensures
 
 pub returns : goal.returns
 returns c =
-    let m = meaning c.args.graph in
+    let m = meaning c.args.graph.now in
     let h = c.requires.valid.good in
-    gathering_end (connections_from m h passage_spans (spans_few h) c.connection_places-connections.ensures c.connection_count.ensures) c.loop-c.invariant (omega arith)
+    gathering_end (connections_from m h passage_spans (spans_few h) c.connections-c-items.ensures) c.loop-c.invariant (omega arith)

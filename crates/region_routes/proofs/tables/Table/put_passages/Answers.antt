@@ -8,30 +8,30 @@ use Rattle.region_routes.proofs.tables.Table.put_passages.Goals as goal
 
 pub put_passage-requires-clause-stored : goal.put_passage-requires-clause-stored
 put_passage-requires-clause-stored c =
-    let m = meaning c.args.graph in
+    let m = meaning c.args.graph.now in
     let h = c.requires.valid.good in
-    (connections_asked m h (passage (kind_number c.args.kind)) (connections_from m h (passage (kind_number c.args.kind)) (passages_few m h (kind_number c.args.kind)) c.connection_places-connections.ensures c.connection_count.ensures) c.loop-c.invariant _ c.loop-c-test.true).0
+    (connections_asked m h (passage (kind_number c.args.kind)) (connections_from m h (passage (kind_number c.args.kind)) (passages_few m h (kind_number c.args.kind)) c.connections-c-items.ensures) c.loop-c.invariant _ c.loop-c-test.true).0
 
 pub put_passage-requires-clause-inside : goal.put_passage-requires-clause-inside
 put_passage-requires-clause-inside c =
-    let m = meaning c.args.graph in
+    let m = meaning c.args.graph.now in
     let h = c.requires.valid.good in
-    (connections_asked m h (passage (kind_number c.args.kind)) (connections_from m h (passage (kind_number c.args.kind)) (passages_few m h (kind_number c.args.kind)) c.connection_places-connections.ensures c.connection_count.ensures) c.loop-c.invariant _ c.loop-c-test.true).1.0
+    (connections_asked m h (passage (kind_number c.args.kind)) (connections_from m h (passage (kind_number c.args.kind)) (passages_few m h (kind_number c.args.kind)) c.connections-c-items.ensures) c.loop-c.invariant _ c.loop-c-test.true).1.0
 
 pub put_passage-requires-clause-room : goal.put_passage-requires-clause-room
 put_passage-requires-clause-room c =
-    let m = meaning c.args.graph in
+    let m = meaning c.args.graph.now in
     let h = c.requires.valid.good in
-    (connections_asked m h (passage (kind_number c.args.kind)) (connections_from m h (passage (kind_number c.args.kind)) (passages_few m h (kind_number c.args.kind)) c.connection_places-connections.ensures c.connection_count.ensures) c.loop-c.invariant _ c.loop-c-test.true).1.1
+    (connections_asked m h (passage (kind_number c.args.kind)) (connections_from m h (passage (kind_number c.args.kind)) (passages_few m h (kind_number c.args.kind)) c.connections-c-items.ensures) c.loop-c.invariant _ c.loop-c-test.true).1.1
 
 pub loop-c-preserved : goal.loop-c-preserved
 loop-c-preserved c =
-    let m = meaning c.args.graph in
+    let m = meaning c.args.graph.now in
     let h = c.requires.valid.good in
-    gathering_next (connections_from m h (passage (kind_number c.args.kind)) (passages_few m h (kind_number c.args.kind)) c.connection_places-connections.ensures c.connection_count.ensures) c.loop-c.invariant _ no_connection c.loop-c-test.true c.put_passage.ensures
+    gathering_next (connections_from m h (passage (kind_number c.args.kind)) (passages_few m h (kind_number c.args.kind)) c.connections-c-items.ensures) c.loop-c.invariant _ no_connection c.loop-c-test.true c.put_passage.ensures
 
 pub returns : goal.returns
 returns c =
-    let m = meaning c.args.graph in
+    let m = meaning c.args.graph.now in
     let h = c.requires.valid.good in
-    gathering_end (connections_from m h (passage (kind_number c.args.kind)) (passages_few m h (kind_number c.args.kind)) c.connection_places-connections.ensures c.connection_count.ensures) c.loop-c.invariant (omega arith)
+    gathering_end (connections_from m h (passage (kind_number c.args.kind)) (passages_few m h (kind_number c.args.kind)) c.connections-c-items.ensures) c.loop-c.invariant (omega arith)

@@ -12,8 +12,7 @@ use Rattle.region_graph.specs.Sets.{has, set_of}
 use Rattle.region_graph.specs.Model.{Model, Legal}
 use Rattle.region_graph.specs.Calls.{Question, ask, first_no}
 use Rattle.region_graph.specs.Promise.{place_of}
-use Rattle.region_graph.specs.declared.Place.{Place}
-use Rattle.region_graph.specs.declared.Place.TheVariants.{Within, Nowhere}
+use Rattle.std.specs.Prelude.{Option, Some, None}
 use Rattle.region_graph.proofs.Legal.{all_yes, first_no_stops, first_no_goes_on}
 use Rattle.region_routes.specs.Chosen.{sees}
 use Rattle.region_routes.specs.Hooks.{item, is_installed, sees_from}
@@ -23,12 +22,12 @@ use Rattle.region_archive.specs.File.{FileMeaning, read_model, read_questions, r
 use Rattle.region_archive.specs.Promise.{seen_number, hidden_number, query_answer}
 
 -- questions 12 and 13
-abbrev asked : Place → Bool → List Question
+abbrev asked : Option ℕ → Bool → List Question
 asked p b = ask not_installed (is_installed p) ∷ ask not_a_kind b ∷ []
 
 module _ {s : List ℕ} (f : FileMeaning s) (location kind number version : ℕ) where
   -- the answer where the first question answered no has the number n
-  abbrev answer_by : Place → ℕ → ℕ
+  abbrev answer_by : Option ℕ → ℕ → ℕ
   answer_by p n = pick (eqb n not_refused) (pick (sees_from (read_model f) (item kind number version) p) seen_number hidden_number) n
 
   -- a refused read
@@ -41,20 +40,20 @@ module _ {s : List ℕ} (f : FileMeaning s) (location kind number version : ℕ)
       sym (ap (answer_by p) q ∙ ap (λ (b : Bool). pick b told k) (ne_eqb k not_refused u))
 
   -- an accepted one, the model of the record that it gave, and the place of the location there
-  module _ (e : not_refused ≡ read_number f) {m : Model} (g : m ≡ read_model f) {p : Place} (q : place_of m.bundles location ≡ p) where
+  module _ (e : not_refused ≡ read_number f) {m : Model} (g : m ≡ read_model f) {p : Option ℕ} (q : place_of m.bundles location ≡ p) where
     accepted : query_answer f location kind number version ≡ answer_by p (first_no (asked p (leb kind 2)))
     accepted =
         ap (answer_by (place_of (read_model f).bundles location))
         (first_no_goes_on (read_questions f) (asked (place_of (read_model f).bundles location) (leb kind 2))
         (all_yes (read_questions f) (refl, (refl, (refl, tt))) (sym e)))
-        ∙ ap (λ (x : Place). answer_by x (first_no (asked x (leb kind 2)))) (ap (λ (n : Model). place_of n.bundles location) (sym g) ∙ q)
+        ∙ ap (λ (x : Option ℕ). answer_by x (first_no (asked x (leb kind 2)))) (ap (λ (n : Model). place_of n.bundles location) (sym g) ∙ q)
 
     -- question 12
-    pub query_outside : p ≡ Nowhere → not_installed ≡ query_answer f location kind number version
-    query_outside n = sym (accepted ∙ ap (λ (x : Place). answer_by x (first_no (asked x (leb kind 2)))) n)
+    pub query_outside : p ≡ None → not_installed ≡ query_answer f location kind number version
+    query_outside n = sym (accepted ∙ ap (λ (x : Option ℕ). answer_by x (first_no (asked x (leb kind 2)))) n)
 
-    module _ {r : ℕ} (w : p ≡ Within r) where
-      within : (b : Bool) → leb kind 2 ≡ b → query_answer f location kind number version ≡ answer_by (Within r) (first_no (asked (Within r) b))
+    module _ {r : ℕ} (w : p ≡ Some r) where
+      within : (b : Bool) → leb kind 2 ≡ b → query_answer f location kind number version ≡ answer_by (Some r) (first_no (asked (Some r) b))
       within b k = accepted ∙ (λ i. answer_by (w i) (first_no (asked (w i) (k i))))
 
       -- question 13

@@ -60,12 +60,10 @@ fn plain_connections(connections: &[StoredConnection]) -> bool
         .all(|connection| plain_connection(connection))
 }
 
-// Whether a graph has no versions. It is a call of its own, so that its copies are off the stack when the image is written.
-#[inline(never)]
-pub fn unversioned(graph: Graph) -> bool
-    requires { Valid graph }
-    ensures { result ≡ Image.unversioned (meaning graph) }
+// Whether a graph has no versions.
+pub fn unversioned(graph: &Graph) -> bool
+    requires { Valid graph.now }
+    ensures { result ≡ Image.unversioned (meaning graph.now) }
 {
-    plain_bundles(&graph.bundle_places()[..graph.bundle_count()])
-        && plain_connections(&graph.connection_places()[..graph.connection_count()])
+    plain_bundles(graph.bundles()) && plain_connections(graph.connections())
 }

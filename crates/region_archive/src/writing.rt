@@ -193,57 +193,53 @@ impl Writer<'_> {
 }
 
 // How many bytes follow the length in the image of a graph in a version.
-fn body_size(graph: Graph, version: usize) -> usize
-    requires { Valid graph }
-    ensures { (result ≡ length (body_in version (meaning graph))) × (result ≤ body_bound) }
+fn body_size(graph: &Graph, version: usize) -> usize
+    requires { Valid graph.now }
+    ensures { (result ≡ length (body_in version (meaning graph.now))) × (result ≤ body_bound) }
 {
-    let bundles = graph.bundle_places();
-    let connections = graph.connection_places();
     1 + region_count(graph.region_set())
-        + records_size(&bundles[..graph.bundle_count()], version)
-        + records_size(&connections[..graph.connection_count()], version)
+        + records_size(graph.bundles(), version)
+        + records_size(graph.connections(), version)
 }
 
 // How many bytes the image of a graph takes.
-pub fn image_length(graph: Graph) -> usize
-    requires { Valid graph }
-    ensures { result ≡ length (image (meaning graph)) }
+pub fn image_length(graph: &Graph) -> usize
+    requires { Valid graph.now }
+    ensures { result ≡ length (image (meaning graph.now)) }
 {
     body_size(graph, LATEST) + FRONT
 }
 
 // The image of a graph in a version at the buffer's start.
-fn write_in(graph: Graph, version: usize, buffer: &mut [u8]) -> Result<usize, Refusal>
-    requires { Valid graph × (version < 256) }
-    ensures { archived (written_answer result) buffer.new ≡ placed_outcome (image_in version (meaning graph)) buffer.old }
+fn write_in(graph: &Graph, version: usize, buffer: &mut [u8]) -> Result<usize, Refusal>
+    requires { Valid graph.now × (version < 256) }
+    ensures { archived (written_answer result) buffer.new ≡ placed_outcome (image_in version (meaning graph.now)) buffer.old }
 {
     let size = body_size(graph, version);
     if buffer.len() < size + FRONT {
         return Err(Refusal::NoPlace);
     }
-    let bundles = graph.bundle_places();
-    let connections = graph.connection_places();
     let mut writer = Writer { buffer, at: 0 };
     writer.number(1, version);
     writer.number(4, size);
     writer.regions(graph.region_set());
-    writer.records(&bundles[..graph.bundle_count()], version);
-    writer.records(&connections[..graph.connection_count()], version);
+    writer.records(graph.bundles(), version);
+    writer.records(graph.connections(), version);
     Ok(writer.at)
 }
 
 // The image of a graph at the buffer's start.
-pub fn write(graph: Graph, buffer: &mut [u8]) -> Result<usize, Refusal>
-    requires { Valid graph }
-    ensures { archived (written_answer result) buffer.new ≡ write_outcome (meaning graph) buffer.old }
+pub fn write(graph: &Graph, buffer: &mut [u8]) -> Result<usize, Refusal>
+    requires { Valid graph.now }
+    ensures { archived (written_answer result) buffer.new ≡ write_outcome (meaning graph.now) buffer.old }
 {
     write_in(graph, LATEST, buffer)
 }
 
 // The image that was written before the latest version, of a graph that has no versions.
-pub fn write_older(graph: Graph, buffer: &mut [u8]) -> Result<usize, Refusal>
-    requires { Valid graph }
-    ensures { archived (written_answer result) buffer.new ≡ older_outcome (meaning graph) buffer.old }
+pub fn write_older(graph: &Graph, buffer: &mut [u8]) -> Result<usize, Refusal>
+    requires { Valid graph.now }
+    ensures { archived (written_answer result) buffer.new ≡ older_outcome (meaning graph.now) buffer.old }
 {
     if !unversioned(graph) {
         return Err(Refusal::HasVersions);

@@ -9,23 +9,21 @@ use Rattle.region_archive.proofs.writing.body_size.Goals as goal
 
 pub records_size-requires : goal.records_size-requires
 records_size-requires c =
-    let g = c.args.graph in
-    let p = c.bundle_places-bundles.ensures in
-    let n = c.bundle_count.ensures in
-    record { each_fits = bundles_fit g c.requires p n; few = bundles_few g c.requires p n }
+    let g = c.args.graph.now in
+    let p = c.bundles.ensures in
+    record { each_fits = bundles_fit g c.requires p; few = bundles_few g c.requires p }
 
 pub records_size-requires-2 : goal.records_size-requires-2
 records_size-requires-2 c =
-    let g = c.args.graph in
-    let p = c.connection_places-connections.ensures in
-    let n = c.connection_count.ensures in
-    record { each_fits = connections_fit g c.requires p n; few = connections_few g c.requires p n }
+    let g = c.args.graph.now in
+    let p = c.connections.ensures in
+    record { each_fits = connections_fit g c.requires p; few = connections_few g c.requires p }
 
 pub returns : goal.returns
 returns c =
-    let g = c.args.graph in
-    let bundles = ap length (bundles_bytes g c.requires c.bundle_places-bundles.ensures c.bundle_count.ensures c.args.version) in
-    let connections = ap length (connections_bytes g c.requires c.connection_places-connections.ensures c.connection_count.ensures c.args.version) in
+    let g = c.args.graph.now in
+    let bundles = ap length (bundles_bytes g c.requires c.bundles.ensures c.args.version) in
+    let connections = ap length (connections_bytes g c.requires c.connections.ensures c.args.version) in
     let regions = ap length (set_members g c.requires c.region_set.ensures) in (
       omega (
         arith,

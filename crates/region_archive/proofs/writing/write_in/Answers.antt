@@ -13,13 +13,13 @@ use Rattle.region_archive.proofs.writing.write_in.Goals as goal
 
 pub returns-then-buffer-size : goal.returns-then-buffer-size
 returns-then-buffer-size c =
-    let m = meaning c.args.graph in
+    let m = meaning c.args.graph.now in
     let v = c.args.version in
     no_image (image_in v m) c.args.buffer.now (omega (arith, image_size v m, c.body_size-size.ensures.0))
 
 pub regions-requires : goal.regions-requires
 regions-requires c =
-    let g = c.args.graph in
+    let g = c.args.graph.now in
     omega (
       arith,
       body_parts c.args.version (meaning g) c.requires.0.good,
@@ -31,13 +31,12 @@ regions-requires c =
 
 pub records-requires : goal.records-requires
 records-requires c =
-    let g = c.args.graph in
+    let g = c.args.graph.now in
     let v = c.requires.0 in
-    let p = c.bundle_places-bundles.ensures in
-    let n = c.bundle_count.ensures in
+    let p = c.bundles.ensures in
     record {
-      each_fits = bundles_fit g v p n;
-      few = bundles_few g v p n;
+      each_fits = bundles_fit g v p;
+      few = bundles_few g v p;
       records_in_bounds =
           omega (
             arith,
@@ -47,19 +46,18 @@ records-requires c =
             wrote_length c.number-2.ensures.written,
             wrote_length c.regions.ensures.written,
             ap (λ l. length (counted (big 1) l)) (set_members g v c.region_set.ensures),
-            ap length (bundles_bytes g v p n c.args.version),
+            ap length (bundles_bytes g v p c.args.version),
           );
     }
 
 pub records-requires-2 : goal.records-requires-2
 records-requires-2 c =
-    let g = c.args.graph in
+    let g = c.args.graph.now in
     let v = c.requires.0 in
-    let p = c.connection_places-connections.ensures in
-    let n = c.connection_count.ensures in
+    let p = c.connections.ensures in
     record {
-      each_fits = connections_fit g v p n;
-      few = connections_few g v p n;
+      each_fits = connections_fit g v p;
+      few = connections_few g v p;
       records_in_bounds =
           omega (
             arith,
@@ -70,20 +68,20 @@ records-requires-2 c =
             wrote_length c.regions.ensures.written,
             wrote_length c.records.ensures.written,
             ap (λ l. length (counted (big 1) l)) (set_members g v c.region_set.ensures),
-            ap length (bundles_bytes g v c.bundle_places-bundles.ensures c.bundle_count.ensures c.args.version),
-            ap length (connections_bytes g v p n c.args.version),
+            ap length (bundles_bytes g v c.bundles.ensures c.args.version),
+            ap length (connections_bytes g v p c.args.version),
           );
     }
 
 pub returns : goal.returns
 returns c =
-    let g = c.args.graph in
+    let g = c.args.graph.now in
     let v = c.requires.0 in
     let m = meaning g in
     let w = c.args.version in
     let regions = wrote_is (ap (counted (big 1)) (set_members g v c.region_set.ensures)) c.regions.ensures.written in
-    let bundles = wrote_is (bundles_bytes g v c.bundle_places-bundles.ensures c.bundle_count.ensures w) c.records.ensures.written in
-    let connections = wrote_is (connections_bytes g v c.connection_places-connections.ensures c.connection_count.ensures w) c.records-2.ensures.written in
+    let bundles = wrote_is (bundles_bytes g v c.bundles.ensures w) c.records.ensures.written in
+    let connections = wrote_is (connections_bytes g v c.connections.ensures w) c.records-2.ensures.written in
     let name =
     c.records-2.ensures.same_buffer ∙ c.records.ensures.same_buffer ∙ c.regions.ensures.same_buffer ∙ c.number-2.ensures.same_buffer
     ∙ c.number.ensures.same_buffer in

@@ -19,13 +19,13 @@ version_is m l e v = v ∙ ap (λ (x : ℕ). older_version (members x)) e ∙ ap
 
 pub returns : goal.returns
 returns c =
-    let m = meaning c.args.graph in
+    let m = meaning c.args.graph.now in
     let v = version_is m c.requires.good c.region_set.ensures c.older_version-version.ensures in
     c.write_in.ensures ∙ ap (λ (x : ℕ). placed_outcome (image_in x m) c.args.buffer.now) v
     ∙ older_placed m c.args.buffer.now (sym c.unversioned.ensures ∙ c.if-not-unversioned.false)
 
 pub write_in-requires : goal.write_in-requires
 write_in-requires c =
-    let m = meaning c.args.graph in
+    let m = meaning c.args.graph.now in
     let v = version_is m c.requires.good c.region_set.ensures c.older_version-version.ensures in
     (c.requires, omega (arith, v, (older_between m.regions).1))

@@ -121,9 +121,7 @@ impl<'a> EntryList<'a> {
         ensures { result ≡ exists (entry_passes number version) (entry_list self.entry) }
     {
         for i in 0..self.count() {
-            if self.numbers[i] == number
-                && lies_between(version, self.lowest[i], self.highest[i])
-            {
+            if self.numbers[i] == number && lies_between(version, self.lowest[i], self.highest[i]) {
                 return true;
             }
         }

@@ -14,7 +14,7 @@ returns-then-le c =
     let s = c.args.self in
     let pos = l.auto.i in
     let e : package_before (record { number = get_or s.numbers.now (l.i - 1) 0; version = get_or s.versions.now (l.i - 1) 0 })
-        (record { number = get_or s.numbers.now l.i 0; version = get_or s.versions.now l.i 0 }) ≡ not c.le.result = search rules in
+    (record { number = get_or s.numbers.now l.i 0; version = get_or s.versions.now l.i 0 }) ≡ not c.le.result = search rules in
     steps_stop package_before (package_list s) l.i pos no_package (omega arith) (packages_step s.numbers.now s.versions.now l.i pos (omega arith) ∙ e ∙ rw c.if-le.true) l.invariant.2
 
 pub loop-i-preserved : goal.loop-i-preserved
@@ -23,7 +23,7 @@ loop-i-preserved c =
     let s = c.args.self in
     let pos = l.auto.i in
     let e : package_before (record { number = get_or s.numbers.now (l.i - 1) 0; version = get_or s.versions.now (l.i - 1) 0 })
-        (record { number = get_or s.numbers.now l.i 0; version = get_or s.versions.now l.i 0 }) ≡ not c.le.result = search rules in (
+    (record { number = get_or s.numbers.now l.i 0; version = get_or s.versions.now l.i 0 }) ≡ not c.le.result = search rules in (
       l.invariant.0,
       l.invariant.1,
       steps_later package_before (package_list s) l.i pos no_package (omega arith) (packages_step s.numbers.now s.versions.now l.i pos (omega arith) ∙ e ∙ rw c.if-le.false) l.invariant.2,

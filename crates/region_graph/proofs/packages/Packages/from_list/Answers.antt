@@ -1,30 +1,28 @@
-use Rattle.std.proofs.Common.{rules, ◌≡◌, true, ◌&&◌, leb, ltb, ◌≤◌, length, ℕ, ◌+◌, ◌-◌, ◌*◌, ◌<◌, ◌/◌, ◌%◌, Bool, false, nat_eq, List, [], ◌∷◌, ◌++◌, slice_index_or, slice_set, bit_and, bit_or, Fits, w8, w32, w64, Bor, MutBor}
-use Rattle.region_graph.specs.Size.{most_listed, most_provided}
-use Rattle.region_graph.specs.Lists.{ascends, exists, every, member}
-use Rattle.region_graph.specs.Model.{Part, packages, entries, package_before, entry_before, ordered}
-use Rattle.region_graph.specs.Items.{is_package, entry_passes}
-use Rattle.region_graph.specs.Record.{store_packages, store_entries, store_package_part, packages_of, entries_of, package_part_in, store_part, part_in}
-use Rattle.region_graph.specs.Calls.{part_within, of_listed}
-use Rattle.region_graph.specs.Places.{PackagesStored, EntriesStored, PackagePartStored, PartStored}
-use Rattle.region_graph.specs.Handed.{package_list, entry_list, entry_part, number_part}
+use native.Mathlib.Omega.{arith}
+use Rattle.region_graph.specs.Size.{most_provided}
+use Rattle.region_graph.proofs.Columns.{packages_taken, packages_put, alike, copied_in}
 use Rattle.region_graph.proofs.packages.Packages.from_list.Goals as goal
 
--- src/packages.rt:246:42
 pub slice_bounds-copy_from_slice-end-2 : goal.slice_bounds-copy_from_slice-end-2
-slice_bounds-copy_from_slice-end-2 c = ?
+slice_bounds-copy_from_slice-end-2 c = let a = c.args.list in (packages_taken a.numbers.now a.versions.now c.count-count.ensures).0
 
--- src/packages.rt:246:9
 pub copy_from_slice-requires : goal.copy_from_slice-requires
-copy_from_slice-requires c = ?
+copy_from_slice-requires c =
+    let a = c.args.list in
+    alike most_provided c.count-count.result a.numbers.now (packages_taken a.numbers.now a.versions.now c.count-count.ensures).0 (omega (arith, c.count-count.ensures, c.requires))
 
--- src/packages.rt:248:43
 pub slice_bounds-copy_from_slice-end-4 : goal.slice_bounds-copy_from_slice-end-4
-slice_bounds-copy_from_slice-end-4 c = ?
+slice_bounds-copy_from_slice-end-4 c = let a = c.args.list in (packages_taken a.numbers.now a.versions.now c.count-count.ensures).1
 
--- src/packages.rt:248:9
 pub copy_from_slice-requires-2 : goal.copy_from_slice-requires-2
-copy_from_slice-requires-2 c = ?
+copy_from_slice-requires-2 c =
+    let a = c.args.list in
+    alike most_provided c.count-count.result a.versions.now (packages_taken a.numbers.now a.versions.now c.count-count.ensures).1 (omega (arith, c.count-count.ensures, c.requires))
 
--- src/packages.rt:240:5
 pub returns : goal.returns
-returns c = ?
+returns c =
+    let a = c.args.list in
+    let t = packages_taken a.numbers.now a.versions.now c.count-count.ensures in
+    packages_put a.numbers.now a.versions.now c.count-count.ensures c.requires
+    (copied_in most_provided c.count-count.result a.numbers.now t.0 c.copy_from_slice.ensures.after)
+    (copied_in most_provided c.count-count.result a.versions.now t.1 c.copy_from_slice-2.ensures.after)

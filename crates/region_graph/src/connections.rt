@@ -1,14 +1,14 @@
 // The places of the connections, in ascending order of their two ends, and their filters.
 ghost use Rattle.std.specs.Prelude.{◌≡◌, true, not, [], map, ◌<◌, ltb, length};
 ghost use Rattle.region_graph.specs.Size.{most_connections};
-ghost use Rattle.region_graph.specs.Lists.{All, ascends, every, keep, position, insert_by};
+ghost use Rattle.region_graph.specs.Lists.{All, ascends, every, keep, member, position, insert_by};
 ghost use Rattle.region_graph.specs.Model.{Part, entries, entry_before, ordered, connection_before};
 ghost use Rattle.region_graph.specs.Calls.{part_within, of_listed, filter_within, filter_ascends, filter_ordered, joins, touches, names};
-ghost use Rattle.region_graph.specs.Record.{store_part, store_package_part, store_connection, store_connections};
+ghost use Rattle.region_graph.specs.Record.{store_part, part_in, store_package_part, store_connection, store_connections};
 ghost use Rattle.region_graph.specs.Record.{connection_in, no_connection, connections_of};
-ghost use Rattle.region_graph.specs.Places.{ConnectionStored, ConnectionsStored, connection_meets};
+ghost use Rattle.region_graph.specs.Places.{PartStored, ConnectionStored, ConnectionsStored, connection_meets};
 ghost use Rattle.region_graph.specs.Promise.{new_part, new_filter};
-ghost use Rattle.region_graph.specs.Handed.{filter_lists, handed_connection};
+ghost use Rattle.region_graph.specs.Handed.{number_part, filter_lists, handed_connection};
 
 use crate::numbers::{Numbers, ascending, copied, has_number};
 use crate::packages::{
@@ -44,6 +44,69 @@ pub enum ConnectionTest {
     Touching(u32),
     Naming(u32, u32),
     After(u32, u32),
+}
+
+impl<'a> PartList<&'a [u32]> {
+    pub fn within(self) -> bool
+        ensures { result ≡ part_within (number_part self.entry) }
+    {
+        match self {
+            PartList::Everything => true,
+            PartList::Listed(list) => list.len() <= MOST_LISTED,
+        }
+    }
+
+    pub fn ascends(self) -> bool
+        ensures { result ≡ of_listed (ascends ltb) (number_part self.entry) }
+    {
+        match self {
+            PartList::Everything => true,
+            PartList::Listed(list) => ascending(list),
+        }
+    }
+
+    // Whether it passes a number.
+    pub fn passes(self, number: u32) -> bool
+        ensures { result ≡ of_listed (member number) (number_part self.entry) }
+    {
+        match self {
+            PartList::Everything => true,
+            PartList::Listed(list) => has_number(list, number),
+        }
+    }
+}
+
+impl Numbers {
+    // A part that is everything.
+    pub fn everything() -> Numbers
+        ensures { result ≡ store_part Part.everything }
+    {
+        Numbers {
+            count: EVERYTHING,
+            items: [0u32; MOST_LISTED],
+        }
+    }
+
+    pub fn from_part(part: PartList<&[u32]>) -> Numbers
+        requires { part_within (number_part part) ≡ true }
+        ensures { result ≡ store_part (number_part part.entry) }
+    {
+        match part {
+            PartList::Everything => Numbers::everything(),
+            PartList::Listed(list) => Numbers::from_slice(list),
+        }
+    }
+
+    pub fn as_part(&self) -> PartList<&[u32]>
+        requires { PartStored self.now }
+        ensures { number_part result ≡ part_in self.now }
+    {
+        if self.count == EVERYTHING {
+            PartList::Everything
+        } else {
+            PartList::Listed(self.as_slice())
+        }
+    }
 }
 
 // The parts of a filter that is handed in.
@@ -205,10 +268,7 @@ pub fn filter_ascending(
 pub fn everything() -> Numbers
     ensures { result ≡ store_part Part.everything }
 {
-    Numbers {
-        count: EVERYTHING,
-        items: [0u32; MOST_LISTED],
-    }
+    Numbers::everything()
 }
 
 pub fn part_copied(all: bool, list: &[u32]) -> Numbers

@@ -1,16 +1,16 @@
 // Packages and entries of package parts, in columns: the parts of one stand at equal places of lists, and the shortest list counts.
-ghost use Rattle.std.specs.Prelude.{◌≡◌, true, ◌&&◌, leb, ltb, ◌≤◌, length};
+ghost use Rattle.std.specs.Prelude.{◌≡◌, true, ◌&&◌, leb, ◌≤◌, length};
 ghost use Rattle.region_graph.specs.Size.{most_listed, most_provided};
-ghost use Rattle.region_graph.specs.Lists.{ascends, exists, every, member};
+ghost use Rattle.region_graph.specs.Lists.{ascends, exists, every};
 ghost use Rattle.region_graph.specs.Model.{Part, packages, entries, package_before, entry_before, ordered};
 ghost use Rattle.region_graph.specs.Items.{is_package, entry_passes};
 ghost use Rattle.region_graph.specs.Record.{store_packages, store_entries, store_package_part};
 ghost use Rattle.region_graph.specs.Calls.{part_within, of_listed};
-ghost use Rattle.region_graph.specs.Record.{packages_of, entries_of, package_part_in, store_part, part_in};
-ghost use Rattle.region_graph.specs.Places.{PackagesStored, EntriesStored, PackagePartStored, PartStored};
-ghost use Rattle.region_graph.specs.Handed.{package_list, entry_list, entry_part, number_part};
+ghost use Rattle.region_graph.specs.Record.{packages_of, entries_of, package_part_in};
+ghost use Rattle.region_graph.specs.Places.{PackagesStored, EntriesStored, PackagePartStored};
+ghost use Rattle.region_graph.specs.Handed.{package_list, entry_list, entry_part};
 
-use crate::numbers::{Numbers, ascending, has_number};
+use crate::numbers::ascending;
 use crate::size::{EVERYTHING, MOST_LISTED, MOST_PROVIDED};
 
 // What a bundle exports.
@@ -166,69 +166,6 @@ impl<'a> PartList<EntryList<'a>> {
         match self {
             PartList::Everything => true,
             PartList::Listed(list) => list.passes(number, version),
-        }
-    }
-}
-
-impl<'a> PartList<&'a [u32]> {
-    pub fn within(self) -> bool
-        ensures { result ≡ part_within (number_part self.entry) }
-    {
-        match self {
-            PartList::Everything => true,
-            PartList::Listed(list) => list.len() <= MOST_LISTED,
-        }
-    }
-
-    pub fn ascends(self) -> bool
-        ensures { result ≡ of_listed (ascends ltb) (number_part self.entry) }
-    {
-        match self {
-            PartList::Everything => true,
-            PartList::Listed(list) => ascending(list),
-        }
-    }
-
-    // Whether it passes a number.
-    pub fn passes(self, number: u32) -> bool
-        ensures { result ≡ of_listed (member number) (number_part self.entry) }
-    {
-        match self {
-            PartList::Everything => true,
-            PartList::Listed(list) => has_number(list, number),
-        }
-    }
-}
-
-impl Numbers {
-    // A part that is everything.
-    pub fn everything() -> Numbers
-        ensures { result ≡ store_part Part.everything }
-    {
-        Numbers {
-            count: EVERYTHING,
-            items: [0u32; MOST_LISTED],
-        }
-    }
-
-    pub fn from_part(part: PartList<&[u32]>) -> Numbers
-        requires { part_within (number_part part) ≡ true }
-        ensures { result ≡ store_part (number_part part.entry) }
-    {
-        match part {
-            PartList::Everything => Numbers::everything(),
-            PartList::Listed(list) => Numbers::from_slice(list),
-        }
-    }
-
-    pub fn as_part(&self) -> PartList<&[u32]>
-        requires { PartStored self.now }
-        ensures { number_part result ≡ part_in self.now }
-    {
-        if self.count == EVERYTHING {
-            PartList::Everything
-        } else {
-            PartList::Listed(self.as_slice())
         }
     }
 }

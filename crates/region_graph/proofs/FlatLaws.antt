@@ -2,127 +2,78 @@
 use mathlib.Core.Path.{◌≡◌, refl, sym, ap, ap₂, ◌∙◌, subst}
 use mathlib.Core.Bool.{Bool, true, false, not, ◌&&◌, and-true}
 use mathlib.Core.List.{List, [], ◌∷◌, map}
-use Prim.Native.Nat.{ℕ, ◌+◌, ◌-◌, ◌*◌, ◌%◌, ◌^◌, ◌≤◌, ◌<◌}
-use native.Mathlib.Nat.{mod-eq_of_lt}
+use Prim.Native.Nat.{ℕ, ◌+◌, ◌*◌, ◌^◌, ◌≤◌, ◌<◌}
 use native.Mathlib.Omega.{arith}
-use lib.Dec.{eqb, leb, ltb}
-use lib.ListN.{length, get_or, take, drop, set, replicate, length-drop, length-map}
-use lib.Seq.{length-take-le, take_at}
-use borrow.Author.Tests.{eqb-true, eq-eqb, ltb-true, ltb-false, lt-ltb, le-ltb}
+use Rattle.std.specs.Prelude.{Option, Some, None, Result, Ok, Err}
+use Rattle.std.specs.Result.{OkIff, result_ok}
+use lib.Dec.{eqb, ltb}
+use Rattle.std.specs.Bool.{then_some}
+use Rattle.std.proofs.lemmas.Option.{none-some, same_Some}
+use lib.ListN.{length, get_or, take, drop, set, replicate, length-map}
+use lib.Seq.{take_at}
+use borrow.Author.Tests.{eqb-true, eq-eqb, lt-ltb, le-ltb}
 use Rattle.region_graph.specs.Size.{regions, most_provided, most_listed}
 use Rattle.region_graph.specs.Lists.{All, every, ascends, member, count_from}
 use Rattle.region_graph.specs.Sets.{has, members}
 use Rattle.region_graph.specs.Model.{Bundle, Part, Connection, packages, entries, package_before, entry_before, ordered}
 use Rattle.region_graph.specs.Model.{Word, LegalEntry, Sorted, Numbered, SortedPart, LegalBundle, LegalConnection}
 use Rattle.region_graph.specs.Record.{Numbers, Provided, store_numbers, store_provided, store_part, store_bundle, store_connection}
-use Rattle.region_graph.specs.Record.{store_packages, store_entries}
-use Rattle.region_graph.specs.Flat.{entry_code, map_part, FlatPart}
-use Rattle.region_graph.specs.Decoded.{Decoded, is_word, WordRead, head_from, tail_from, HeadsPut, RangesPut, FlatList, FlatBundle, FlatConnection}
-use Rattle.region_graph.specs.Decoded.{WithCount, with_count, put_list, put_part, ListDecoded}
-use Rattle.region_graph.specs.Decoded.{PackagesDecoded, EntriesDecoded, PackagePartDecoded}
+use Rattle.region_graph.specs.Flat.{entry_code, map_part, FlatPart, bundle_width, connection_width}
+use Rattle.region_graph.specs.Decoded.{Decoded, Put, is_word, head_from, tail_from, HeadsPut, FlatList, CodesRead, FlatBundle, FlatConnection}
+use Rattle.region_graph.specs.Decoded.{part_count, put_part, ListPut, PartPut, PackagesDecoded, EntriesDecoded, PackagePartDecoded}
+use Rattle.region_graph.specs.Decoded.{KindLaws, bundle_kind, connection_kind}
 use Rattle.region_graph.specs.Places.{put_into}
 use Rattle.region_graph.specs.declared.packages.Packages.{Packages}
 use Rattle.region_graph.specs.declared.packages.Entries.{Entries}
-use Rattle.region_graph.proofs.Lists.{false_true, and_yes, and_fst, and_snd, all_kept, every_also, every_done, every_map, member_all}
+use Rattle.region_graph.specs.declared.bundles.StoredBundle.{StoredBundle}
+use Rattle.region_graph.specs.declared.connections.StoredConnection.{StoredConnection}
+use Rattle.region_graph.proofs.Ascending.{connection_order}
+use Rattle.region_graph.proofs.Lists.{false_true, and_yes, and_fst, and_snd, all_kept, every_also, every_done, member_all}
 use Rattle.region_graph.proofs.Arrays.{Making, making_none, making_next, making_end}
 use Rattle.region_graph.proofs.Storing.{all_counted, has_member, map_id, filled_put, filled_numbers, filled_provided}
 use Rattle.region_graph.proofs.Codes.{Coding, words, codes_again, codes_back, codes_good, codes_words, codes_tested}
-use Rattle.region_graph.proofs.Codes.{number_coded, package_coded, package_out, entry_coded, entry_out}
+use Rattle.region_graph.proofs.Codes.{number_coded, package_coded, package_out, entry_coded}
 use Rattle.region_graph.proofs.Codes.{packages_columns, packages_there, entries_columns, entries_there}
-
--- a number of 32 bits
-
-module _ (n : ℕ) where
-  pub word_read : n < 2 ^ 32 → WordRead n true n
-  word_read l = record { fits = sym (lt-ltb n (2 ^ 32) l); same = λ e. refl }
-
-  pub word_long : {w : ℕ} → 2 ^ 32 ≤ n → WordRead n false w
-  word_long l = record { fits = sym (le-ltb n (2 ^ 32) l); same = λ e. false_true e }
 
 -- the heads of codes, put into places up to i
 
 abbrev word_head : ℕ → ℕ → Bool
 word_head unit c = is_word (head_from unit c)
 
-abbrev low_head : ℕ → ℕ → ℕ
-low_head unit c = head_from unit c % 2 ^ 32
+pub record HeadsTo (unit : ℕ) (codes old new : List ℕ) (i : ℕ) : Type 0 where
+  pub making : Making (head_from unit) codes old new i
+  pub fit : every (word_head unit) codes ≡ every (word_head unit) (drop i codes)
 
-pub record HeadsTo (unit : ℕ) (list old new : List ℕ) (ok : Bool) (i : ℕ) : Type 0 where
-  pub making : Making (low_head unit) list old new i
-  pub fit : every (word_head unit) list ≡ (ok && every (word_head unit) (drop i list))
+module _ (unit : ℕ) (codes : List ℕ) {old : List ℕ} where
+  pub heads_none : length codes ≤ length old → HeadsTo unit codes old old 0
+  heads_none l = record { making = making_none l; fit = refl }
 
-module _ (unit : ℕ) where
-  -- heads of 32 bits are their low bits
-  low_heads : (list : List ℕ) → every (word_head unit) list ≡ true → map (low_head unit) list ≡ map (head_from unit) list
-  low_heads [] e = refl
-  low_heads (c ∷ cs) e =
-      let l = ltb-true (head_from unit c) (2 ^ 32) (and_fst (word_head unit c) (every (word_head unit) cs) e) in
-      λ i. mod-eq_of_lt l i ∷ low_heads cs (and_snd (word_head unit c) (every (word_head unit) cs) e) i
+  module _ {new : List ℕ} {i : ℕ} (s : HeadsTo unit codes old new i) where
+    pub heads_next : i < length codes → (let h = head_from unit (get_or codes i 0) in
+        h < 2 ^ 32 → HeadsTo unit codes old (set new i h) (i + 1))
+    heads_next l w = record {
+      making = making_next s.making 0 l refl;
+      fit = every_also (word_head unit) codes i 0 l true s.fit ∙ rw (lt-ltb (head_from unit (get_or codes i 0)) (2 ^ 32) w);
+    }
 
-  module _ (list : List ℕ) {old : List ℕ} where
-    pub heads_none : length list ≤ length old → HeadsTo unit list old old true 0
-    heads_none l = record { making = making_none l; fit = refl }
+    pub heads_stop : i < length codes → 2 ^ 32 ≤ head_from unit (get_or codes i 0) → HeadsPut unit codes old None new
+    heads_stop l w = record {
+      fit = rw (every_also (word_head unit) codes i 0 l true s.fit, le-ltb (head_from unit (get_or codes i 0)) (2 ^ 32) w);
+      those = λ e. absurd (none-some tt e);
+    }
 
-    module _ {new : List ℕ} {ok : Bool} {i : ℕ} (s : HeadsTo unit list old new ok i) where
-      pub heads_next : i < length list
-          → HeadsTo unit list old (set new i (low_head unit (get_or list i 0))) (ok && word_head unit (get_or list i 0)) (i + 1)
-      heads_next l = record { making = making_next s.making 0 l refl; fit = every_also (word_head unit) list i 0 l ok s.fit }
+    pub heads_end : length codes ≤ i → HeadsPut unit codes old (Some tt) new
+    heads_end l = record { fit = rw (sym (every_done (word_head unit) codes i {b = true} s.fit l)); those = λ e. making_end s.making l }
 
-      pub heads_end : length list ≤ i → HeadsPut unit list old ok new
-      heads_end l =
-          let fit = every_done (word_head unit) list i s.fit l in
-          record {
-            fit = fit;
-            long = s.making.putting.long;
-            those = λ e. making_end s.making l ∙ ap (put_into old) (low_heads list (sym fit ∙ e));
-          }
+-- a value that is there, or not, by a test
+module _ {A : Type 0} (x : A) where
+  none_test : (b : Bool) → None ≡ then_some b x → b ≡ false
+  none_test true q = absurd (none-some x q)
+  none_test false q = refl
 
--- the versions of entries, put into places up to i
-
-abbrev in_order : ℕ → Bool
-in_order c = leb (tail_from (2 ^ 16) c) (tail_from 1 c)
-
-pub record RangesTo (list low high : List ℕ) (ok : Bool) (lowest highest : List ℕ) (i : ℕ) : Type 0 where
-  pub lows : Making (tail_from (2 ^ 16)) list low lowest i
-  pub highs : Making (tail_from 1) list high highest i
-  pub order : every in_order list ≡ (ok && every in_order (drop i list))
-
-module _ (list : List ℕ) {low high : List ℕ} where
-  pub ranges_none : length list ≤ length low → length list ≤ length high → RangesTo list low high true low high 0
-  ranges_none l h = record { lows = making_none l; highs = making_none h; order = refl }
-
-  module _ {ok : Bool} {lowest highest : List ℕ} {i : ℕ} (s : RangesTo list low high ok lowest highest i) where
-    pub ranges_next : i < length list
-        → (let c = get_or list i 0 in
-        RangesTo list low high (ok && leb (tail_from (2 ^ 16) c) (c % 65536)) (set lowest i (tail_from (2 ^ 16) c)) (set highest i (c % 65536)) (i + 1))
-    ranges_next l =
-        let c = get_or list i 0 in
-        let e : c % 65536 ≡ tail_from 1 c = omega arith in
-        record {
-          lows = making_next s.lows 0 l refl;
-          highs = making_next s.highs 0 l e;
-          order = rw e (every_also in_order list i 0 l ok s.order);
-        }
-
-    pub ranges_end : length list ≤ i → RangesPut list low high ok lowest highest
-    ranges_end l = record { lowest_are = making_end s.lows l; highest_are = making_end s.highs l; order = every_done in_order list i s.order l }
-
--- a list at a place, and its numbers as a part of the row
-
-abbrev span : List ℕ → ℕ → ℕ → List ℕ
-span row at count = take (at + 1 + count - (at + 1)) (drop (at + 1) row)
-
--- its codes
-abbrev codes_at : List ℕ → ℕ → ℕ → List ℕ
-codes_at row at count = take count (drop (at + 1) row)
-
-codes_long : (row : List ℕ) (at count most : ℕ) → count ≤ most → at + (most + 1) ≤ length row → length (codes_at row at count) ≡ count
-codes_long row at count most l room = length-take-le count (drop (at + 1) row) (rw length-drop (omega arith))
-
-span_take : (row : List ℕ) (at count : ℕ) → span row at count ≡ codes_at row at count
-span_take row at count =
-    let e : at + 1 + count - (at + 1) ≡ count = omega arith in
-    ap (λ (n : ℕ). take n (drop (at + 1) row)) e
+  some_test : (b : Bool) {y : A} → Some y ≡ then_some b x → (b ≡ true) × (y ≡ x)
+  some_test true q = (refl, same_Some _ x q)
+  some_test false q = absurd (none-some _ (sym q))
 
 pub list_same : (row : List ℕ) (at : ℕ) (xs ys : List ℕ) → FlatList row at xs → FlatList row at ys → xs ≡ ys
 list_same row at xs ys h k = sym h.1 ∙ ap (λ (n : ℕ). take n (drop (at + 1) row)) (sym h.0 ∙ k.0) ∙ k.1
@@ -137,165 +88,126 @@ module _ {A : Type 0} (k : Coding A) (row : List ℕ) (at : ℕ) where
   coded_same xs ys g l h i =
       sym (codes_back k xs g) ∙ ap (map k.out) (list_same row at (map k.code xs) (map k.code ys) h i) ∙ codes_back k ys l
 
-  module _ {B : Type 0} (store : List A → B) (most count : ℕ) (e : count ≡ get_or row at 0) {b : B} where
+  module _ (most : ℕ) where
     -- a count past the limit
-    pub coded_long : most < count → Decoded store (Sorted k.before k.Good most) Listed false b
-    coded_long l = Decoded.none (λ xs g h. omega (arith, g.few, h.0, length-map xs k.code)) refl
+    pub coded_long : most < get_or row at 0 → (xs : List A) → Sorted k.before k.Good most xs → Listed xs → ⊥
+    coded_long l xs g h = omega (arith, g.few, h.0, l, length-map xs k.code)
 
-    -- as many codes as the count says
-    pub coded_found : {fit rest : Bool} → count ≤ most → at + (most + 1) ≤ length row → fit ≡ words k (span row at count)
-        → (fit ≡ true → b ≡ store (map k.out (codes_at row at count)))
-        → (fit ≡ true → rest ≡ (let xs = map k.out (codes_at row at count) in ascends k.before xs && every k.test xs))
-        → Decoded store (Sorted k.before k.Good most) Listed (fit && rest) b
-    coded_found {fit} {rest} l room f s t = go fit rest (f ∙ ap (words k) (span_take row at count)) s t
-      where
-        codes : List ℕ
-        codes = codes_at row at count
+    module _ {codes : List ℕ} (r : CodesRead row at most codes) where
+      -- the elements of the codes are in order, and each passes the test
+      abbrev right : List A → Bool
+      right xs = ascends k.before xs && every k.test xs
 
-        Found : Bool → Type 0
-        Found ok = Decoded store (Sorted k.before k.Good most) Listed ok b
+      is_out : (xs : List A) → All k.Good xs → Listed xs → map k.out codes ≡ xs
+      is_out xs g h = ap (map k.out) (list_same row at codes (map k.code xs) r.there h) ∙ codes_back k xs g
 
-        xs : List A
-        xs = map k.out codes
+      -- a head of more than 32 bits
+      module _ {old new : List ℕ} (f : HeadsPut k.unit codes old None new) where
+        pub coded_wide : (xs : List A) → Sorted k.before k.Good most xs → Listed xs → ⊥
+        coded_wide xs g h =
+            false_true (sym (none_test tt _ f.fit) ∙ ap (words k) (list_same row at codes (map k.code xs) r.there h) ∙ codes_words k xs g.each)
 
-        long : length codes ≡ count
-        long = codes_long row at count most l room
+        pub coded_none : {B : Type 0} {store : List A → B} {o : Option B} → o ≡ None → Decoded store (Sorted k.before k.Good most) Listed o
+        coded_none e = Decoded.none coded_wide e
 
-        is : FlatList row at codes
-        is = (sym (long ∙ e), ap (λ (n : ℕ). take n (drop (at + 1) row)) long)
+      -- elements that are not right
+      pub coded_wrong : right (map k.out codes) ≡ false → (xs : List A) → Sorted k.before k.Good most xs → Listed xs → ⊥
+      coded_wrong w xs g h =
+          false_true (sym w ∙ ap right (is_out xs g.each h) ∙ and_yes g.ascend (codes_tested k xs g.each))
 
-        right : List A → Bool
-        right ys = ascends k.before ys && every k.test ys
+      pub coded_listed : Listed (map k.out codes)
+      coded_listed = subst (FlatList row at) (sym (codes_again k codes)) r.there
 
-        go : (fit rest : Bool) → fit ≡ words k codes → (fit ≡ true → b ≡ store xs) → (fit ≡ true → rest ≡ right xs) → Found (fit && rest)
-        go false rest q s t =
-            Decoded.none (λ ys g h. false_true (
-            q ∙ ap (words k) (list_same row at codes (map k.code ys) is h) ∙ codes_words k ys g.each
-            )) refl
-        go true rest q s t = decided rest (t refl)
-          where
-            decided : (rest : Bool) → rest ≡ right xs → Found rest
-            decided true u =
-                Decoded.found xs
-                (record {
-                  few = omega (arith, long, length-map codes k.out);
-                  each = codes_good k codes (sym q) (and_snd (ascends k.before xs) (every k.test xs) (sym u));
-                  ascend = and_fst (ascends k.before xs) (every k.test xs) (sym u);
-                })
-                (subst (FlatList row at) (sym (codes_again k codes)) is) refl (s refl)
-            decided false u =
-                Decoded.none (λ ys g h. false_true (
-                u ∙ ap right (ap (map k.out) (list_same row at codes (map k.code ys) is h) ∙ codes_back k ys g.each)
-                ∙ and_yes g.ascend (codes_tested k ys g.each)
-                )) refl
+      pub coded_sorted : words k codes ≡ true → right (map k.out codes) ≡ true → Sorted k.before k.Good most (map k.out codes)
+      coded_sorted w t =
+          let xs = map k.out codes in
+          record {
+            few = omega (arith, r.few, length-map codes k.out);
+            each = codes_good k codes w (and_snd (ascends k.before xs) (every k.test xs) t);
+            ascend = and_fst (ascends k.before xs) (every k.test xs) t;
+          }
+
+      -- the last test decides
+      pub coded_found : {B : Type 0} {store : List A → B} {b : B} {t : Bool} → words k codes ≡ true → t ≡ right (map k.out codes)
+          → b ≡ store (map k.out codes) → Decoded store (Sorted k.before k.Good most) Listed (then_some t b)
+      coded_found {t = true} w e s = Decoded.found (map k.out codes) (coded_sorted w (sym e)) coded_listed (ap Some s)
+      coded_found {t = false} w e s = Decoded.none (coded_wrong (sym e)) refl
 
 -- a test that every element passes adds nothing
 untested : {A : Type 0} (b : Bool) (xs : List A) → b ≡ (b && every (λ x. true) xs)
 untested b [] = sym (and-true b)
 untested b (x ∷ xs) = untested b xs
 
--- what was put of the codes
-put_codes : (row : List ℕ) (at count : ℕ) (f : ℕ → ℕ) (old : List ℕ)
-    → put_into old (map f (span row at count)) ≡ put_into old (map f (codes_at row at count))
-put_codes row at count f old = ap (λ (cs : List ℕ). put_into old (map f cs)) (span_take row at count)
-
-module _ (row : List ℕ) (at count : ℕ) (e : count ≡ get_or row at 0) where
+module _ (row : List ℕ) (at : ℕ) where
   -- numbers
-  module _ (old : List ℕ) where
-    plain : {ok : Bool} {p : WithCount} → Decoded (put_list old) (Numbered (length old)) (λ ns. FlatList row at (map (λ n. n) ns)) ok p
-        → ListDecoded old row at ok p
-    plain {ok} {p} d =
-        subst (λ (f : List ℕ → List ℕ). Decoded (put_list old) (Numbered (length old)) (λ ns. FlatList row at (f ns)) ok p) (λ i ns. map_id ns i) d
+  module _ (old : List ℕ) {codes new : List ℕ} (r : CodesRead row at (length old) codes) where
+    pub list_wide : {o : Option ℕ} → HeadsPut 1 codes old None new → o ≡ None → ListPut old row at o new
+    list_wide f e =
+        Put.none (λ ns g h. coded_wide number_coded row at (length old) r f ns g (subst (FlatList row at) (sym (map_id ns)) h)) e
 
-    pub list_long : {p : WithCount} → length old < count → ListDecoded old row at false p
-    list_long l = plain (coded_long number_coded row at (put_list old) (length old) count e l)
-
-    pub list_found : {fit ascend : Bool} {new : List ℕ} → count ≤ length old → at + (length old + 1) ≤ length row
-        → HeadsPut 1 (span row at count) old fit new → ascend ≡ ascends ltb (take count new) → ListDecoded old row at (fit && ascend) (with_count count new)
-    list_found {fit} {ascend} {new} l room f a =
-        plain (coded_found number_coded row at (put_list old) (length old) count e l room f.fit (λ t i. with_count (sym long i) (put t i))
-        (λ t. a ∙ ap (ascends ltb) (first t) ∙ untested (ascends ltb ns) ns))
+    pub list_found : {t : Bool} → HeadsPut 1 codes old (Some tt) new → t ≡ ascends ltb (take (length codes) new)
+        → ListPut old row at (then_some t (length codes)) new
+    list_found {t} f a = go t (a ∙ ap (ascends ltb) first)
       where
-        ns : List ℕ
-        ns = map (head_from 1) (codes_at row at count)
+        same : map (head_from 1) codes ≡ codes
+        same = sym (map_id (map (head_from 1) codes)) ∙ codes_again number_coded codes
 
-        long : length ns ≡ count
-        long = rw length-map (codes_long row at count (length old) l room)
+        put : new ≡ put_into old codes
+        put = f.those refl ∙ ap (put_into old) same
 
-        put : fit ≡ true → new ≡ put_into old ns
-        put t = f.those t ∙ put_codes row at count (head_from 1) old
+        first : take (length codes) new ≡ codes
+        first = ap (take (length codes)) put ∙ take_at codes (drop (length codes) old) (length codes) refl
 
-        first : fit ≡ true → take count new ≡ ns
-        first t = ap (take count) (put t) ∙ take_at ns (drop (length ns) old) count long
+        fits : All Word codes
+        fits = subst (All Word) same (codes_good number_coded codes (some_test tt _ f.fit).0 (sym (untested true (map (head_from 1) codes))))
+
+        go : (t : Bool) → t ≡ ascends ltb codes → ListPut old row at (then_some t (length codes)) new
+        go true q = Put.found codes (record { few = r.few; each = fits; ascend = sym q }) r.there refl put
+        go false q = Put.none (λ ns g h. false_true (q ∙ ap (ascends ltb) (list_same row at codes ns r.there h) ∙ g.ascend)) refl
 
   -- packages
-  pub packages_long : {p : Packages} → most_provided < count → PackagesDecoded row at false p
-  packages_long l = coded_long package_coded row at store_packages most_provided count e l
-
-  pub packages_found : {fit ascend : Bool} {numbers versions : List ℕ} → count ≤ most_provided → at + (most_provided + 1) ≤ length row
-      → HeadsPut (2 ^ 16) (span row at count) (replicate most_provided 0) fit numbers
-      → versions ≡ put_into (replicate most_provided 0) (map (tail_from 1) (span row at count))
-      → ascend ≡ ascends package_before (packages (take count numbers) (take count versions))
-      → PackagesDecoded row at (fit && ascend) (record { count = count; numbers = numbers; versions = versions })
-  packages_found {fit} {ascend} {numbers} {versions} l room f g a =
-      coded_found package_coded row at store_packages most_provided count e l room f.fit
-      (λ t. packages_columns (codes_at row at count) (codes_long row at count most_provided l room) l (n t) v)
-      (λ t. a ∙ ap (ascends package_before) (there t) ∙ untested _ (map package_out (codes_at row at count)))
-    where
-      n : fit ≡ true → numbers ≡ put_into (replicate most_provided 0) (map (head_from (2 ^ 16)) (codes_at row at count))
-      n t = f.those t ∙ put_codes row at count (head_from (2 ^ 16)) _
-
-      v : versions ≡ put_into (replicate most_provided 0) (map (tail_from 1) (codes_at row at count))
-      v = g ∙ put_codes row at count (tail_from 1) _
-
-      there : fit ≡ true → packages (take count numbers) (take count versions) ≡ map package_out (codes_at row at count)
-      there t = packages_there (codes_at row at count) (codes_long row at count most_provided l room) l (n t) v
+  module _ {codes numbers : List ℕ} (r : CodesRead row at most_provided codes) where
+    pub packages_found : {versions : List ℕ} {t : Bool} → HeadsPut (2 ^ 16) codes (replicate most_provided 0) (Some tt) numbers
+        → versions ≡ put_into (replicate most_provided 0) (map (tail_from 1) codes)
+        → t ≡ ascends package_before (packages (take (length codes) numbers) (take (length codes) versions))
+        → PackagesDecoded row at (then_some t (record { count = length codes; numbers = numbers; versions = versions }))
+    packages_found f v a =
+        coded_found package_coded row at most_provided r (some_test tt _ f.fit).0
+        (a ∙ ap (ascends package_before) (packages_there codes refl r.few (f.those refl) v) ∙ untested _ (map package_out codes))
+        (packages_columns codes refl r.few (f.those refl) v)
 
   -- entries
-  pub entries_long : {p : Entries} → most_listed < count → EntriesDecoded row at false p
-  entries_long l = coded_long entry_coded row at store_entries most_listed count e l
-
-  pub entries_found : {fit ascend order : Bool} {numbers lowest highest : List ℕ} → count ≤ most_listed → at + (most_listed + 1) ≤ length row
-      → HeadsPut (2 ^ 32) (span row at count) (replicate most_listed 0) fit numbers
-      → RangesPut (span row at count) (replicate most_listed 0) (replicate most_listed 0) order lowest highest
-      → ascend ≡ ascends entry_before (entries (take count numbers) (take count lowest) (take count highest))
-      → EntriesDecoded row at (fit && (ascend && order)) (record { count = count; numbers = numbers; lowest = lowest; highest = highest })
-  entries_found {fit} {ascend} {order} {numbers} {lowest} {highest} l room f g a =
-      coded_found entry_coded row at store_entries most_listed count e l room f.fit
-      (λ t. entries_columns (codes_at row at count) (codes_long row at count most_listed l room) l (n t) v w)
-      (λ t. ap₂ ◌&&◌ (a ∙ ap (ascends entry_before) (there t)) order_is)
-    where
-      n : fit ≡ true → numbers ≡ put_into (replicate most_listed 0) (map (head_from (2 ^ 32)) (codes_at row at count))
-      n t = f.those t ∙ put_codes row at count (head_from (2 ^ 32)) _
-
-      v : lowest ≡ put_into (replicate most_listed 0) (map (tail_from (2 ^ 16)) (codes_at row at count))
-      v = g.lowest_are ∙ put_codes row at count (tail_from (2 ^ 16)) _
-
-      w : highest ≡ put_into (replicate most_listed 0) (map (tail_from 1) (codes_at row at count))
-      w = g.highest_are ∙ put_codes row at count (tail_from 1) _
-
-      order_is : order ≡ every ordered (map entry_out (codes_at row at count))
-      order_is =
-          g.order ∙ ap (every (λ c. ordered (entry_out c))) (span_take row at count) ∙ sym (every_map entry_out ordered (codes_at row at count))
-
-      there : fit ≡ true → entries (take count numbers) (take count lowest) (take count highest) ≡ map entry_out (codes_at row at count)
-      there t = entries_there (codes_at row at count) (codes_long row at count most_listed l room) l (n t) v w
+  module _ {codes numbers : List ℕ} (r : CodesRead row at most_listed codes) where
+    pub entries_found : {lowest highest : List ℕ} {s t : Bool} → HeadsPut (2 ^ 32) codes (replicate most_listed 0) (Some tt) numbers
+        → lowest ≡ put_into (replicate most_listed 0) (map (tail_from (2 ^ 16)) codes)
+        → highest ≡ put_into (replicate most_listed 0) (map (tail_from 1) codes)
+        → s ≡ ascends entry_before (entries (take (length codes) numbers) (take (length codes) lowest) (take (length codes) highest))
+        → t ≡ every ordered (entries (take (length codes) numbers) (take (length codes) lowest) (take (length codes) highest))
+        → EntriesDecoded row at (then_some (s && t) (record { count = length codes; numbers = numbers; lowest = lowest; highest = highest }))
+    entries_found f v w a b =
+        let there = entries_there codes refl r.few (f.those refl) v w in
+        coded_found entry_coded row at most_listed r (some_test tt _ f.fit).0
+        (ap₂ ◌&&◌ (a ∙ ap (ascends entry_before) there) (b ∙ ap (every ordered) there))
+        (entries_columns codes refl r.few (f.those refl) v w)
 
 -- a part: what is listed, or everything
 
 module _ {A : Type 0} (before : A → A → Bool) (Good : A → Type 0) (Is : Part A → Type 0) where
-  module _ {B : Type 0} {put : Part A → B} {b : B} where
-    pub part_all : Is Part.everything → b ≡ put Part.everything → Decoded put (SortedPart before Good) Is true b
-    part_all h e = Decoded.found Part.everything tt h refl e
+  module _ (n : Is Part.everything → ⊥) where
+    no_part : ((xs : List A) → Sorted before Good most_listed xs → Is (Part.listed xs) → ⊥) → (p : Part A) → SortedPart before Good p → Is p → ⊥
+    no_part f (Part.listed xs) g h = f xs g h
+    no_part f Part.everything g h = n h
 
-    pub part_listed : {ok : Bool} → (Is Part.everything → ⊥)
-        → Decoded (λ xs. put (Part.listed xs)) (Sorted before Good most_listed) (λ xs. Is (Part.listed xs)) ok b → Decoded put (SortedPart before Good) Is ok b
-    part_listed n (Decoded.found xs g h t f) = Decoded.found (Part.listed xs) g h t f
-    part_listed n (Decoded.none f t) = Decoded.none none t
-      where
-        none : (p : Part A) → SortedPart before Good p → Is p → ⊥
-        none (Part.listed xs) g h = f xs g h
-        none Part.everything g h = n h
+    pub part_listed : {B : Type 0} {put : Part A → B} {o : Option B}
+        → Decoded (λ xs. put (Part.listed xs)) (Sorted before Good most_listed) (λ xs. Is (Part.listed xs)) o → Decoded put (SortedPart before Good) Is o
+    part_listed (Decoded.found xs g h e) = Decoded.found (Part.listed xs) g h e
+    part_listed (Decoded.none f e) = Decoded.none (no_part f) e
+
+    pub part_put : {B : Type 0} {count : Part A → ℕ} {put : Part A → List B} {o : Option ℕ} {new : List B}
+        → Put (λ xs. count (Part.listed xs)) (λ xs. put (Part.listed xs)) (Sorted before Good most_listed) (λ xs. Is (Part.listed xs)) o new
+        → Put count put (SortedPart before Good) Is o new
+    part_put (Put.found xs g h e f) = Put.found (Part.listed xs) g h e f
+    part_put (Put.none f e) = Put.none (no_part f) e
 
   pub part_same : ((xs ys : List A) → All Good xs → All Good ys → Is (Part.listed xs) → Is (Part.listed ys) → xs ≡ ys)
       → ((xs : List A) → length xs ≤ most_listed → Is (Part.listed xs) → Is Part.everything → ⊥)
@@ -305,35 +217,60 @@ module _ {A : Type 0} (before : A → A → Bool) (Good : A → Type 0) (Is : Pa
   part_same s n Part.everything (Part.listed ys) g l h k = absurd (n ys l.few k h)
   part_same s n Part.everything Part.everything g l h k = refl
 
+-- what is found, and what is not
+
+-- a good value that has the numbers, and what is made of it
+pub record Found {A B : Type 0} (store : A → B) (Good Is : A → Type 0) (b : B) : Type 0 where
+  pub value : A
+  pub good : Good value
+  pub is : Is value
+  pub stored : b ≡ store value
+
+module _ {A B : Type 0} {store : A → B} {Good Is : A → Type 0} where
+  pub decoded_none : Decoded store Good Is None → (x : A) → Good x → Is x → ⊥
+  decoded_none (Decoded.found x g h e) = absurd (none-some _ e)
+  decoded_none (Decoded.none f e) = f
+
+  pub decoded_some : {b : B} → Decoded store Good Is (Some b) → Found store Good Is b
+  decoded_some (Decoded.found x g h e) = record { value = x; good = g; is = h; stored = same_Some _ _ e }
+  decoded_some (Decoded.none f e) = absurd (none-some _ (sym e))
+
+module _ {A B : Type 0} {count : A → ℕ} {put : A → List B} {Good Is : A → Type 0} {new : List B} where
+  pub put_none : Put count put Good Is None new → (x : A) → Good x → Is x → ⊥
+  put_none (Put.found x g h e f) = absurd (none-some _ e)
+  put_none (Put.none f e) = f
+
+  -- a count and places that are what stores each good value
+  pub put_some : {n : ℕ} {C : Type 0} (made : ℕ → List B → C) (store : A → C) → ((x : A) → Good x → made (count x) (put x) ≡ store x)
+      → Put count put Good Is (Some n) new → Found store Good Is (made n new)
+  put_some made store s (Put.found x g h e f) =
+      record { value = x; good = g; is = h; stored = ap₂ made (same_Some _ _ e) f ∙ s x g }
+  put_some made store s (Put.none f e) = absurd (none-some _ (sym e))
+
 -- what was put into cleared places is what stores it
 
-abbrev as_numbers : WithCount → Numbers
-as_numbers p = record { count = p.count; items = p.items }
+abbrev numbers_made : ℕ → List ℕ → Numbers
+numbers_made count items = record { count = count; items = items }
 
-abbrev as_provided : WithCount → Provided
-as_provided p = record { count = p.count; items = p.items }
+abbrev provided_made : ℕ → List ℕ → Provided
+provided_made count items = record { count = count; items = items }
 
-module _ {A B : Type 0} {store : A → B} {Good Is : A → Type 0} {ok : Bool} {from : A → WithCount} {p : WithCount} where
-  decoded_as : (f : WithCount → B) → ((x : A) → Good x → f (from x) ≡ store x) → Decoded from Good Is ok p → Decoded store Good Is ok (f p)
-  decoded_as f e (Decoded.found x g h t q) = Decoded.found x g h t (ap f q ∙ e x g)
-  decoded_as f e (Decoded.none n t) = Decoded.none n t
+module _ (row : List ℕ) (at : ℕ) {count : ℕ} {items : List ℕ} where
+  provided_found : ListPut (replicate most_provided 0) row at (Some count) items
+      → Found store_provided (Numbered most_provided) (FlatList row at) (provided_made count items)
+  provided_found p = put_some provided_made store_provided (λ ns g. filled_provided (filled_put refl g.few)) p
 
-module _ {Is : List ℕ → Type 0} {ok : Bool} {p : WithCount} where
-  pub provided_decoded : Decoded (put_list (replicate most_provided 0)) (Numbered most_provided) Is ok p
-      → Decoded store_provided (Numbered most_provided) Is ok (as_provided p)
-  provided_decoded d = decoded_as as_provided (λ xs g. filled_provided (filled_put refl g.few)) d
+  numbers_found : ListPut (replicate most_listed 0) row at (Some count) items
+      → Found store_numbers (Numbered most_listed) (FlatList row at) (numbers_made count items)
+  numbers_found p = put_some numbers_made store_numbers (λ ns g. filled_numbers (filled_put refl g.few)) p
 
-  pub numbers_decoded : Decoded (put_list (replicate most_listed 0)) (Numbered most_listed) Is ok p
-      → Decoded store_numbers (Numbered most_listed) Is ok (as_numbers p)
-  numbers_decoded d = decoded_as as_numbers (λ xs g. filled_numbers (filled_put refl g.few)) d
-
-pub part_decoded : {Is : Part ℕ → Type 0} {ok : Bool} {p : WithCount} → Decoded (put_part (replicate most_listed 0)) (SortedPart ltb Word) Is ok p
-    → Decoded store_part (SortedPart ltb Word) Is ok (as_numbers p)
-part_decoded d = decoded_as as_numbers stored d
-  where
-    stored : (q : Part ℕ) → SortedPart ltb Word q → as_numbers (put_part (replicate most_listed 0) q) ≡ store_part q
-    stored (Part.listed xs) g = filled_numbers (filled_put refl g.few)
-    stored Part.everything g = refl
+  part_found : PartPut (replicate most_listed 0) row at (Some count) items
+      → Found store_part (SortedPart ltb Word) (FlatPart row at) (numbers_made count items)
+  part_found p = put_some numbers_made store_part stored p
+    where
+      stored : (q : Part ℕ) → SortedPart ltb Word q → numbers_made (part_count q) (put_part (replicate most_listed 0) q) ≡ store_part q
+      stored (Part.listed xs) g = filled_numbers (filled_put refl g.few)
+      stored Part.everything g = refl
 
 -- the members of a set as a list
 
@@ -345,73 +282,80 @@ members_small x =
 
 -- a row: two numbers, then parts
 
+-- a number of 32 bits
+pub word_is : {E : Type 0} (n : ℕ) {m : ℕ} (r : Result ℕ E) → OkIff r (n < 2 ^ 32) n → Some m ≡ result_ok r → (n < 2 ^ 32) × (n ≡ m)
+word_is n (Ok l) k e = (k.0, sym (same_Some _ _ e ∙ k.1))
+word_is n (Err d) k e = absurd (none-some _ (sym e))
+
 module _ (x : ℕ) where
-  -- the test of a region
-  region_in : {n r : ℕ} → true ≡ has x n → n ≡ r → member r (members x) ≡ true
-  region_in {n} {r} e f = sym (has_member x r) ∙ ap (has x) (sym f) ∙ sym e
-
-  region_out : {A : Type 0} {n r : ℕ} → false ≡ has x n → n ≡ r → member r (members x) ≡ true → A
-  region_out {n = n} {r = r} e f h = false_true (e ∙ ap (has x) f ∙ has_member x r ∙ h)
-
   -- the number of a region
   abbrev Inside : ℕ → Type 0
   Inside r = member r (members x) ≡ true
 
-  pub region_decoded : {n w : ℕ} {ok t : Bool} → WordRead n ok w → t ≡ has x w → Decoded (λ (r : ℕ). r) Inside (λ r. n ≡ r) (ok && t) w
-  region_decoded {n} {ok = true} {t = true} r e = Decoded.found n (region_in e (r.same refl)) refl refl (r.same refl)
-  region_decoded {ok = true} {t = false} r e = Decoded.none (λ k g h. region_out e (r.same refl ∙ h) g) refl
-  region_decoded {n} {ok = false} r e =
-      Decoded.none (λ k g h. omega (arith, ltb-false n (2 ^ 32) (sym r.fits), member_all (λ m. m < regions) k (members x) (members_small x) g)) refl
+  abbrev within : ℕ → Option ℕ
+  within n = then_some (has x n) n
+
+  is_within : (n : ℕ) {r : ℕ} → Some r ≡ within n → Inside r × (n ≡ r)
+  is_within n {r} e = let t = some_test n _ e in (sym (has_member x r) ∙ ap (has x) t.1 ∙ t.0, sym t.1)
+
+  -- a region that is not of the set
+  pub outside : {A B : Type 0} {store : A → B} {Good Is : A → Type 0} (n : ℕ) (region : A → ℕ) → ((y : A) → Good y → Inside (region y))
+      → ((y : A) → Is y → n ≡ region y) → None ≡ within n → {o : Option B} → o ≡ None → Decoded store Good Is o
+  outside n region g h e {o} q =
+      Decoded.none (λ y l i. false_true (sym (none_test n _ e) ∙ ap (has x) (h y i) ∙ has_member x (region y) ∙ g y l)) q
 
   module _ (row : List ℕ) where
-    pub bundle_found : {p : Packages} {s : Provided} {l r : ℕ} {i j a b : Bool} → WordRead (get_or row 0 0) i l
-        → Decoded (λ (n : ℕ). n) Inside (λ n. get_or row 1 0 ≡ n) j r
-        → PackagesDecoded row 2 a p
-        → Decoded store_provided (Numbered most_provided) (FlatList row (2 + (most_provided + 1))) b s
-        → Decoded store_bundle (LegalBundle (members x)) (FlatBundle row) (((i && j) && a) && b)
-        (record { location = l; region = r; packages = p; services = s })
-    bundle_found {i = false} l r p s =
-        Decoded.none (λ y g h. omega (arith, ltb-false (get_or row 0 0) (2 ^ 32) (sym l.fits), h.first, g.location)) refl
-    bundle_found {i = true} l (Decoded.none f u) p s = Decoded.none (λ y g h. f y.region g.region h.second) (rw u)
-    bundle_found {i = true} l (Decoded.found r gr hr u d) (Decoded.none f v) s =
-        Decoded.none (λ y g h. f y.packages g.packages h.parts.0) (rw (u, v))
-    bundle_found {i = true} l (Decoded.found r gr hr u d) (Decoded.found ps gp hp v e) (Decoded.none f w) =
-        Decoded.none (λ y g h. f y.services g.services h.parts.1.0) (rw (u, v, w))
-    bundle_found {i = true} l (Decoded.found r gr hr u d) (Decoded.found ps gp hp v e) (Decoded.found ss gs hs w f) =
-        Decoded.found (record { location = get_or row 0 0; region = r; packages = ps; services = ss })
-        (record { location = ltb-true (get_or row 0 0) (2 ^ 32) (sym l.fits); region = gr; packages = gp; services = gs })
-        (record { first = refl; second = hr; parts = (hp, (hs, tt)) }) (rw (u, v, w))
-        (λ q. record { location = l.same refl q; region = d q; packages = e q; services = f q })
+    pub bundle_found : {l r count : ℕ} {p : Packages} {items : List ℕ} → (get_or row 0 0 < 2 ^ 32) × (get_or row 0 0 ≡ l)
+        → Some r ≡ within (get_or row 1 0) → PackagesDecoded row 2 (Some p)
+        → ListPut (replicate most_provided 0) row (2 + (most_provided + 1)) (Some count) items
+        → Decoded store_bundle (LegalBundle (members x)) (FlatBundle row)
+        (Some (record { location = l; region = r; packages = p; services = record { count = count; items = items } }))
+    bundle_found {l} {r} w e p s =
+        let a = decoded_some p in
+        let b = provided_found row (2 + (most_provided + 1)) s in
+        let t = is_within (get_or row 1 0) e in
+        Decoded.found (record { location = l; region = r; packages = a.value; services = b.value })
+        (record { location = omega (arith, w.0, w.1); region = t.0; packages = a.good; services = b.good })
+        (record { first = w.1; second = t.1; parts = (a.is, (b.is, tt)) })
+        (λ i. Some (record { location = l; region = r; packages = a.stored i; services = b.stored i }))
 
-    pub connection_found : {n s : Numbers} {p : Entries} {y z : ℕ} {a b c t u : Bool}
-        → Decoded store_numbers (Numbered most_listed) (FlatList row 2) a n
-        → PackagePartDecoded row (2 + (most_listed + 1)) b p
-        → Decoded store_part (SortedPart ltb Word) (FlatPart row (2 + 2 * (most_listed + 1))) c s
-        → Decoded (λ (r : ℕ). r) Inside (λ r. get_or row 0 0 ≡ r) t y → Decoded (λ (r : ℕ). r) Inside (λ r. get_or row 1 0 ≡ r) u z
-        → Decoded store_connection (LegalConnection (members x)) (FlatConnection row) (((a && b) && c) && ((t && u) && not (eqb y z)))
-        (record { source = y; target = z; bundles = n; packages = p; services = s })
-    connection_found (Decoded.none f v) p s i j = Decoded.none (λ y g h. f y.filter.bundles g.filter.bundles h.parts.0) (rw v)
-    connection_found (Decoded.found ns gn hn v e) (Decoded.none f w) s i j =
-        Decoded.none (λ y g h. f y.filter.packages g.filter.packages h.parts.1.0) (rw (v, w))
-    connection_found (Decoded.found ns gn hn v e) (Decoded.found ps gp hp w f) (Decoded.none k o) i j =
-        Decoded.none (λ y g h. k y.filter.services g.filter.services h.parts.1.1.0) (rw (v, w, o))
-    connection_found (Decoded.found ns gn hn v e) (Decoded.found ps gp hp w f) (Decoded.found ss gs hs o k) (Decoded.none i m) j =
-        Decoded.none (λ y g h. i y.source g.source h.first) (rw (v, w, o, m))
-    connection_found (Decoded.found ns gn hn v e) (Decoded.found ps gp hp w f) (Decoded.found ss gs hs o k) (Decoded.found a ga ha m i) (Decoded.none j r) =
-        Decoded.none (λ y g h. j y.target g.target h.second) (rw (v, w, o, m, r))
-    connection_found {n} {s} {p} {y} {z} (Decoded.found ns gn hn v e) (Decoded.found ps gp hp w f) (Decoded.found ss gs hs o k) (Decoded.found a ga ha m i)
-        (Decoded.found b gb hb r j) = rw (v, w, o, m, r) (go (eqb y z) refl)
+    pub connection_found : {y z n m : ℕ} {items others : List ℕ} {p : Entries} → Some y ≡ within (get_or row 0 0) → Some z ≡ within (get_or row 1 0)
+        → ListPut (replicate most_listed 0) row 2 (Some n) items → PackagePartDecoded row (2 + (most_listed + 1)) (Some p)
+        → PartPut (replicate most_listed 0) row (2 + 2 * (most_listed + 1)) (Some m) others
+        → Decoded store_connection (LegalConnection (members x)) (FlatConnection row)
+        (then_some (not (eqb y z)) (record {
+          source = y;
+          target = z;
+          bundles = record { count = n; items = items };
+          packages = p;
+          services = record { count = m; items = others };
+        }))
+    connection_found {y} {z} {n} {m} {items} {others} {p} u v b q s = go (eqb y z) refl
       where
-        go : (d : Bool) → eqb y z ≡ d → Decoded store_connection (LegalConnection (members x)) (FlatConnection row) (not d)
-            (record { source = y; target = z; bundles = n; packages = p; services = s })
-        go true l =
+        from : Inside y × (get_or row 0 0 ≡ y)
+        from = is_within (get_or row 0 0) u
+
+        to : Inside z × (get_or row 1 0 ≡ z)
+        to = is_within (get_or row 1 0) v
+
+        go : (t : Bool) → eqb y z ≡ t → Decoded store_connection (LegalConnection (members x)) (FlatConnection row)
+            (then_some (not t) (record { source = y; target = z; bundles = numbers_made n items; packages = p; services = numbers_made m others }))
+        go true e =
             Decoded.none
-            (λ c g h. false_true (sym g.differ ∙ eq-eqb _ _ (sym h.first ∙ ha ∙ sym i ∙ eqb-true y z l ∙ j ∙ sym hb ∙ h.second))) refl
-        go false l =
-            Decoded.found (record { source = a; target = b; filter = record { bundles = ns; packages = ps; services = ss } })
-            (record { source = ga; target = gb; differ = sym (ap₂ eqb i j) ∙ l; filter = record { bundles = gn; packages = gp; services = gs } })
-            (record { first = ha; second = hb; parts = (hn, (hp, (hs, tt))) }) refl
-            (λ q. record { source = i q; target = j q; bundles = e q; packages = f q; services = k q })
+            (λ c g h. false_true (sym g.differ ∙ eq-eqb _ _ (sym h.first ∙ from.1 ∙ eqb-true y z e ∙ sym to.1 ∙ h.second))) refl
+        go false e =
+            let a = numbers_found row 2 b in
+            let d = decoded_some q in
+            let f = part_found row (2 + 2 * (most_listed + 1)) s in
+            Decoded.found (record { source = y; target = z; filter = record { bundles = a.value; packages = d.value; services = f.value } })
+            (record {
+              source = from.0;
+              target = to.0;
+              differ = e;
+              filter = record { bundles = a.good; packages = d.good; services = f.good };
+            })
+            (record { first = from.1; second = to.1; parts = (a.is, (d.is, (f.is, tt))) })
+            (λ i. Some (record { source = y; target = z; bundles = a.stored i; packages = d.stored i; services = f.stored i }))
 
 -- a row is that of one bundle or connection
 
@@ -439,4 +383,18 @@ connection_same row a b g l h k = λ i. record {
         (λ xs ys g l h k. list_same row (2 + 2 * (most_listed + 1)) xs ys h k) (λ xs few h k. omega (arith, h.0))
         a.filter.services b.filter.services g.filter.services l.filter.services h.parts.1.1.0 k.parts.1.1.0 i;
   };
+}
+
+-- bundles and connections are told apart by their rows, and their order is that of a number
+
+pub bundle_laws : (rs : List ℕ) → KindLaws bundle_width (λ (b : StoredBundle). b.location) (bundle_kind rs)
+bundle_laws rs = record { wide = omega arith; keyed = λ a b g h. refl; same = bundle_same }
+
+pub connection_laws : (rs : List ℕ) → All (λ r. r < regions) rs
+    → KindLaws connection_width (λ (c : StoredConnection). c.source * regions + c.target) (connection_kind rs)
+connection_laws rs small = record {
+  wide = omega arith;
+  keyed = λ a b g h.
+      connection_order regions a b (member_all (λ r. r < regions) a.target rs small g.target) (member_all (λ r. r < regions) b.target rs small h.target);
+  same = connection_same;
 }

@@ -1,21 +1,21 @@
 -- The record that stores a model and the model that a record means: each gives the other back.
 use mathlib.Core.Path.{◌≡◌, refl, sym, ap, ◌∙◌, subst}
-use mathlib.Core.Bool.{Bool, true, false, not, ◌&&◌, ◌||◌, or_comm, or-true, or-false}
+use mathlib.Core.Bool.{Bool, true, false, not, ◌&&◌, ◌||◌, or_comm}
 use mathlib.Core.List.{List, [], ◌∷◌, ◌++◌, map}
 use Prim.Native.Nat.{ℕ, zero, suc, ◌+◌, ◌-◌, ◌≤◌, ◌<◌, ◌^◌}
 use native.Mathlib.Omega.{arith}
 use lib.Bits.{bit_and, bit_or}
 use lib.Dec.{eqb, ltb}
-use borrow.Author.Tests.{lt-ltb, eqb-true, eqb-false, eq-eqb, ne_eqb}
+use borrow.Author.Tests.{lt-ltb, eq-eqb, ne_eqb}
 use lib.ListN.{length, get_or, take, replicate, length-map}
 use lib.Seq.{take_at}
 use Rattle.region_graph.specs.Size.{regions, most_bundles, most_connections, most_listed, most_provided, everything_sign}
-use Rattle.region_graph.specs.Refusals.{not_refused}
-use Rattle.region_graph.specs.Lists.{All, exists, member, keep, position, insert_by, count_from}
+use Rattle.region_graph.specs.Refusals.{not_refused, refusal_number, answer_number}
+use Rattle.region_graph.specs.Lists.{All, member, keep, insert_by, count_from}
 use Rattle.region_graph.specs.Sets.{bit, has, singleton, members, set_of}
 use Rattle.region_graph.specs.Model.{Model, Package, PackageEntry, packages, entries, Bundle, Part, Connection, nothing}
 use Rattle.region_graph.specs.Model.{Sorted, SortedPart, Legal, LegalBundle, LegalConnection}
-use Rattle.region_graph.specs.Model.{Word, LegalEntry, entry_before}
+use Rattle.region_graph.specs.Model.{Word, Version, PackageFits, EntryFits, LegalEntry, entry_before}
 use Rattle.region_graph.specs.Calls.{Call, number, accepted}
 use Rattle.region_graph.specs.Record.{number_places, Stored, Valid, store, meaning, no_bundle, no_connection}
 use Rattle.region_graph.specs.Record.{Numbers, Provided, store_list, list_of, store_numbers, numbers_of, store_provided, provided_of, store_part, part_in}
@@ -33,13 +33,14 @@ use Rattle.region_graph.specs.declared.bundles.Bundles.{Bundles}
 use Rattle.region_graph.specs.declared.connections.StoredConnection.{StoredConnection}
 use Rattle.region_graph.specs.declared.connections.Connections.{Connections}
 use Rattle.region_graph.specs.declared.Graph.{Graph}
-use Rattle.region_graph.specs.Promise.{Empty, Follows}
-use Rattle.region_graph.specs.declared.Changed.{Changed}
+use Rattle.region_graph.specs.Promise.{Empty, Changed, changed, Follows}
+use Rattle.region_graph.specs.declared.refusals.Refusal.{Refusal}
+use Rattle.std.specs.Prelude.{Result, Ok, Err}
 use Rattle.region_graph.proofs.Lists.{pick_yes, pick_no, all_map, all_made, all_at, keep_same, member_kept, member_counted, exists_insert, eqb_sym}
 use Rattle.region_graph.proofs.Ascending.{members_back}
 use Rattle.region_graph.proofs.Bits.{has_set, set_ext, set_join, set_leave}
-use Rattle.region_graph.proofs.Legal.{legal_accepted, legal_nothing, Words}
-use Rattle.region_graph.proofs.Arrays.{Filled, filled_none, filled_at, filled_inside, filled_found, filled_missed, drop_replicate}
+use Rattle.region_graph.proofs.Legal.{legal_accepted, legal_nothing, PartAll, Words}
+use Rattle.region_graph.proofs.Arrays.{Filled, filled_none, filled_at, filled_inside, drop_replicate}
 use Rattle.region_graph.proofs.Columns.{packages_whole, entries_whole}
 
 -- the used places hold the list
@@ -288,15 +289,6 @@ pub filled_connections : {items : List StoredConnection} {count : ℕ} {cs : Lis
 unfolding store_connections
 filled_connections h = λ i. record { count = h.counted i; items = h.shape i }
 
--- the count of a list that is stored
-pub bundles_count : {x : Bundles} (bs : List Bundle) → x ≡ store_bundles bs → x.count ≡ length bs
-unfolding store_bundles
-bundles_count bs e = ap (λ (y : Bundles). y.count) e
-
-pub connections_count : {x : Connections} (cs : List Connection) → x ≡ store_connections cs → x.count ≡ length cs
-unfolding store_connections
-connections_count cs e = ap (λ (y : Connections). y.count) e
-
 pub all_counted : (P : ℕ → Type 0) (a k : ℕ) → ((n : ℕ) → n < a + k → P n) → All P (count_from a k)
 all_counted P a zero f = tt
 all_counted P a (suc k) f = (f a (omega arith), all_counted P (suc a) k (λ n h. f n (omega arith)))
@@ -391,17 +383,6 @@ set_remove rs r e =
     ∙ set_ext (λ n. member n rs && not (eqb r n)) (λ n. member n (keep (λ s. not (eqb r s)) rs))
     (λ n h. sym (member_kept (λ s. not (eqb r s)) n rs))
 
--- a set that has the region keeps its value, and so does every set for a number that is no region's
-pub set_kept : {x : ℕ} (rs : List ℕ) (r : ℕ) → (r < regions → member r rs ≡ true) → x ≡ set_of (λ n. member n rs) → bit_or x (singleton r) ≡ x
-set_kept rs r f e =
-    ap (λ (x : ℕ). bit_or x (singleton r)) e ∙ set_join (λ n. member n rs) r
-    ∙ set_ext (λ n. member n rs || eqb r n) (λ n. member n rs) (λ n h. had n h (eqb r n) refl) ∙ sym e
-  where
-    had : (n : ℕ) → n < regions → (b : Bool) → eqb r n ≡ b → (member n rs || b) ≡ member n rs
-    had n h true q =
-        or-true (member n rs) ∙ sym (ap (λ (k : ℕ). member k rs) (sym (eqb-true r n q)) ∙ f (omega (arith, eqb-true r n q)))
-    had n h false q = or-false (member n rs)
-
 -- the parts of a record that stores a model
 pub stored_graph : (m : Model) {x : ℕ} {bs : Bundles} {cs : Connections} → x ≡ set_of (λ r. member r m.regions)
     → bs ≡ store_bundles m.bundles → cs ≡ store_connections m.connections
@@ -421,44 +402,92 @@ stores_means m h e = ap meaning e ∙ meaning_back m h
 pub stores_nothing : {g : Graph} → g ≡ store nothing → Empty g
 stores_nothing e = record { valid = stores_valid nothing legal_nothing e; model = stores_means nothing legal_nothing e }
 
--- a call, its number, and the record that it hands back
-module _ (g : Graph) (c : Call) {h : Graph} {k : ℕ} (v : Valid g) (e : k ≡ number (meaning g) c) where
+-- where the places that store lists have 32 bits, or 16, so has what they store
+front_all : {A : Type 0} (P : ℕ → Type 0) (f : A → ℕ) (xs : List A) (rest : List ℕ) → ((i : ℕ) → P (get_or (map f xs ++ rest) i 0)) → All (λ x. P (f x)) xs
+front_all P f [] rest h = tt
+front_all P f (x ∷ xs) rest h = (h 0, front_all P f xs rest (λ i. h (suc i)))
+
+pub list_words : {most : ℕ} {n : NumberList most} (xs : List ℕ) → n ≡ store_list most xs → ((i : ℕ) → Word (get_or n.items i 0)) → All Word xs
+unfolding store_list
+list_words {most} xs e h = front_all Word (λ x. x) xs (replicate (most - length xs) 0) (rw e at h)
+
+pub packages_words : {p : Packages} (ps : List Package) → p ≡ store_packages ps → ((i : ℕ) → Word (get_or p.numbers i 0))
+    → ((i : ℕ) → Version (get_or p.versions i 0)) → All PackageFits ps
+unfolding store_packages
+packages_words ps e h k =
+    both ps (front_all Word (λ p. p.number) ps (replicate (most_provided - length ps) 0) (rw e at h))
+    (front_all Version (λ p. p.version) ps (replicate (most_provided - length ps) 0) (rw e at k))
+  where
+    both : (qs : List Package) → All (λ p. Word p.number) qs → All (λ p. Version p.version) qs → All PackageFits qs
+    both [] f g = tt
+    both (q ∷ qs) f g = (record { number = f.0; version = g.0 }, both qs f.1 g.1)
+
+pub part_words : {n : Numbers} (p : Part ℕ) → n ≡ store_part p → ((i : ℕ) → Word (get_or n.items i 0)) → PartAll Word p
+part_words (Part.listed xs) e h = list_words xs e h
+part_words Part.everything e h = tt
+
+pub package_part_words : {n : Entries} (p : Part PackageEntry) → n ≡ store_package_part p → ((i : ℕ) → Word (get_or n.numbers i 0))
+    → ((i : ℕ) → Version (get_or n.lowest i 0)) → ((i : ℕ) → Version (get_or n.highest i 0)) → PartAll EntryFits p
+unfolding store_entries
+package_part_words (Part.listed es) e h k l =
+    each es (front_all Word (λ x. x.number) es (replicate (most_listed - length es) 0) (rw e at h))
+    (front_all Version (λ x. x.lowest) es (replicate (most_listed - length es) 0) (rw e at k))
+    (front_all Version (λ x. x.highest) es (replicate (most_listed - length es) 0) (rw e at l))
+  where
+    each : (ds : List PackageEntry) → All (λ x. Word x.number) ds → All (λ x. Version x.lowest) ds → All (λ x. Version x.highest) ds → All EntryFits ds
+    each [] f g j = tt
+    each (d ∷ ds) f g j = (record { number = f.0; lowest = g.0; highest = j.0 }, each ds f.1 g.1 j.1)
+package_part_words Part.everything e h k l = tt
+
+-- no refusal has the number of an accepted call
+pub refusal_numbered : (x : Refusal) → refusal_number x ≡ not_refused → ⊥
+refusal_numbered Refusal.NotARegion e = omega (arith, e)
+refusal_numbered Refusal.RegionUsed e = omega (arith, e)
+refusal_numbered Refusal.NoSuchRegion e = omega (arith, e)
+refusal_numbered Refusal.EndsEqual e = omega (arith, e)
+refusal_numbered Refusal.Connected e = omega (arith, e)
+refusal_numbered Refusal.NotConnected e = omega (arith, e)
+refusal_numbered Refusal.ListTooLong e = omega (arith, e)
+refusal_numbered Refusal.ListOutOfOrder e = omega (arith, e)
+refusal_numbered Refusal.Installed e = omega (arith, e)
+refusal_numbered Refusal.Filtered e = omega (arith, e)
+refusal_numbered Refusal.Full e = omega (arith, e)
+refusal_numbered Refusal.NotInstalled e = omega (arith, e)
+refusal_numbered Refusal.NotAKind e = omega (arith, e)
+refusal_numbered Refusal.NoPlace e = omega (arith, e)
+refusal_numbered Refusal.NotAnArchive e = omega (arith, e)
+refusal_numbered Refusal.WrongLength e = omega (arith, e)
+refusal_numbered Refusal.BrokenLayout e = omega (arith, e)
+refusal_numbered Refusal.BrokenSheet e = omega (arith, e)
+refusal_numbered Refusal.NoEntry e = omega (arith, e)
+refusal_numbered Refusal.RangeReversed e = omega (arith, e)
+refusal_numbered Refusal.HasVersions e = omega (arith, e)
+
+-- a call, what it answers, and the record that it leaves
+module _ (g : Graph) (c : Call) (v : Valid g) where
   -- where it is refused, the record that it got
-  pub refused : (k ≡ not_refused → ⊥) → h ≡ g → Follows g c (record { graph = h; number = k })
-  refused u s =
+  pub refused : (x : Refusal) → refusal_number x ≡ number (meaning g) c → {r : Result (Unit {0}) Refusal} → r ≡ Err x → Follows g c (changed r g)
+  refused x n {r} e =
+      let k : answer_number r ≡ refusal_number x = ap answer_number e in
       record {
-        valid = subst Valid (sym s) v;
-        number = e;
-        next = ap meaning s ∙ sym (pick_no (accepted (meaning g) c) (meaning g) (ne_eqb (number (meaning g) c) not_refused (λ z. u (e ∙ z))));
-        kept = λ f. s;
+        valid = v;
+        number = k ∙ n;
+        next = sym (pick_no (accepted (meaning g) c) (meaning g) (ne_eqb (number (meaning g) c) not_refused (λ z. refusal_numbered x (n ∙ z))));
+        kept = λ f. refl;
       }
 
-  module _ (w : Words c) where
-    -- where it is accepted, the record that stores the model after it
-    pub accepts : k ≡ not_refused → h ≡ store (accepted (meaning g) c) → Follows g c (record { graph = h; number = k })
-    accepts z s =
-        let m = accepted (meaning g) c in
-        let l : Legal m = legal_accepted (meaning g) c v.good w (sym e ∙ z) in
-        record {
-          valid = stores_valid m l s;
-          number = e;
-          next = stores_means m l s ∙ sym (pick_yes m (meaning g) (eq-eqb (number (meaning g) c) not_refused (sym e ∙ z)));
-          kept = λ f. absurd (f z);
-        }
-
-    -- each of the two
-    pub outcome : (k ≡ not_refused → h ≡ store (accepted (meaning g) c)) → ((k ≡ not_refused → ⊥) → h ≡ g)
-        → Follows g c (record { graph = h; number = k })
-    outcome a r = go (eqb k not_refused) refl
-      where
-        go : (b : Bool) → eqb k not_refused ≡ b → Follows g c (record { graph = h; number = k })
-        go true q = let z = eqb-true k not_refused q in accepts z (a z)
-        go false q = let u = eqb-false k not_refused q in refused u (r u)
-
-    -- the change is made first, and does nothing where the call is refused
-    pub changes : ((number (meaning g) c ≡ not_refused → ⊥) → accepted (meaning g) c ≡ meaning g) → h ≡ store (accepted (meaning g) c)
-        → Follows g c (record { graph = h; number = k })
-    changes idle s = outcome (λ z. s) (λ u. s ∙ ap store (idle (λ z. u (e ∙ z))) ∙ sym v.stored)
+  -- where it is accepted, the record that stores the model after it
+  pub accepts : Words c → not_refused ≡ number (meaning g) c → {h : Graph} → h ≡ store (accepted (meaning g) c)
+      → Follows g c (changed {A = Unit {0}} (Ok tt) h)
+  accepts w n s =
+      let m = accepted (meaning g) c in
+      let l : Legal m = legal_accepted (meaning g) c v.good w (sym n) in
+      record {
+        valid = stores_valid m l s;
+        number = n;
+        next = stores_means m l s ∙ sym (pick_yes m (meaning g) (eq-eqb (number (meaning g) c) not_refused (sym n)));
+        kept = λ f. absurd (f refl);
+      }
 
 -- the promises settle the outcome: two records that meet them are one
 pub settled : (g : Graph) (c : Call) (r s : Changed) → Follows g c r → Follows g c s → r ≡ s
@@ -468,15 +497,3 @@ settled g c r s f h =
 
 pub empty_settled : (g h : Graph) → Empty g → Empty h → g ≡ h
 empty_settled g h e f = meaning_injective g h e.valid f.valid (e.model ∙ sym f.model)
-
--- a search by place in the connections ended within their count, or did not
-pub connections_found : (cs : Connections) (p : Connection → Bool) → ConnectionsStored cs → position p (connections_of cs) < cs.count
-    → exists p (connections_of cs) ≡ true
-connections_found cs p h l = filled_found (connections_filled cs h) p refl l
-
-pub connections_missed : (cs : Connections) (p : Connection → Bool) → ConnectionsStored cs → cs.count ≤ position p (connections_of cs)
-    → exists p (connections_of cs) ≡ false
-connections_missed cs p h l = filled_missed (connections_filled cs h) p refl l
-
-pub connections_counted : (cs : Connections) → ConnectionsStored cs → length (connections_of cs) ≡ cs.count
-connections_counted cs h = sym (connections_filled cs h).counted

@@ -1,11 +1,10 @@
 -- A graph's regions, bundles and connections as lists of plain numbers, which can be lent.
-use Rattle.std.specs.Prelude.{◌≡◌, List, [], ◌∷◌, map, ℕ, ◌+◌, ◌*◌, ◌^◌, ◌≤◌, length, get_or, take, drop}
+use Rattle.std.specs.Prelude.{◌≡◌, List, [], ◌∷◌, map, ℕ, ◌+◌, ◌*◌, ◌^◌, ◌≤◌, length, get_or, take, drop, Result, Ok, Err}
 use Rattle.region_graph.specs.Size.{most_listed, most_provided, everything_sign}
-use Rattle.region_graph.specs.Refusals.{not_refused, broken_layout}
 use Rattle.region_graph.specs.Model.{Model, Package, PackageEntry, Bundle, Part, Connection, Legal}
 use Rattle.region_graph.specs.Record.{Valid, meaning}
-use Rattle.region_graph.specs.Promise.{Empty}
-use Rattle.region_graph.specs.declared.Changed.{Changed}
+use Rattle.region_graph.specs.declared.Graph.{Graph}
+use Rattle.region_graph.specs.declared.refusals.Refusal.{Refusal}
 
 -- a package and an entry as one number, its code: 32 bits of the number, then 16 of each version
 abbrev pub package_code : Package → ℕ
@@ -73,9 +72,9 @@ pub record FlatModel (regions bundles connections : List ℕ) (m : Model) : Type
   pub bundles_are : Flat bundle_width (λ xs b. FlatFields most_provided xs (fields_of_bundle b)) bundles m.bundles
   pub connections_are : Flat connection_width (λ xs c. FlatFields most_listed xs (fields_of_connection c)) connections m.connections
 
--- the graph of the legal model that has these lists; the empty one and a refusal where none has
-pub data Made (regions bundles connections : List ℕ) (r : Changed) : Type 0 where
+-- the graph of the legal model that has these lists; a refusal where none has
+pub data Made (regions bundles connections : List ℕ) (r : Result Graph Refusal) : Type 0 where
   made : (m : Model) → Legal m → FlatModel regions bundles connections m
-      → r.number ≡ not_refused → Valid r.graph → meaning r.graph ≡ m → Made regions bundles connections r
+      → (g : Graph) → r ≡ Ok g → Valid g → meaning g ≡ m → Made regions bundles connections r
   none : ((m : Model) → Legal m → FlatModel regions bundles connections m → ⊥)
-      → r.number ≡ broken_layout → Empty r.graph → Made regions bundles connections r
+      → r ≡ Err Refusal.BrokenLayout → Made regions bundles connections r

@@ -8,9 +8,9 @@ pub mod Steps
 pub mod Calls
 pub mod Items
 pub mod Record
+pub mod Handed
 pub mod Promise
 pub mod Flat
 -- What only private functions cite.
 pub mod Places
-pub mod Handed
 pub mod Decoded

@@ -2,7 +2,6 @@
 -- of src/refusals.rt go with them.
 use Rattle.std.specs.Prelude.{ℕ, Result, Ok, Err}
 use Rattle.region_graph.specs.declared.refusals.Refusal.{Refusal}
-use Rattle.region_graph.specs.declared.refusals.Refusal.TheVariants as Refusal
 
 -- no question was answered no: the call is accepted
 abbrev pub not_refused : ℕ

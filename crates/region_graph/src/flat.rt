@@ -1,454 +1,300 @@
 // A graph made of its lists at once. A bundle and a connection are each a fixed count of numbers: two, then for each list its count and its
 // places; the count EVERYTHING is a part that is everything. A package and an entry are one number each, with versions in the lower bits.
-ghost use Rattle.std.specs.Prelude.{true, ◌≡◌, map, ◌+◌, ◌^◌, ◌<◌, ◌≤◌, length};
-ghost use Rattle.region_graph.specs.Size.{most_listed, most_provided};
+ghost use Rattle.std.specs.Prelude.{◌≡◌, true, map, ℕ, List, ◌+◌, ◌*◌, ◌^◌, ◌<◌, ◌≤◌, length, get_or, MatchOption};
+ghost use Rattle.std.specs.Bool.{then_some};
+ghost use Rattle.region_graph.specs.Size.{regions, most_listed, most_provided};
 ghost use Rattle.region_graph.specs.Lists.{member};
-ghost use Rattle.region_graph.specs.Sets.{set_of, members};
+ghost use Rattle.region_graph.specs.Sets.{has, set_of, members};
 ghost use Rattle.region_graph.specs.Model.{LegalBundle, LegalConnection};
-ghost use Rattle.region_graph.specs.Record.{store_bundle, store_bundles, store_connection, store_connections};
+ghost use Rattle.region_graph.specs.Record.{store_bundle, store_connection};
 ghost use Rattle.region_graph.specs.Flat.{Made, bundle_width, connection_width};
 ghost use Rattle.region_graph.specs.Places.{put_into};
-ghost use Rattle.region_graph.specs.Decoded.{Decoded, WordRead, HeadsPut, RangesPut, «tail_from», with_count, ListDecoded, PartDecoded};
+ghost use Rattle.region_graph.specs.Decoded.{Decoded, CodesRead, HeadsPut, «tail_from», ListPut, PartPut};
 ghost use Rattle.region_graph.specs.Decoded.{PackagesDecoded, EntriesDecoded, PackagePartDecoded};
-ghost use Rattle.region_graph.specs.Decoded.{GoodRegions, GoodBundles, GoodConnections, FlatBundle, FlatConnection, FlatBundles, FlatConnections};
+ghost use Rattle.region_graph.specs.Decoded.{GoodRegions, FlatBundle, FlatConnection, Kind, bundle_kind, connection_kind, KindLaws, RowsPut};
 
-use crate::bundles::{Bundles, StoredBundle};
-use crate::connections::{Connections, StoredConnection};
+use crate::Graph;
+use crate::bundles::StoredBundle;
+use crate::connections::StoredConnection;
 use crate::numbers::{Numbers, Provided, ascending};
-use crate::packages::{Entries, Packages, entries_ascending, every_package, packages_ascending};
-use crate::refusals::{BROKEN_LAYOUT, NOT_REFUSED};
-use crate::region_set::{has, is_region, singleton};
-use crate::size::{
-    EVERYTHING, MOST_BUNDLES, MOST_CONNECTIONS, MOST_LISTED, MOST_PROVIDED, REGIONS,
+use crate::packages::{
+    Entries, Packages, entries_ascending, entries_ordered, every_package, packages_ascending,
 };
-use crate::{Changed, Graph};
+use crate::refusals::Refusal;
+use crate::region_set::{has, is_region, singleton};
+use crate::size::{EVERYTHING, MOST_LISTED, MOST_PROVIDED, REGIONS};
 
 // How many numbers a bundle takes, and a connection.
 pub const BUNDLE_WIDTH: usize = 2 + 2 * (MOST_PROVIDED + 1);
 
 pub const CONNECTION_WIDTH: usize = 2 + 3 * (MOST_LISTED + 1);
 
-// Numbers below this have 32 bits.
-const PAST_WORDS: u64 = 4294967296;
-
-// A version has so many bits, and a range of versions; and there are so many versions.
+// A version has so many bits, and there are so many versions.
 const VERSION_BITS: u32 = 16;
 
-const RANGE_BITS: u32 = 2 * VERSION_BITS;
-
-const TAILS: u64 = 65536;
-
-// What is made of numbers. It counts where `ok` is set; else document 01 allows nothing that has them.
-#[derive(Clone, Copy)]
-struct WordOf {
-    ok: bool,
-    word: u32,
-}
-
-#[derive(Clone, Copy)]
-struct ListAt {
-    ok: bool,
-    count: usize,
-}
-
-#[derive(Clone, Copy)]
-struct PackagesAt {
-    ok: bool,
-    packages: Packages,
-}
-
-#[derive(Clone, Copy)]
-struct EntriesAt {
-    ok: bool,
-    entries: Entries,
-}
-
-#[derive(Clone, Copy)]
-struct BundleOf {
-    ok: bool,
-    bundle: StoredBundle,
-}
-
-#[derive(Clone, Copy)]
-struct ConnectionOf {
-    ok: bool,
-    connection: StoredConnection,
-}
-
-#[derive(Clone, Copy)]
-struct RegionList {
-    ok: bool,
-    set: u64,
-}
-
-#[derive(Clone, Copy)]
-struct BundleList {
-    ok: bool,
-    bundles: Bundles,
-}
-
-#[derive(Clone, Copy)]
-struct ConnectionList {
-    ok: bool,
-    connections: Connections,
-}
-
-fn word_of(number: u64) -> WordOf
-    ensures { WordRead number result.ok result.word }
-{
-    if number < PAST_WORDS {
-        return WordOf {
-            ok: true,
-            word: number as u32,
-        };
-    }
-    WordOf { ok: false, word: 0 }
-}
+const VERSIONS: u64 = 1 << VERSION_BITS;
 
 // A region of the set.
-fn region_within(number: u64, regions: u64) -> WordOf
-    ensures { Decoded (λ n. n) (λ n. member n (members regions) ≡ true) (λ n. number ≡ n) result.ok result.word }
+fn region_within(number: u64, regions: u64) -> Option<u32>
+    ensures { result ≡ then_some (has regions number) number }
 {
-    let read = word_of(number);
-    let word = read.word;
-    let within = has(regions, word);
-    WordOf {
-        ok: read.ok & within,
-        word,
-    }
+    u32::try_from(number)
+        .ok()
+        .filter(|&region| has(regions, region))
 }
 
-// Puts what is left of each code without its lower bits into the first places; says whether each has 32 bits.
-fn put_heads(places: &mut [u32], list: &[u64], bits: u32) -> bool
-    requires list_in_bounds { length list.now ≤ length places.old }
-    requires bits_bound { bits < 64 }
-    ensures { HeadsPut (2 ^ bits) list.now places.old result places.new }
-{
-    let mut words = true;
-    let mut i: usize = 0;
-    while i < list.len() {
-        let head = list[i] >> bits;
-        places[i] = (head % PAST_WORDS) as u32;
-        words = words & (head < PAST_WORDS);
-        i += 1;
-    }
-    words
-}
-
-// Puts the lowest 16 bits of each code into the first places.
-fn put_tails(places: &mut [u16], list: &[u64])
-    requires { length list.now ≤ length places.old }
-    ensures { places.new ≡ put_into places.old (map (tail_from 1) list.now) }
-{
-    let mut i: usize = 0;
-    while i < list.len() {
-        places[i] = (list[i] % TAILS) as u16;
-        i += 1;
-    }
-}
-
-// Puts the two versions of each code of an entry into the first places of two lists; says whether no lowest one exceeds its highest.
-fn put_ranges(lowest: &mut [u16], highest: &mut [u16], list: &[u64]) -> bool
-    requires { (length list.now ≤ length lowest.old) × (length list.now ≤ length highest.old) }
-    ensures { RangesPut list.now lowest.old highest.old result lowest.new highest.new }
-{
-    let mut ordered = true;
-    let mut i: usize = 0;
-    while i < list.len() {
-        let code = list[i];
-        let low = ((code >> VERSION_BITS) % TAILS) as u16;
-        let high = (code % TAILS) as u16;
-        lowest[i] = low;
-        highest[i] = high;
-        ordered = ordered & (low <= high);
-        i += 1;
-    }
-    ordered
-}
-
-// Puts the list at a place of the row into lent places, as many as it may have numbers.
-fn list_at(places: &mut [u32], row: &[u64], at: usize) -> ListAt
-    requires { at + (length places.old + 1) ≤ length row.now }
-    ensures { ListDecoded places.old row.now at result.ok (with_count result.count places.new) }
+// The codes of the list at a place of the row, where it has at most so many.
+fn codes_at(row: &[u64], at: usize, most: usize) -> Option<&[u64]>
+    requires { at + (most + 1) ≤ length row.now }
+    ensures { MatchOption result (most < get_or row.now at 0) (λ codes. CodesRead row.now at most codes.now) }
 {
     let count = row[at] as usize;
-    if places.len() < count {
-        return ListAt {
-            ok: false,
-            count: 0,
-        };
+    if most < count {
+        return None;
     }
     let from = at + 1;
-    let to = from + count;
-    let words = put_heads(places, &row[from..to], 0);
-    let ascend = ascending(&places[..count]);
-    ListAt {
-        ok: words & ascend,
-        count,
+    Some(&row[from..from + count])
+}
+
+// Puts what is left of each code without its lower bits into the first places; none where one has more than 32 bits.
+fn put_heads(places: &mut [u32], codes: &[u64], bits: u32) -> Option<()>
+    requires codes_in_bounds { length codes.now ≤ length places.old }
+    requires bits_bound { bits < 64 }
+    ensures { HeadsPut (2 ^ bits) codes.now places.old result places.new }
+{
+    for (i, code) in codes.iter().enumerate() {
+        places[i] = u32::try_from(code >> bits).ok()?;
     }
+    Some(())
+}
+
+// Puts the 16 bits that stand above the lower bits of each code into the first places.
+fn put_tails(places: &mut [u16], codes: &[u64], bits: u32)
+    requires codes_in_bounds { length codes.now ≤ length places.old }
+    requires bits_bound { bits < 64 }
+    ensures { places.new ≡ put_into places.old (map (tail_from (2 ^ bits)) codes.now) }
+{
+    for (i, code) in codes.iter().enumerate() {
+        places[i] = ((code >> bits) % VERSIONS) as u16;
+    }
+}
+
+// Puts the list at a place of the row into lent places, as many as it may have numbers; says how many it has.
+fn list_at(places: &mut [u32], row: &[u64], at: usize) -> Option<usize>
+    requires { at + (length places.old + 1) ≤ length row.now }
+    ensures { ListPut places.old row.now at result places.new }
+{
+    let codes = codes_at(row, at, places.len())?;
+    let count = codes.len();
+    put_heads(places, codes, 0)?;
+    ascending(&places[..count]).then_some(count)
 }
 
 // Puts the part at a place; one that is everything leaves the places as they are.
-fn part_at(places: &mut [u32], row: &[u64], at: usize) -> ListAt
+fn part_at(places: &mut [u32], row: &[u64], at: usize) -> Option<usize>
     requires places_in_bounds { at + (length places.old + 1) ≤ length row.now }
     requires places_len { length places.old ≡ most_listed }
-    ensures { PartDecoded places.old row.now at result.ok (with_count result.count places.new) }
+    ensures { PartPut places.old row.now at result places.new }
 {
     if row[at] as usize == EVERYTHING {
-        return ListAt {
-            ok: true,
-            count: EVERYTHING,
-        };
+        return Some(EVERYTHING);
     }
     list_at(places, row, at)
 }
 
 // The packages at a place of the row.
-fn packages_at(row: &[u64], at: usize) -> PackagesAt
+fn packages_at(row: &[u64], at: usize) -> Option<Packages>
     requires { at + (most_provided + 1) ≤ length row.now }
-    ensures { PackagesDecoded row.now at result.ok result.packages }
+    ensures { PackagesDecoded row.now at result }
 {
+    let codes = codes_at(row, at, MOST_PROVIDED)?;
+    let count = codes.len();
     let mut numbers = [0u32; MOST_PROVIDED];
     let mut versions = [0u16; MOST_PROVIDED];
-    let count = row[at] as usize;
-    if MOST_PROVIDED < count {
-        return PackagesAt {
-            ok: false,
-            packages: Packages {
-                count,
-                numbers,
-                versions,
-            },
-        };
-    }
-    let from = at + 1;
-    let to = from + count;
-    let words = put_heads(&mut numbers, &row[from..to], VERSION_BITS);
-    put_tails(&mut versions, &row[from..to]);
-    let ascend = packages_ascending(&numbers[..count], &versions[..count]);
-    PackagesAt {
-        ok: words & ascend,
-        packages: Packages {
-            count,
-            numbers,
-            versions,
-        },
-    }
+    put_heads(&mut numbers, codes, VERSION_BITS)?;
+    put_tails(&mut versions, codes, 0);
+    packages_ascending(&numbers[..count], &versions[..count]).then_some(Packages {
+        count,
+        numbers,
+        versions,
+    })
 }
 
 // The entries at a place of the row.
-fn entries_at(row: &[u64], at: usize) -> EntriesAt
+fn entries_at(row: &[u64], at: usize) -> Option<Entries>
     requires { at + (most_listed + 1) ≤ length row.now }
-    ensures { EntriesDecoded row.now at result.ok result.entries }
+    ensures { EntriesDecoded row.now at result }
 {
+    let codes = codes_at(row, at, MOST_LISTED)?;
+    let count = codes.len();
     let mut numbers = [0u32; MOST_LISTED];
     let mut lowest = [0u16; MOST_LISTED];
     let mut highest = [0u16; MOST_LISTED];
-    let count = row[at] as usize;
-    if MOST_LISTED < count {
-        return EntriesAt {
-            ok: false,
-            entries: Entries {
-                count,
-                numbers,
-                lowest,
-                highest,
-            },
-        };
+    put_heads(&mut numbers, codes, 2 * VERSION_BITS)?;
+    put_tails(&mut lowest, codes, VERSION_BITS);
+    put_tails(&mut highest, codes, 0);
+    if !entries_ascending(&numbers[..count], &lowest[..count], &highest[..count]) {
+        return None;
     }
-    let from = at + 1;
-    let to = from + count;
-    let words = put_heads(&mut numbers, &row[from..to], RANGE_BITS);
-    let ordered = put_ranges(&mut lowest, &mut highest, &row[from..to]);
-    let ascend = entries_ascending(&numbers[..count], &lowest[..count], &highest[..count]);
-    EntriesAt {
-        ok: words & (ascend & ordered),
-        entries: Entries {
-            count,
-            numbers,
-            lowest,
-            highest,
-        },
-    }
+    entries_ordered(&numbers[..count], &lowest[..count], &highest[..count]).then_some(Entries {
+        count,
+        numbers,
+        lowest,
+        highest,
+    })
 }
 
 // The package part at a place of the row.
-fn package_part_at(row: &[u64], at: usize) -> EntriesAt
+fn package_part_at(row: &[u64], at: usize) -> Option<Entries>
     requires { at + (most_listed + 1) ≤ length row.now }
-    ensures { PackagePartDecoded row.now at result.ok result.entries }
+    ensures { PackagePartDecoded row.now at result }
 {
     if row[at] as usize == EVERYTHING {
-        let entries = every_package();
-        return EntriesAt { ok: true, entries };
+        return Some(every_package());
     }
     entries_at(row, at)
 }
 
-fn bundle_of(row: &[u64], regions: u64) -> BundleOf
-    requires { length row.now ≡ bundle_width }
-    ensures { Decoded store_bundle (LegalBundle (members regions)) (FlatBundle row.now) result.ok result.bundle }
+fn region_list(list: &[u32]) -> Option<u64>
+    ensures { Decoded (λ rs. set_of (λ n. member n rs)) GoodRegions (λ rs. rs ≡ list.now) result }
 {
-    let mut published = [0u32; MOST_PROVIDED];
-    let exported = packages_at(row, 2);
-    let packages = exported.packages;
-    let services = list_at(&mut published, row, 2 + (MOST_PROVIDED + 1));
-    let location = word_of(row[0]);
-    let region = region_within(row[1], regions);
-    BundleOf {
-        ok: location.ok & region.ok & exported.ok & services.ok,
-        bundle: StoredBundle {
-            location: location.word,
-            region: region.word,
+    let mut set: u64 = 0;
+    for &region in list {
+        if !is_region(region) {
+            return None;
+        }
+        set |= singleton(region);
+    }
+    ascending(list).then_some(set)
+}
+
+// What is stored of a row of numbers, whose regions are in a set. A list of rows ascends by their keys.
+trait Row: Copy {
+    const WIDTH: usize;
+
+    ghost WIDTH: { ℕ };
+
+    ghost kind: { ℕ → Kind Self };
+
+    ghost key: { Self → ℕ };
+
+    fn read(row: &[u64], regions: u64) -> Option<Self>
+        requires { length row.now ≡ WIDTH }
+        ensures { Decoded (kind regions).put (kind regions).Good ((kind regions).Is row.now) result };
+
+    fn key(&self) -> u64
+        ensures value { result ≡ key self.now }
+        ensures bound { result < 2 ^ 63 };
+}
+
+impl Row for StoredBundle {
+    const WIDTH: usize = BUNDLE_WIDTH;
+
+    ghost WIDTH = { bundle_width };
+
+    ghost kind = { λ x. bundle_kind (members x) };
+
+    ghost key = { λ b. b.location };
+
+    fn read(row: &[u64], regions: u64) -> Option<StoredBundle> {
+        let location = u32::try_from(row[0]).ok()?;
+        let region = region_within(row[1], regions)?;
+        let packages = packages_at(row, 2)?;
+        let mut items = [0u32; MOST_PROVIDED];
+        let count = list_at(&mut items, row, 2 + (MOST_PROVIDED + 1))?;
+        Some(StoredBundle {
+            location,
+            region,
             packages,
-            services: Provided {
-                count: services.count,
-                items: published,
-            },
-        },
+            services: Provided { count, items },
+        })
+    }
+
+    fn key(&self) -> u64 {
+        u64::from(self.location)
     }
 }
 
-fn connection_of(row: &[u64], regions: u64) -> ConnectionOf
-    requires { length row.now ≡ connection_width }
-    ensures { Decoded store_connection (LegalConnection (members regions)) (FlatConnection row.now) result.ok result.connection }
-{
-    let mut named = [0u32; MOST_LISTED];
-    let mut offered = [0u32; MOST_LISTED];
-    let bundles = list_at(&mut named, row, 2);
-    let passed = package_part_at(row, 2 + (MOST_LISTED + 1));
-    let packages = passed.entries;
-    let services = part_at(&mut offered, row, 2 + 2 * (MOST_LISTED + 1));
-    let source = region_within(row[0], regions);
-    let target = region_within(row[1], regions);
-    let from = source.word;
-    let to = target.word;
-    let parts = bundles.ok & passed.ok & services.ok;
-    let ends = source.ok & target.ok & (from != to);
-    ConnectionOf {
-        ok: parts & ends,
-        connection: StoredConnection {
-            source: from,
-            target: to,
+impl Row for StoredConnection {
+    const WIDTH: usize = CONNECTION_WIDTH;
+
+    ghost WIDTH = { connection_width };
+
+    ghost kind = { λ x. connection_kind (members x) };
+
+    ghost key = { λ c. c.source * regions + c.target };
+
+    fn read(row: &[u64], regions: u64) -> Option<StoredConnection> {
+        let source = region_within(row[0], regions)?;
+        let target = region_within(row[1], regions)?;
+        let mut named = [0u32; MOST_LISTED];
+        let bundles = list_at(&mut named, row, 2)?;
+        let packages = package_part_at(row, 2 + (MOST_LISTED + 1))?;
+        let mut offered = [0u32; MOST_LISTED];
+        let services = part_at(&mut offered, row, 2 + 2 * (MOST_LISTED + 1))?;
+        (source != target).then_some(StoredConnection {
+            source,
+            target,
             bundles: Numbers {
-                count: bundles.count,
+                count: bundles,
                 items: named,
             },
             packages,
             services: Numbers {
-                count: services.count,
+                count: services,
                 items: offered,
             },
-        },
+        })
+    }
+
+    fn key(&self) -> u64 {
+        u64::from(self.source) * (REGIONS as u64) + u64::from(self.target)
     }
 }
 
-fn region_list(list: &[u32]) -> RegionList
-    ensures { Decoded (λ rs. set_of (λ n. member n rs)) GoodRegions (λ rs. rs ≡ list.now) result.ok result.set }
+// Puts what rows store into the first places, one after the other; says how many there are. None where a row is not good, or not above
+// the one before it, or has no place, or where numbers are left.
+fn put_rows<T: Row>(places: &mut [T], rows: &[u64], regions: u64) -> Option<usize>
+    requires { KindLaws T.WIDTH T.key (T.kind regions) }
+    ensures { RowsPut (T.kind regions) T.WIDTH rows.now places.old result places.new }
 {
-    let mut set: u64 = 0;
-    let mut i: usize = 0;
-    while i < list.len() {
-        let region = list[i];
-        if !is_region(region) {
-            return RegionList { ok: false, set };
-        }
-        set = set | singleton(region);
-        i += 1;
-    }
-    let ok = ascending(list);
-    RegionList { ok, set }
-}
-
-// Bundles one after the other; the first that is not good, or not above the one before it, ends the loop.
-fn bundle_list(rows: &[u64], regions: u64) -> BundleList
-    ensures { Decoded store_bundles (GoodBundles regions) (FlatBundles rows.now) result.ok result.bundles }
-{
-    let none = Bundles::none();
-    let mut items = none.items;
     let mut least: u64 = 0;
-    let mut i: usize = 0;
-    let mut at: usize = 0;
-    while i < MOST_BUNDLES {
-        if rows.len() - at < BUNDLE_WIDTH {
-            break;
-        }
-        let to = at + BUNDLE_WIDTH;
-        let next = bundle_of(&rows[at..to], regions);
-        if !next.ok {
-            break;
-        }
-        let b = next.bundle;
-        let location = b.location as u64;
-        if location < least {
-            break;
-        }
-        items[i] = b;
-        least = location + 1;
-        at = to;
-        i += 1;
+    let mut count: usize = 0;
+    if rows.len() % T::WIDTH != 0 {
+        return None;
     }
-    BundleList {
-        ok: at == rows.len(),
-        bundles: Bundles { count: i, items },
-    }
-}
-
-fn connection_list(rows: &[u64], regions: u64) -> ConnectionList
-    ensures { Decoded store_connections (GoodConnections regions) (FlatConnections rows.now) result.ok result.connections }
-{
-    let none = Connections::none();
-    let mut items = none.items;
-    let mut least: u64 = 0;
-    let mut i: usize = 0;
-    let mut at: usize = 0;
-    while i < MOST_CONNECTIONS {
-        if rows.len() - at < CONNECTION_WIDTH {
-            break;
+    for row in rows.chunks_exact(T::WIDTH) {
+        if count == places.len() {
+            return None;
         }
-        let to = at + CONNECTION_WIDTH;
-        let next = connection_of(&rows[at..to], regions);
-        if !next.ok {
-            break;
+        let element = T::read(row, regions)?;
+        let key = element.key();
+        if key < least {
+            return None;
         }
-        let c = next.connection;
-        let order = (c.source as u64) * (REGIONS as u64) + (c.target as u64);
-        if order < least {
-            break;
-        }
-        items[i] = c;
-        least = order + 1;
-        at = to;
-        i += 1;
+        places[count] = element;
+        least = key + 1;
+        count += 1;
     }
-    ConnectionList {
-        ok: at == rows.len(),
-        connections: Connections { count: i, items },
-    }
+    Some(count)
 }
 
 impl Graph {
-    // The graph that has these regions, bundles and connections, and 0; the empty one and 17 where document 01 allows no such graph.
-    pub fn of_flat(regions: &[u32], bundles: &[u64], connections: &[u64]) -> Changed
+    // The graph that has these regions, bundles and connections; a refusal where document 01 allows no such graph.
+    pub fn of_flat(regions: &[u32], bundles: &[u64], connections: &[u64]) -> Result<Graph, Refusal>
         ensures { Made regions.now bundles.now connections.now result }
     {
-        let listed = region_list(regions);
-        let set = listed.set;
-        let installed = bundle_list(bundles, set);
-        let connected = connection_list(connections, set);
-        if !(listed.ok & installed.ok & connected.ok) {
-            let empty = Graph::empty();
-            return Changed {
-                graph: empty,
-                number: BROKEN_LAYOUT,
-            };
-        }
-        Changed {
-            graph: Graph {
-                regions: set,
-                bundles: installed.bundles,
-                connections: connected.connections,
-            },
-            number: NOT_REFUSED,
-        }
+        let mut graph = Graph::empty();
+        let set = region_list(regions).ok_or(Refusal::BrokenLayout)?;
+        let installed = put_rows(&mut graph.bundles.items, bundles, set).ok_or(
+            Refusal::BrokenLayout,
+        )?;
+        let connected = put_rows(&mut graph.connections.items, connections, set).ok_or(
+            Refusal::BrokenLayout,
+        )?;
+        graph.regions = set;
+        graph.bundles.count = installed;
+        graph.connections.count = connected;
+        Ok(graph)
     }
 }

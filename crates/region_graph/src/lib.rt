@@ -22,7 +22,8 @@ pub use connections::{FilterLists, StoredConnection};
 pub use numbers::{NumberList, Numbers, Provided, has_number};
 pub use packages::{Entries, EntryList, PackageList, Packages, PartList, has_package};
 
-// R as a set, B and F in ascending order in the first places of their arrays.
+// R as a set, B and F in ascending order in the first places of their arrays. C lends one as bytes of any content, to be made the empty
+// one, so that it is no invariant of the type but a clause of each function that the graph is valid.
 #[repr(C)]
 #[derive(Clone, Copy)]
 pub struct Graph {
@@ -31,14 +32,8 @@ pub struct Graph {
     connections: Connections,
 }
 
-// What a changing call hands back: the next graph, and 0 or the number of the question that was answered no.
-#[derive(Clone, Copy)]
-pub struct Changed {
-    pub graph: Graph,
-    pub number: u32,
-}
-
-// A number of one of the kinds 0 bundle, 1 package and 2 service, and a version, which counts for a package alone.
+// A number of one of the kinds 0 bundle, 1 package and 2 service, and a version, which counts for a package alone. A kind is a number since
+// the functions that take an item answer for every kind: of any other nothing is held and nothing passes.
 #[derive(Clone, Copy)]
 pub struct Item {
     pub kind: u32,
@@ -46,24 +41,15 @@ pub struct Item {
     pub version: u16,
 }
 
-// The region in which a location is installed.
-#[derive(Clone, Copy)]
-pub enum Place {
-    Within(u32),
-    Nowhere,
-}
-
 impl Graph {
     // The graph with nothing in it.
     pub fn empty() -> Graph
         ensures { Empty result }
     {
-        let none = Bundles::none();
-        let unconnected = Connections::none();
         Graph {
             regions: 0,
-            bundles: none,
-            connections: unconnected,
+            bundles: Bundles::none(),
+            connections: Connections::none(),
         }
     }
 }

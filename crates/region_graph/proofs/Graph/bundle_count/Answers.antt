@@ -4,4 +4,4 @@ use Rattle.region_graph.proofs.Graph.bundle_count.Goals as goal
 
 pub returns : goal.returns
 unfolding meaning
-returns c = (bundles_filled c.args.self.bundles (bundles_stored c.args.self c.requires)).counted
+returns c = (bundles_filled c.args.self.now.bundles (bundles_stored c.args.self.now c.requires)).counted

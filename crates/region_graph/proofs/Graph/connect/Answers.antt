@@ -1,118 +1,81 @@
 use mathlib.Core.Path.{◌≡◌, refl, sym, ap, ◌∙◌}
 use Prim.Native.Nat.{ℕ}
-use native.Mathlib.Omega.{arith}
-use Rattle.std.proofs.lemmas.Grind.{common_steps}
+use Rattle.std.proofs.Common.{rules, Err}
 use Rattle.region_graph.specs.Refusals.{not_refused}
 use Rattle.region_graph.specs.Lists.{insert_by}
-use Rattle.region_graph.specs.Model.{Model, Connection, entries, Word, EntryFits, connection_before}
+use Rattle.region_graph.specs.Model.{Model, Connection, connection_before}
 use Rattle.region_graph.specs.Calls.{Call, first_no, number, accepted, end_questions, connection_questions}
-use Rattle.region_graph.specs.Record.{Valid, meaning, Numbers, store_numbers, store_package_part, store_part, store_connection, store_connections}
-use Rattle.region_graph.specs.Record.{connections_of, connection_in}
+use Rattle.region_graph.specs.Record.{meaning, store_connection, store_connections, connections_of, connection_in}
 use Rattle.region_graph.specs.Places.{ShortConnection}
-use Rattle.region_graph.specs.Promise.{Follows, new_connection}
-use Rattle.region_graph.specs.declared.Graph.{Graph}
-use Rattle.region_graph.specs.declared.packages.Entries.{Entries}
+use Rattle.region_graph.specs.Handed.{handed_connection}
 use Rattle.region_graph.specs.declared.connections.StoredConnection.{StoredConnection}
-use Rattle.region_graph.specs.declared.connections.Connections.{Connections}
-use Rattle.region_graph.proofs.Lists.{all_of}
-use Rattle.region_graph.proofs.Columns.{entries_fit}
-use Rattle.region_graph.proofs.Legal.{Words, first_step, second_step, connectable, part_each, part_short}
-use Rattle.region_graph.proofs.Storing.{stored_as, connection_back, regions_stored, bundles_stored, connections_stored, stored_graph, refused, accepts}
-use Rattle.region_graph.proofs.Graph.connect.Goals.{else-number-eq-NOT_REFUSED, then-number-eq-NOT_REFUSED}
+use Rattle.region_graph.proofs.Legal.{first_step, second_step, connectable, part_short}
+use Rattle.region_graph.proofs.Storing.{stored_as, connection_back, regions_stored, bundles_stored, connections_stored, stored_graph}
+use Rattle.region_graph.proofs.Storing.{list_words, part_words, package_part_words, refusal_numbered, refused, accepts}
 use Rattle.region_graph.proofs.Graph.connect.Goals as goal
 
 -- the number of the two steps is the call's
-module _ (m : Model) (x : Connection) {j k : ℕ} (e : j ≡ first_no (end_questions m.regions x.source x.target)) where
-  asked_on : j ≡ not_refused → k ≡ first_no (connection_questions m.connections x) → k ≡ number m (Call.connect x)
-  asked_on z f =
-      second_step (end_questions m.regions x.source x.target) (connection_questions m.connections x) (refl, (refl, (refl, tt))) e z f
+module _ (m : Model) (x : Connection) {j : ℕ} (e : j ≡ first_no (end_questions m.regions x.source x.target)) where
+  asked_on : j ≡ not_refused → {k : ℕ} → k ≡ first_no (connection_questions m.connections x) → k ≡ number m (Call.connect x)
+  asked_on = second_step (end_questions m.regions x.source x.target) (connection_questions m.connections x) (refl, (refl, (refl, tt))) e
 
-  asked_out : (j ≡ not_refused → ⊥) → k ≡ j → k ≡ number m (Call.connect x)
-  asked_out u f =
-      f ∙ first_step (end_questions m.regions x.source x.target) (connection_questions m.connections x) (refl, (refl, (refl, tt))) e u
-
--- the new place stores the connection
-stores : (x : Connection) {n : Numbers} {p : Entries} {s : Numbers} → n ≡ store_numbers x.filter.bundles
-    → p ≡ store_package_part x.filter.packages → s ≡ store_part x.filter.services
-    → ◌≡◌ {A = StoredConnection} (record { source = x.source; target = x.target; bundles = n; packages = p; services = s }) (store_connection x)
-stores x e f h = λ i. record { source = x.source; target = x.target; bundles = e i; packages = f i; services = h i }
+  asked_out : (j ≡ not_refused → ⊥) → j ≡ number m (Call.connect x)
+  asked_out = first_step (end_questions m.regions x.source x.target) (connection_questions m.connections x) (refl, (refl, (refl, tt))) e
 
 -- a connect that was not refused has short lists
-short : (g : Graph) (x : Connection) {k : ℕ} → k ≡ number (meaning g) (Call.connect x) → k ≡ not_refused → ShortConnection x
-short g x n z =
-    let o = connectable (meaning g) x (sym n ∙ z) in
+short : (m : Model) (x : Connection) → not_refused ≡ number m (Call.connect x) → ShortConnection x
+short m x n =
+    let o = connectable m x (sym n) in
     record {
       bundles = o.bundles_few;
       packages = part_short x.filter.packages o.packages_within;
       services = part_short x.filter.services o.services_within;
     }
 
--- and the record with it follows
-follows : (g : Graph) (x : Connection) (cs : Connections) (y : StoredConnection) (k : ℕ) → Valid g → Words (Call.connect x)
-    → k ≡ number (meaning g) (Call.connect x) → k ≡ not_refused → y ≡ store_connection x
-    → cs ≡ store_connections (insert_by connection_before (connection_in y) (connections_of g.connections))
-    → Follows g (Call.connect x) (record { graph = record { regions = g.regions; bundles = g.bundles; connections = cs }; number = k })
+pub returns-in_err-ask_ends : goal.returns-in_err-ask_ends
 unfolding meaning
-follows g x cs y k v w n z e f =
-    accepts g (Call.connect x) v n w z
-    (stored_graph (accepted (meaning g) (Call.connect x)) (regions_stored g v) (bundles_stored g v).stored
-    (f ∙ ap (λ (t : Connection). store_connections (insert_by connection_before t (connections_of g.connections)))
-    (ap connection_in e ∙ connection_back x (short g x n z))))
+returns-in_err-ask_ends c =
+    let e : c.from_residual.result ≡ Err c.in_err-ask_ends.field-0.0 = search rules in
+    refused c.args.self.now (Call.connect (handed_connection c.args.source c.args.target c.args.filter)) c.requires c.in_err-ask_ends.field-0.0
+    (asked_out (meaning c.args.self.now) (handed_connection c.args.source c.args.target c.args.filter) c.in_err-ask_ends.ensures
+    (refusal_numbered c.in_err-ask_ends.field-0.0)) e
 
-pub connect_number-number-requires : goal.connect_number-number-requires
-connect_number-number-requires c = connections_stored c.args.self c.requires
-
-pub with-more-requires : goal.with-more-requires
+pub returns-in_err-ask_connection : goal.returns-in_err-ask_connection
 unfolding meaning
-with-more-requires c =
-    let a = c.args in
-    let es = entries a.packages.now a.lowest.now a.highest.now in
-    let x = new_connection a.source a.target a.bundles.now a.all_packages es a.all_services a.services.now in
+returns-in_err-ask_connection c =
+    let e : c.from_residual-in_err-ask_connection.result ≡ Err c.in_err-ask_connection.field-0.0 = search rules in
+    refused c.args.self.now (Call.connect (handed_connection c.args.source c.args.target c.args.filter)) c.requires c.in_err-ask_connection.field-0.0
+    (asked_on (meaning c.args.self.now) (handed_connection c.args.source c.args.target c.args.filter) c.in_ok-ask_ends.ensures refl
+    c.in_err-ask_connection.ensures) e
+
+pub insert-requires : goal.insert-requires
+unfolding meaning
+insert-requires c =
+    let g = c.args.self.now in
+    let x = handed_connection c.args.source c.args.target c.args.filter in
+    let n = asked_on (meaning g) x c.in_ok-ask_ends.ensures refl c.in_ok-ask_connection.ensures in
     record {
-      connections_stored = connections_stored a.self c.requires;
+      connections_stored = connections_stored g c.requires;
       connection_stored =
-          stored_as store_connection connection_in ShortConnection connection_back x
-          (stores x c.copied-named.ensures c.package_part_copied-passed.ensures c.part_copied-offered.ensures)
-          (record {
-            bundles = grind (arith, common_steps);
-            packages = part_short x.filter.packages (grind (arith, common_steps));
-            services = part_short x.filter.services (grind (arith, common_steps));
-          });
-      self_value = (c.requires.good.connections_legal.ascend, grind (arith, common_steps));
+          stored_as store_connection connection_in ShortConnection connection_back x c.new-connection.ensures (short (meaning g) x n);
+      self_value = (c.requires.good.connections_legal.ascend, (connectable (meaning g) x (sym n)).room);
     }
 
-pub returns-then-number-eq-NOT_REFUSED-2 : goal.returns-then-number-eq-NOT_REFUSED-2
+pub returns : goal.returns
 unfolding meaning
-returns-then-number-eq-NOT_REFUSED-2 c =
-    let a = c.args in
-    let es = entries a.packages.now a.lowest.now a.highest.now in
-    let x = new_connection a.source a.target a.bundles.now a.all_packages es a.all_services a.services.now in
-    let e = c.ends_number-number.ensures in
-    let fits = c.type_inv in
-    follows a.self x _ _ _ c.requires (
-      all_of Word 0 a.bundles.now (λ i h. (fits.bundles i).fits),
-      part_each EntryFits a.all_packages es
-          (entries_fit a.packages.now a.lowest.now a.highest.now (λ i. (fits.packages i).fits) (λ i. (fits.lowest i).fits)
-          (λ i. (fits.highest i).fits)),
-      part_each Word a.all_services a.services.now (all_of Word 0 a.services.now (λ i h. (fits.services i).fits)),
+returns c =
+    let g = c.args.self.now in
+    let x = handed_connection c.args.source c.args.target c.args.filter in
+    let n = asked_on (meaning g) x c.in_ok-ask_ends.ensures refl c.in_ok-ask_connection.ensures in
+    let t = c.new-connection.type_inv in
+    accepts g (Call.connect x) c.requires (
+      list_words x.filter.bundles (ap (λ (z : StoredConnection). z.bundles) c.new-connection.ensures) (λ i. search rules),
+      package_part_words x.filter.packages (ap (λ (z : StoredConnection). z.packages) c.new-connection.ensures)
+          (λ i. search rules) (λ i. search (rules, t)) (λ i. search (rules, t)),
+      part_words x.filter.services (ap (λ (z : StoredConnection). z.services) c.new-connection.ensures) (λ i. search rules),
     )
-    (elim c.if-number-eq-NOT_REFUSED.branch [
-      | then-number-eq-NOT_REFUSED w ↦ asked_on (meaning a.self) x e w.if-number-eq-NOT_REFUSED.true (w.number-is ∙ w.connect_number-number.ensures)
-      | else-number-eq-NOT_REFUSED w ↦ asked_out (meaning a.self) x e w.if-number-eq-NOT_REFUSED.false w.number-is
-    ])
-    c.if-number-eq-NOT_REFUSED-2.true (stores x c.copied-named.ensures c.package_part_copied-passed.ensures c.part_copied-offered.ensures)
-    c.with-more.ensures
-
-pub returns-else-number-eq-NOT_REFUSED-2 : goal.returns-else-number-eq-NOT_REFUSED-2
-unfolding meaning
-returns-else-number-eq-NOT_REFUSED-2 c =
-    let a = c.args in
-    let es = entries a.packages.now a.lowest.now a.highest.now in
-    let x = new_connection a.source a.target a.bundles.now a.all_packages es a.all_services a.services.now in
-    let e = c.ends_number-number.ensures in
-    refused a.self (Call.connect x) c.requires
-    (elim c.if-number-eq-NOT_REFUSED.branch [
-      | then-number-eq-NOT_REFUSED w ↦ asked_on (meaning a.self) x e w.if-number-eq-NOT_REFUSED.true (w.number-is ∙ w.connect_number-number.ensures)
-      | else-number-eq-NOT_REFUSED w ↦ asked_out (meaning a.self) x e w.if-number-eq-NOT_REFUSED.false w.number-is
-    ])
-    c.if-number-eq-NOT_REFUSED-2.false refl
+    n
+    (stored_graph (accepted (meaning g) (Call.connect x)) (regions_stored g c.requires) (bundles_stored g c.requires).stored
+    (c.insert.ensures
+    ∙ ap (λ (t : Connection). store_connections (insert_by connection_before t (connections_of g.connections)))
+    (ap connection_in c.new-connection.ensures ∙ connection_back x (short (meaning g) x n))))

@@ -4,4 +4,4 @@ use Rattle.region_graph.proofs.Graph.connection_count.Goals as goal
 
 pub returns : goal.returns
 unfolding meaning
-returns c = (connections_filled c.args.self.connections (connections_stored c.args.self c.requires)).counted
+returns c = (connections_filled c.args.self.now.connections (connections_stored c.args.self.now c.requires)).counted

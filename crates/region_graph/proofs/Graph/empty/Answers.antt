@@ -5,4 +5,4 @@ use Rattle.region_graph.specs.Model.{nothing}
 use Rattle.region_graph.proofs.Graph.empty.Goals as goal
 
 pub returns : goal.returns
-returns c = stores_nothing (stored_graph nothing (sym set_none) c.none-none.ensures c.none-unconnected.ensures)
+returns c = stores_nothing (stored_graph nothing (sym set_none) c.none.ensures c.none-2.ensures)

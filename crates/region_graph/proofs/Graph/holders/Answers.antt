@@ -1,33 +1,29 @@
+use mathlib.Core.Path.{◌∙◌}
 use native.Mathlib.Omega.{arith}
 use Rattle.region_graph.specs.Items.{provides}
-use Rattle.region_graph.specs.Record.{meaning}
-use Rattle.region_graph.proofs.Storing.{bundles_stored, bundle_stored}
-use Rattle.region_graph.proofs.PlaceLoops.{bundles_reading, folding_start, folding_end}
-use Rattle.region_graph.proofs.Views.{held, held_none, holding_took, holding_left}
+use Rattle.region_graph.proofs.Views.{held_none, bundle_stored_at, holder_took, holder_left, holders_all}
+use Rattle.region_graph.proofs.Graph.holders.Goals.{then-bundle_provides, else-bundle_provides}
 use Rattle.region_graph.proofs.Graph.holders.Goals as goal
 
-pub loop-i-init : goal.loop-i-init
-loop-i-init c =
-    let s = c in
-    folding_start (bundles_reading s.args.self.bundles (bundles_stored s.args.self s.requires))
-    (held_none (λ b. b.region) (provides s.args.item))
+pub loop-b-init : goal.loop-b-init
+loop-b-init c = held_none (λ b. b.region) (provides c.args.item)
 
 pub bundle_provides-requires : goal.bundle_provides-requires
-bundle_provides-requires c =
-    let s = c in
-    bundle_stored s.args.self.bundles (bundles_stored s.args.self s.requires) c.loop-i.i _ (omega arith)
+bundle_provides-requires c = bundle_stored_at c.args.self.now c.requires c.bundles-b-items.ensures c.loop-b.b-index _ (omega arith)
 
-pub loop-i-preserved-then-bundle_provides : goal.loop-i-preserved-then-bundle_provides
-loop-i-preserved-then-bundle_provides c =
-    let a = c in
-    holding_took (λ b. b.region) (provides a.args.item) a.loop-i.invariant (omega arith) _
-    c.bundle_provides.ensures c.if-bundle_provides.true c.singleton-set.ensures
-
-pub loop-i-preserved : goal.loop-i-preserved
-loop-i-preserved c =
-    let a = c in
-    holding_left (λ b. b.region) (provides a.args.item) a.loop-i.invariant (omega arith) _ c.bundle_provides.ensures c.if-bundle_provides.false
+pub loop-b-preserved : goal.loop-b-preserved
+loop-b-preserved c =
+    let g = c.args.self.now in
+    elim c.if-bundle_provides.branch [
+      | then-bundle_provides w ↦
+          w.set-is
+          ∙ holder_took g c.requires c.args.item c.bundles-b-items.ensures (omega arith) c.loop-b.invariant _ c.bundle_provides.ensures
+          w.if-bundle_provides.true w.singleton-set.ensures
+      | else-bundle_provides w ↦
+          w.set-is
+          ∙ holder_left g c.requires c.args.item c.bundles-b-items.ensures (omega arith) c.loop-b.invariant _ c.bundle_provides.ensures
+          w.if-bundle_provides.false
+    ]
 
 pub returns : goal.returns
-unfolding meaning held
-returns c = folding_end c.loop-i.invariant (omega arith)
+returns c = holders_all c.args.self.now c.requires c.args.item c.bundles-b-items.ensures (omega arith) c.loop-b.invariant

@@ -1,61 +1,37 @@
-use mathlib.Core.Path.{◌≡◌, sym, ap, ◌∙◌}
-use mathlib.Core.Bool.{Bool}
-use native.Mathlib.Omega.{arith}
-use lib.ListN.{get_or}
+use mathlib.Core.Path.{◌≡◌, refl, ap, ◌∙◌}
+use Prim.Native.Nat.{ℕ}
+use Rattle.std.specs.Prelude.{Option, Some, None}
+use Rattle.std.specs.Bool.{then_some}
 use Rattle.region_graph.specs.Lists.{pick}
-use Rattle.region_graph.specs.Items.{provides}
-use Rattle.region_graph.specs.Record.{meaning, bundles_of, bundle_in}
-use Rattle.region_graph.specs.Promise.{provider_place}
-use Rattle.region_graph.specs.declared.Place.TheVariants.{Within, Nowhere}
-use Rattle.region_graph.specs.declared.bundles.StoredBundle.{StoredBundle}
-use Rattle.region_graph.proofs.Storing.{bundles_stored, bundle_stored}
-use Rattle.region_graph.proofs.PlaceLoops.{bundles_reading, reading_inside, reading_means}
-use Rattle.region_graph.proofs.PlaceLoops.{searching_start, searching_here, searching_later, searching_end}
-use Rattle.region_graph.proofs.Views.{provider_found, provider_missed}
+use mathlib.Core.Bool.{Bool, true, false}
+use Rattle.std.proofs.lemmas.Option.{MatchOption-at_none, MatchOption-at_some}
+use Rattle.region_graph.specs.Record.{meaning}
+use Rattle.region_graph.proofs.Views.{provider_told, installed_stored, bundles_stored_as}
 use Rattle.region_graph.proofs.Graph.provider.Goals as goal
 
-pub loop-i-init : goal.loop-i-init
-loop-i-init c = let s = c in searching_start (bundles_reading s.args.self.bundles (bundles_stored s.args.self s.requires))
+-- the answer by a test, and by what it computes
+provided : {b p : Bool} (r : ℕ) {o : Option ℕ} → b ≡ p → pick p (Some r) None ≡ o → then_some b r ≡ o
+provided {b} {p} r e f = ap (λ (t : Bool). then_some t r) e ∙ go p ∙ f
+  where
+    go : (t : Bool) → then_some t r ≡ pick t (Some r) None
+    go true = refl
+    go false = refl
 
 pub bundle_provides-requires : goal.bundle_provides-requires
 bundle_provides-requires c =
-    let a = c in
-    let s = a in
-    bundle_stored s.args.self.bundles (bundles_stored s.args.self s.requires) a.loop-i.i _ (omega arith)
-
-pub returns-then-bundle_provides : goal.returns-then-bundle_provides
-unfolding meaning
-returns-then-bundle_provides c =
-    let told : (e : StoredBundle) (t : Bool) → (let a = c in let s = a.args in let b = get_or s.self.bundles.items a.loop-i.i e in c.bundle_provides.result ≡ provides s.item (bundle_in b) → c.bundle_provides.result ≡ t → pick t (Within b.region) Nowhere ≡ provider_place (bundles_of s.self.bundles) s.location s.item) =
-    λ e t p q. let a = c in
-    let s = a.args in
-    let w = a.loop-i.invariant.reading in
-    let here = searching_here a.loop-i.invariant (omega arith) _ c.bundle_meets.ensures c.if-bundle_meets.true in
-    let read = reading_means w (omega arith) e in
-    (λ j. pick ((sym q ∙ p ∙ ap (provides s.item) read) j) (Within (read j).region) Nowhere)
-    ∙ rw here (provider_found s.location s.item (bundles_of s.self.bundles) (omega (arith, here, reading_inside w (omega arith)))) in
-    told _ _ c.bundle_provides.ensures c.if-bundle_provides.true
-
-pub returns-then-bundle_meets : goal.returns-then-bundle_meets
-unfolding meaning
-returns-then-bundle_meets c =
-    let told : (e : StoredBundle) (t : Bool) → (let a = c in let s = a.args in let b = get_or s.self.bundles.items a.loop-i.i e in c.bundle_provides.result ≡ provides s.item (bundle_in b) → c.bundle_provides.result ≡ t → pick t (Within b.region) Nowhere ≡ provider_place (bundles_of s.self.bundles) s.location s.item) =
-    λ e t p q. let a = c in
-    let s = a.args in
-    let w = a.loop-i.invariant.reading in
-    let here = searching_here a.loop-i.invariant (omega arith) _ c.bundle_meets.ensures c.if-bundle_meets.true in
-    let read = reading_means w (omega arith) e in
-    (λ j. pick ((sym q ∙ p ∙ ap (provides s.item) read) j) (Within (read j).region) Nowhere)
-    ∙ rw here (provider_found s.location s.item (bundles_of s.self.bundles) (omega (arith, here, reading_inside w (omega arith)))) in
-    told _ _ c.bundle_provides.ensures c.if-bundle_provides.false
+    let s = c.args.self.now in
+    MatchOption-at_some _ _ c.in_ok-b.b c.in_ok-b.was
+    (installed_stored c.args.location c.installed.result (meaning s).bundles c.bundles.ensures c.installed.ensures (bundles_stored_as s c.requires c.bundles.ensures))
 
 pub returns : goal.returns
-unfolding meaning
 returns c =
-    let a = c in
-    let s = a.args in
-    provider_missed s.location s.item (bundles_of s.self.bundles)
-    (omega (arith, a.loop-i.invariant.reading.filled.counted, searching_end a.loop-i.invariant (omega arith)))
+    c.then_some.ensures
+    ∙ provided c.in_ok-b.b.now.region c.bundle_provides.ensures
+    (MatchOption-at_some _ _ c.in_ok-b.b c.in_ok-b.was
+    (provider_told c.args.location c.installed.result (meaning c.args.self.now).bundles c.bundles.ensures c.installed.ensures c.args.item))
 
-pub loop-i-preserved : goal.loop-i-preserved
-loop-i-preserved c = searching_later c.loop-i.invariant (omega arith) _ c.bundle_meets.ensures c.if-bundle_meets.false
+pub returns-in_err-b : goal.returns-in_err-b
+returns-in_err-b c =
+    c.from_residual.ensures
+    ∙ MatchOption-at_none _ _ c.in_err-b.was
+    (provider_told c.args.location c.installed.result (meaning c.args.self.now).bundles c.bundles.ensures c.installed.ensures c.args.item)

@@ -1,30 +1,21 @@
-use mathlib.Core.Path.{refl}
-use Rattle.region_graph.proofs.Arrays.{prefix_counted}
-use Rattle.region_graph.proofs.FlatLaws.{entries_long, entries_found}
+use mathlib.Core.Path.{refl, sym, ◌∙◌}
+use Rattle.region_graph.specs.Size.{most_listed}
+use Rattle.region_graph.proofs.Codes.{entry_coded}
+use Rattle.region_graph.proofs.FlatLaws.{coded_none, entries_found}
 use Rattle.region_graph.proofs.flat.entries_at.Goals as goal
 
-pub returns-then-count-gt-MOST_LISTED : goal.returns-then-count-gt-MOST_LISTED
-returns-then-count-gt-MOST_LISTED c = let a = c.args in entries_long a.row.now a.at _ refl c.if-count-gt-MOST_LISTED.true
+pub returns-in_err-put_heads : goal.returns-in_err-put_heads
+returns-in_err-put_heads c =
+    coded_none entry_coded c.args.row.now c.args.at most_listed c.in_ok-codes.ensures c.in_err-put_heads.ensures
+    c.from_residual-in_err-put_heads.ensures
 
-pub slice_bounds-entries_ascending-end : goal.slice_bounds-entries_ascending-end
-slice_bounds-entries_ascending-end c =
-    let n = c in
-    prefix_counted _ _ n.numbers-2-1.given n.if-count-gt-MOST_LISTED.false
-
-pub slice_bounds-entries_ascending-end-2 : goal.slice_bounds-entries_ascending-end-2
-slice_bounds-entries_ascending-end-2 c =
-    let n = c in
-    prefix_counted _ _ n.lowest-2-1.given n.if-count-gt-MOST_LISTED.false
-
-pub slice_bounds-entries_ascending-end-3 : goal.slice_bounds-entries_ascending-end-3
-slice_bounds-entries_ascending-end-3 c =
-    let n = c in
-    prefix_counted _ _ n.highest-2-1.given n.if-count-gt-MOST_LISTED.false
+pub returns-then-not-entries_ascending : goal.returns-then-not-entries_ascending
+returns-then-not-entries_ascending c =
+    entries_found c.args.row.now c.args.at c.in_ok-codes.ensures c.in_ok-put_heads.ensures c.put_tails.ensures c.put_tails-2.ensures
+    (sym c.if-not-entries_ascending.true ∙ c.entries_ascending.ensures) refl
 
 pub returns : goal.returns
 returns c =
-    let t = c in
-    let h = t in
-    let s = h in
-    entries_found s.args.row.now s.args.at _ refl h.if-count-gt-MOST_LISTED.false s.requires h.put_heads-words.ensures t.put_ranges-ordered.ensures
-    c.entries_ascending-ascend.ensures
+    rw c.then_some.ensures
+    (entries_found c.args.row.now c.args.at c.in_ok-codes.ensures c.in_ok-put_heads.ensures c.put_tails.ensures c.put_tails-2.ensures
+    (sym c.if-not-entries_ascending.false ∙ c.entries_ascending.ensures) c.entries_ordered.ensures)

@@ -1,23 +1,11 @@
-use mathlib.Core.Path.{refl, sym}
-use native.Mathlib.Omega.{arith}
-use lib.Seq.{length-take-le}
-use Rattle.region_graph.proofs.FlatLaws.{list_long, list_found}
+use Rattle.region_graph.proofs.FlatLaws.{list_wide, list_found}
 use Rattle.region_graph.proofs.flat.list_at.Goals as goal
 
-pub returns-then-places-count : goal.returns-then-places-count
-returns-then-places-count c =
-    let a = c.args in
-    list_long a.row.now a.at _ refl a.places.now c.if-places-count.true
-
-pub slice_bounds-ascending-end-2 : goal.slice_bounds-ascending-end-2
-slice_bounds-ascending-end-2 c =
-    let h = c in
-    sym (length-take-le _ _ (omega (arith, h.put_heads-words.ensures.long, h.if-places-count.false)))
+pub returns-in_err-put_heads : goal.returns-in_err-put_heads
+returns-in_err-put_heads c =
+    list_wide c.args.row.now c.args.at c.args.places.now c.in_ok-codes.ensures c.in_err-put_heads.ensures c.from_residual-in_err-put_heads.ensures
 
 pub returns : goal.returns
 returns c =
-    let h = c in
-    let f = h in
-    let s = f in
-    let a = s.args in
-    list_found a.row.now a.at _ refl a.places.now f.if-places-count.false s.requires h.put_heads-words.ensures c.ascending-ascend.ensures
+    rw c.then_some.ensures
+    (list_found c.args.row.now c.args.at c.args.places.now c.in_ok-codes.ensures c.in_ok-put_heads.ensures c.ascending.ensures)

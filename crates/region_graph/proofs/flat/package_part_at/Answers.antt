@@ -1,14 +1,15 @@
-use Rattle.region_graph.specs.Model.{entry_before, LegalEntry}
+use mathlib.Core.Path.{ap}
+use Rattle.std.specs.Prelude.{Some}
+use Rattle.region_graph.specs.Model.{Part, entry_before, LegalEntry}
 use Rattle.region_graph.specs.Flat.{entry_code, map_part, FlatPart}
-use Rattle.region_graph.proofs.FlatLaws.{part_all, part_listed}
+use Rattle.region_graph.specs.Decoded.{Decoded}
+use Rattle.region_graph.proofs.FlatLaws.{part_listed}
 use Rattle.region_graph.proofs.flat.package_part_at.Goals as goal
 
 pub returns-then-row-at-eq-EVERYTHING : goal.returns-then-row-at-eq-EVERYTHING
-returns-then-row-at-eq-EVERYTHING c =
-    let a = c.args in
-    part_all entry_before LegalEntry (λ p. FlatPart a.row.now a.at (map_part entry_code p)) c.if-row-at-eq-EVERYTHING.true c.every_package-entries.ensures
+returns-then-row-at-eq-EVERYTHING c = Decoded.found Part.everything tt c.if-row-at-eq-EVERYTHING.true (ap Some c.every_package.ensures)
 
 pub returns : goal.returns
 returns c =
-    let a = c.args in
-    part_listed entry_before LegalEntry (λ p. FlatPart a.row.now a.at (map_part entry_code p)) c.if-row-at-eq-EVERYTHING.false c.entries_at.ensures
+    part_listed entry_before LegalEntry (λ p. FlatPart c.args.row.now c.args.at (map_part entry_code p)) c.if-row-at-eq-EVERYTHING.false
+    c.entries_at.ensures

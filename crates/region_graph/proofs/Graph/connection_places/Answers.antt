@@ -1,7 +1,0 @@
-use Rattle.region_graph.specs.Record.{meaning}
-use Rattle.region_graph.proofs.Storing.{connections_stored, connections_filled}
-use Rattle.region_graph.proofs.Graph.connection_places.Goals as goal
-
-pub returns : goal.returns
-unfolding meaning
-returns c = (connections_filled c.args.self.connections (connections_stored c.args.self c.requires)).shape

@@ -55,18 +55,3 @@ pub fn has_number(list: &[u32], number: u32) -> bool
 {
     list.contains(&number)
 }
-
-// A lent list as a value of its own.
-pub fn copied(list: &[u32]) -> Numbers
-    requires { length list.now ≤ most_listed }
-    ensures { result ≡ store_numbers list.now }
-{
-    Numbers::from_slice(list)
-}
-
-pub fn provided_copied(list: &[u32]) -> Provided
-    requires { length list.now ≤ most_provided }
-    ensures { result ≡ store_provided list.now }
-{
-    Provided::from_slice(list)
-}

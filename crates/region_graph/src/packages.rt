@@ -265,32 +265,6 @@ impl Entries {
     }
 }
 
-// How many packages two lists hand in.
-pub fn package_count(numbers: &[u32], versions: &[u16]) -> usize
-    ensures { result ≡ length (packages numbers.now versions.now) }
-{
-    PackageList { numbers, versions }.count()
-}
-
-// How many entries three lists hand in.
-pub fn entry_count(numbers: &[u32], lowest: &[u16], highest: &[u16]) -> usize
-    ensures { result ≡ length (entries numbers.now lowest.now highest.now) }
-{
-    let entries = EntryList {
-        numbers,
-        lowest,
-        highest,
-    };
-    entries.count()
-}
-
-// Whether packages strictly ascend by number, then version.
-pub fn packages_ascending(numbers: &[u32], versions: &[u16]) -> bool
-    ensures { result ≡ ascends package_before (packages numbers.now versions.now) }
-{
-    PackageList { numbers, versions }.ascends()
-}
-
 // Whether packages have one.
 pub fn has_package(numbers: &[u32], versions: &[u16], number: u32, version: u16) -> bool
     ensures { result ≡ exists (is_package number version) (packages numbers.now versions.now) }
@@ -298,78 +272,9 @@ pub fn has_package(numbers: &[u32], versions: &[u16], number: u32, version: u16)
     PackageList { numbers, versions }.has(number, version)
 }
 
-// Whether entries strictly ascend by number.
-pub fn entries_ascending(numbers: &[u32], lowest: &[u16], highest: &[u16]) -> bool
-    ensures { result ≡ ascends entry_before (entries numbers.now lowest.now highest.now) }
-{
-    let entries = EntryList {
-        numbers,
-        lowest,
-        highest,
-    };
-    entries.ascends()
-}
-
-// Whether no entry's lowest version exceeds its highest.
-pub fn entries_ordered(numbers: &[u32], lowest: &[u16], highest: &[u16]) -> bool
-    ensures { result ≡ every ordered (entries numbers.now lowest.now highest.now) }
-{
-    let entries = EntryList {
-        numbers,
-        lowest,
-        highest,
-    };
-    entries.ordered()
-}
-
 // Whether a version lies between two.
 fn lies_between(version: u16, lowest: u16, highest: u16) -> bool
     ensures { result ≡ (leb lowest version && leb version highest) }
 {
     lowest <= version && version <= highest
-}
-
-// Whether an entry passes a package.
-pub fn entries_pass(
-    numbers: &[u32],
-    lowest: &[u16],
-    highest: &[u16],
-    number: u32,
-    version: u16,
-) -> bool
-    ensures { result ≡ exists (entry_passes number version) (entries numbers.now lowest.now highest.now) }
-{
-    let entries = EntryList {
-        numbers,
-        lowest,
-        highest,
-    };
-    entries.passes(number, version)
-}
-
-// Packages that lists hand in as a value of their own.
-pub fn packages_copied(numbers: &[u32], versions: &[u16]) -> Packages
-    requires { length (packages numbers.now versions.now) ≤ most_provided }
-    ensures { result ≡ store_packages (packages numbers.now versions.now) }
-{
-    Packages::from_list(PackageList { numbers, versions })
-}
-
-// Entries that lists hand in as a value of their own.
-pub fn entries_copied(numbers: &[u32], lowest: &[u16], highest: &[u16]) -> Entries
-    requires { length (entries numbers.now lowest.now highest.now) ≤ most_listed }
-    ensures { result ≡ store_entries (entries numbers.now lowest.now highest.now) }
-{
-    Entries::from_list(EntryList {
-        numbers,
-        lowest,
-        highest,
-    })
-}
-
-// A package part that is everything.
-pub fn every_package() -> Entries
-    ensures { result ≡ store_package_part Part.everything }
-{
-    Entries::everything()
 }

@@ -1,15 +1,13 @@
 -- Packages and entries as columns: their parts at equal places of lists, of which the shortest counts.
 use mathlib.Core.Path.{◌≡◌, refl, sym, ap, ◌∙◌}
-use mathlib.Core.Bool.{Bool}
 use mathlib.Core.List.{List, [], ◌∷◌, ◌++◌, map}
 use Prim.Native.Nat.{ℕ, zero, suc, ◌-◌, ◌≤◌, ◌<◌, min}
 use native.Mathlib.Omega.{arith}
 use lib.Dec.{ltb}
 use lib.ListN.{length, get_or, take, drop, replicate, length-map, length-replicate}
 use lib.Seq.{length-take-le}
-use Rattle.std.specs.List.{zip, list_any, list_all}
 use Rattle.region_graph.specs.Size.{most_provided, most_listed}
-use Rattle.region_graph.specs.Lists.{All, exists, every, ascends}
+use Rattle.region_graph.specs.Lists.{All, ascends}
 use Rattle.region_graph.specs.Model.{Package, PackageEntry, packages, entries, package_before, entry_before, Word, Version, PackageFits, EntryFits}
 use Rattle.region_graph.specs.Record.{places, store_packages, store_entries}
 use Rattle.region_graph.specs.Places.{put_into}
@@ -163,29 +161,6 @@ entries_put ns ls hs e h f g k = λ i. record {
   lowest = column_put (λ x. x.lowest) most_listed (entries ns ls hs) ls e h (entry_lowest ns ls hs) g i;
   highest = column_put (λ x. x.highest) most_listed (entries ns ls hs) hs e h (entry_highest ns ls hs) k i;
 }
-
--- what `any` answers over the columns side by side
-
-pub packages_any : (q : ℕ × ℕ → Bool) (p : Package → Bool) → ((n v : ℕ) → q (n, v) ≡ p (record { number = n; version = v })) → (ns vs : List ℕ)
-    → list_any q (zip ns vs) ≡ exists p (packages ns vs)
-packages_any q p agree [] vs = refl
-packages_any q p agree (n ∷ ns) [] = refl
-packages_any q p agree (n ∷ ns) (v ∷ vs) = rw (agree n v, packages_any q p agree ns vs)
-
-pub entries_any : (q : ℕ × (ℕ × ℕ) → Bool) (p : PackageEntry → Bool) → ((n l h : ℕ) → q (n, (l, h)) ≡ p (record { number = n; lowest = l; highest = h }))
-    → (ns ls hs : List ℕ) → list_any q (zip ns (zip ls hs)) ≡ exists p (entries ns ls hs)
-entries_any q p agree [] ls hs = refl
-entries_any q p agree (n ∷ ns) [] hs = refl
-entries_any q p agree (n ∷ ns) (l ∷ ls) [] = refl
-entries_any q p agree (n ∷ ns) (l ∷ ls) (h ∷ hs) = rw (agree n l h, entries_any q p agree ns ls hs)
-
--- and `all`
-pub entries_all : (q : ℕ × (ℕ × ℕ) → Bool) (p : PackageEntry → Bool) → ((n l h : ℕ) → q (n, (l, h)) ≡ p (record { number = n; lowest = l; highest = h }))
-    → (ns ls hs : List ℕ) → list_all q (zip ns (zip ls hs)) ≡ every p (entries ns ls hs)
-entries_all q p agree [] ls hs = refl
-entries_all q p agree (n ∷ ns) [] hs = refl
-entries_all q p agree (n ∷ ns) (l ∷ ls) [] = refl
-entries_all q p agree (n ∷ ns) (l ∷ ls) (h ∷ hs) = rw (agree n l h, entries_all q p agree ns ls hs)
 
 -- a column that is copied into the first of so many cleared places
 module _ (size count : ℕ) (xs : List ℕ) (e : count ≡ length (take count xs)) where

@@ -1,5 +1,5 @@
 -- What the functions of the record ask of its parts, and what those that leave out elements or put one in promise.
-use Rattle.std.specs.Prelude.{◌≡◌, Bool, true, false, ◌&&◌, ◌||◌, List, ◌∷◌, ◌++◌, ℕ, ◌+◌, ◌-◌, ◌≤◌, eqb, ltb, length, take, drop, replicate, filter}
+use Rattle.std.specs.Prelude.{◌≡◌, Bool, true, false, List, ◌∷◌, ◌++◌, ℕ, ◌+◌, ◌-◌, ◌≤◌, length, take, drop, replicate, filter}
 use Rattle.std.specs.List.Sorted.{IsPartitionedBy, IsPartitionPoint}
 use Rattle.region_graph.specs.Size.{most_bundles, most_connections, most_listed, most_provided}
 use Rattle.region_graph.specs.Lists.{All}

@@ -3,7 +3,7 @@ use mathlib.Core.Bool.{false}
 use native.Mathlib.Omega.{arith}
 use borrow.Author.Tests.{eq-eqb, ne_eqb}
 use lib.ListN.{get_or}
-use Rattle.region_graph.specs.Model.{Package, packages}
+use Rattle.region_graph.specs.Model.{Package}
 use Rattle.region_graph.specs.Items.{is_package}
 use Rattle.region_graph.specs.Handed.{package_list}
 use Rattle.region_graph.proofs.Lists.{and_yes, and_left, and_right, exists_here, exists_later, exists_end}

@@ -9,11 +9,6 @@ pub returns-in-Bundle : goal.returns-in-Bundle
 unfolding packages_of store_packages
 returns-in-Bundle c = rw c.in-Bundle.is (record { stored = refl; good = omega arith }, refl)
 
-pub returns-in-Package : goal.returns-in-Package
-returns-in-Package c =
-    let s = c in
-    rw c.in-Package.is (packages_stored s.args.b.now s.requires, refl)
-
 pub returns-in-Service : goal.returns-in-Service
 returns-in-Service c =
     let s = c in

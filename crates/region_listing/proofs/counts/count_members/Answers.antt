@@ -11,9 +11,6 @@ turn c =
     let a = c.loop-left.invariant.1 in
     taken a.word (above_none _ c.loop-left-test.true) c.lowest-n.ensures c.without_lowest-left.ensures
 
-pub loop-left-init : goal.loop-left-init
-loop-left-init c = (c.requires, adding_start c.requires (search rules))
-
 pub overflow_add-counts : goal.overflow_add-counts
 overflow_add-counts c =
     omega (arith, adding_room c.loop-left.invariant.0 c.loop-left.invariant.1 (turn (goal.at.overflow_add-counts c).After-without_lowest-left).low)
@@ -26,9 +23,3 @@ loop-left-preserved c = (c.loop-left.invariant.0, adding_more c.loop-left.invari
 
 pub returns : goal.returns
 returns c = adding_end c.loop-left-test.false c.loop-left.invariant.1
-
-pub lowest-n-requires : goal.lowest-n-requires
-lowest-n-requires c = tt
-
-pub without_lowest-left-requires : goal.without_lowest-left-requires
-without_lowest-left-requires c = tt

@@ -46,10 +46,3 @@ loop-i-preserved c =
     the-invariant d =
         (c.args.list.now.count ≡ length (packages_of c.args.list.now)) × PackagesStored c.args.list.now
         × Joining (items_in c.args.self.now) (packages_of c.args.list.now) d.numbers d.versions d.count (c.loop-i.i + 1)
-
-pub returns : goal.returns
-returns c =
-    let l = c.loop-i in
-    let s = c.args in
-    let e : take l.i (packages_of s.list.now) ≡ packages_of s.list.now = take_all l.i (packages_of s.list.now) (omega (arith, l.invariant.0)) in
-    subst (λ (ps : List Package). Collected l.self (joined_all (items_in s.self.now) ps)) e l.invariant.2.those

@@ -270,11 +270,6 @@ module _ {g : Graph} (v : Valid g) {items : List StoredBundle} (s : items ≡ ma
         ∙ sym (held_next k (meaning g).bundles i (omega (arith, bundles_long))))
         r
 
-  -- there is no further bundle
-  pub collecting_end : {i : ℕ} → length items ≤ i → {c : Collection} → Collected c (held k (take i (meaning g).bundles)) → Collected c (held k (meaning g).bundles)
-  collecting_end {i} l {c} h =
-      subst (λ (bs : List Bundle). Collected c (held k bs)) (take_all i (meaning g).bundles (omega (arith, bundles_long))) h
-
 -- the different packages of a list are those that it has
 same_equal : (p x : Package) → same_pair p x ≡ true → p ≡ x
 same_equal p x e =

@@ -8,7 +8,7 @@ use native.Mathlib.Omega.{arith}
 use borrow.Author.Tests.{eqb-true}
 use lib.Dec.{eqb}
 use lib.ListN.{length, get_or, take, set, replicate, length-append, length-map, length-set, replicate-append-replicate}
-use lib.Seq.{take-suc, take_all, take-suc-set, take-length, length-take-le, get_or-take}
+use lib.Seq.{take-suc, take-suc-set, take-length, length-take-le, get_or-take}
 use Rattle.region_graph.specs.Size.{most_bundles, most_provided}
 use Rattle.region_graph.specs.Lists.{All, pick, exists, concat_map}
 use Rattle.region_graph.specs.Model.{Package, packages, Bundle}

@@ -1,7 +1,7 @@
 use mathlib.Core.Path.{refl}
 use native.Mathlib.Omega.{arith}
 use Rattle.region_graph.specs.Record.{packages_of, store_packages}
-use Rattle.region_graph.proofs.Storing.{packages_stored, services_stored, provided_filled}
+use Rattle.region_graph.proofs.Storing.{services_stored, provided_filled}
 use Rattle.region_listing.proofs.Collecting.{cleared_stored}
 use Rattle.region_listing.proofs.collection.provided_by.Goals as goal
 

@@ -1,7 +1,6 @@
 use native.Mathlib.Omega.{arith}
-use borrow.Author.Rules.{rules}
 use Rattle.region_routes.proofs.SearchLoops.{above_none, Taken, taken}
-use Rattle.region_listing.proofs.Counting.{adding_start, adding_room, adding_more, adding_end}
+use Rattle.region_listing.proofs.Counting.{adding_room, adding_more, adding_end}
 use Rattle.region_listing.proofs.counts.count_members.Goals as goal
 use Rattle.region_listing.proofs.counts.count_members.Goals.{After-without_lowest-left}
 

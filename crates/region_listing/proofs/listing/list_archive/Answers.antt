@@ -1,8 +1,5 @@
 use mathlib.Core.Path.{ap, ◌∙◌}
-use Prim.Native.Nat.{ℕ}
-use native.Mathlib.Omega.{arith}
-use lib.ListN.{length, length-replicate}
-use Rattle.region_listing.specs.Listing.{longest_text, store_text}
+use Rattle.region_listing.specs.Listing.{store_text}
 use Rattle.region_listing.proofs.ListingLaws.{text_stored, refused_text, accepted_text}
 use Rattle.region_listing.proofs.listing.list_archive.Goals as goal
 

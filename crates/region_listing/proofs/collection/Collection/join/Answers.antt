@@ -1,15 +1,11 @@
 use mathlib.Core.Path.{◌≡◌, sym, subst}
-use mathlib.Core.List.{List}
 use native.Mathlib.Omega.{arith}
 use Prim.Native.Nat.{◌+◌}
-use lib.ListN.{length, take}
-use lib.Seq.{take_all}
-use Rattle.region_graph.specs.Model.{Package}
+use lib.ListN.{length}
 use Rattle.region_graph.specs.Record.{packages_of}
 use Rattle.region_graph.specs.Places.{PackagesStored}
 use Rattle.region_graph.proofs.Storing.{numbers_column}
-use Rattle.region_listing.specs.Listing.{joined_all}
-use Rattle.region_listing.specs.Counts.{items_in, Collected}
+use Rattle.region_listing.specs.Counts.{items_in}
 use Rattle.region_listing.specs.declared.collection.Collection.{Collection}
 use Rattle.region_listing.proofs.Collecting.{stored_at}
 use Rattle.region_listing.proofs.Collecting.{Joining, joining_room, joining_left, joining_took}

@@ -13,7 +13,7 @@ use Rattle.region_graph.specs.Model.{Model, Legal}
 use Rattle.region_graph.specs.Record.{Valid, meaning}
 use Rattle.region_graph.specs.Promise.{Empty}
 use Rattle.region_graph.specs.declared.Graph.{Graph}
-use Rattle.region_graph.specs.declared.Changed.{Changed}
+use Rattle.region_graph.specs.Promise.{Changed}
 use Rattle.region_graph.specs.Calls.{Question, first_no}
 use Rattle.region_graph.proofs.Lists.{false_true}
 use Rattle.region_graph.proofs.Legal.{all_yes}
@@ -22,7 +22,7 @@ use Rattle.region_routes.specs.Hooks.{Outcome, written}
 use Rattle.region_archive.specs.Image.{image, image_in, in_version}
 use Rattle.region_archive.specs.File.{FileMeaning, means, means_none, read_questions, read_number, read_model}
 use Rattle.region_archive.specs.Promise.{archived, image_outcome, write_questions, write_outcome, Reads, ReadsOver}
-use Rattle.region_archive.specs.declared.Written.{Written}
+use Rattle.region_archive.specs.Promise.{Written}
 use Rattle.region_archive.proofs.FileReads.{accepted, refused_model}
 use Rattle.region_archive.proofs.OneImage.{first_version}
 use Rattle.region_archive.proofs.Meaning.{file_meaning}

@@ -5,7 +5,7 @@ use Rattle.region_graph.specs.Lists.{member}
 use Rattle.region_graph.specs.Model.{Model}
 use Rattle.region_graph.specs.Promise.{place_of}
 use Rattle.region_graph.specs.declared.Item.{Item}
-use Rattle.region_graph.specs.declared.Place.TheVariants.{Within}
+use Rattle.std.specs.Prelude.{Some}
 use Rattle.region_routes.specs.Chosen.{PassesTo, HeldAt}
 use Rattle.region_routes.specs.Resolve.{Candidate, package_of}
 use Rattle.demands.specs.Claim.{exports}
@@ -30,7 +30,7 @@ NetRegions m net = (i : Item) → LeastSolution m.regions (PassesTo m i) (HeldAt
 
 -- section 1.5: r is the region containing the bundle that exports the candidate
 abbrev pub ExportedIn : Model → Candidate → ℕ → Type 0
-ExportedIn m c r = (place_of m.bundles c.exporter ≡ Within r) × (exports m c ≡ true)
+ExportedIn m c r = (place_of m.bundles c.exporter ≡ Some r) × (exports m c ≡ true)
 
 -- `net c r`: the candidate is in the net region of r; only the exporter's region has the package of its own
 abbrev pub ExporterNetRegions : Model → (Candidate → ℕ → Type 0) → Type 1

@@ -8,7 +8,7 @@ use Rattle.region_routes.specs.Hooks.{written}
 use Rattle.region_archive.specs.Image.{latest, unversioned}
 use Rattle.region_archive.specs.File.{FileMeaning, is_image, read_model}
 use Rattle.region_archive.specs.Promise.{written_as}
-use Rattle.region_archive.specs.declared.Written.{Written}
+use Rattle.region_archive.specs.Promise.{Written}
 use Rattle.region_convert.specs.Conversion.{forward_questions, back_questions}
 use Rattle.region_convert.proofs.forward.Reads as forward
 use Rattle.region_convert.proofs.back.Reads as back

@@ -15,11 +15,12 @@ use Rattle.region_graph.specs.Model.{Package, PackageEntry, packages, entries, B
 use Rattle.region_graph.specs.Lists.{pick}
 use Rattle.region_graph.specs.Flat.{package_code, entry_code, map_part}
 use Rattle.region_graph.specs.Record.{places, store_packages, packages_of, store_entries, entries_of, store_package_part, package_part_in}
+use Rattle.region_graph.specs.Record.{list_of, store_list}
 use Rattle.region_graph.specs.Record.{number_places, numbers_of, store_numbers, store_provided, provided_of}
 use Rattle.region_graph.specs.Record.{store_part, part_in, store_bundle, store_connection}
 use Rattle.region_graph.specs.Places.{Short, ShortPart, ShortBundle, ShortConnection}
-use Rattle.region_graph.specs.declared.numbers.Numbers.{Numbers}
-use Rattle.region_graph.specs.declared.numbers.Provided.{Provided}
+use Rattle.region_graph.specs.Record.{Numbers}
+use Rattle.region_graph.specs.Record.{Provided}
 use Rattle.region_graph.specs.declared.packages.Packages.{Packages}
 use Rattle.region_graph.specs.declared.packages.Entries.{Entries}
 use Rattle.region_graph.proofs.Lists.{concat_length}
@@ -43,11 +44,11 @@ places_fit most xs h =
     record { count = h; size = filled_length f }
 
 pub numbers_fit : (xs : List ℕ) → Short most_listed xs → NumbersFit (store_numbers xs)
-unfolding store_numbers
+unfolding store_list
 numbers_fit xs h = places_fit most_listed xs h
 
 pub provided_fit : (xs : List ℕ) → Short most_provided xs → ProvidedFits (store_provided xs)
-unfolding store_provided
+unfolding store_list
 provided_fit xs h = places_fit most_provided xs h
 
 -- a list that fits is not longer than its places, and its count is the length of its part of them
@@ -207,7 +208,7 @@ module _ (n : Provided) (h : ProvidedFits n) {r : Codes} (e : r ≡ as_codes n.c
   provided_fits = coded_fits n.count n.items (λ i. omega (arith, h.count, h.size)) (omega (arith, h.size)) e
 
   pub provided_part : part_of r ≡ Part.listed (provided_of n)
-  unfolding provided_of
+  unfolding list_of
   provided_part = coded_list n.count n.items (λ i. omega (arith, h.count, h.size)) (omega (arith, h.size)) e (λ i. omega (arith, h.count))
 
 module _ (n : Numbers) (h : PartFits n.count n.items) {r : Codes} (e : r ≡ as_codes n.count n.items) where
@@ -215,12 +216,12 @@ module _ (n : Numbers) (h : PartFits n.count n.items) {r : Codes} (e : r ≡ as_
   numbers_fits = coded_fits n.count n.items (λ i. omega (arith, h.count i, h.size)) (omega (arith, h.size)) e
 
   pub numbers_part : part_of r ≡ part_in n
-  unfolding numbers_of
+  unfolding list_of
   numbers_part = coded_part n.count n.items (λ i. omega (arith, h.count i, h.size)) (omega (arith, h.size)) e
 
 -- a list has not the sign
 pub list_in : (n : Numbers) → NumbersFit n → part_in n ≡ Part.listed (numbers_of n)
-unfolding numbers_of
+unfolding list_of
 list_in n h = part_listed n.count n.items (λ e. omega (arith, h.count))
 
 -- and so do a part, a bundle and a connection of short lists

@@ -1,6 +1,5 @@
 -- Arrays whose first places hold a list: filling one, and reading, for any element, store and size.
 use mathlib.Core.Path.{◌≡◌, refl, sym, ap, ◌∙◌}
-use mathlib.Core.Bool.{Bool, true, false, not}
 use mathlib.Core.List.{List, [], ◌∷◌, ◌++◌, map}
 use Prim.Native.Nat.{ℕ, zero, suc, ◌+◌, ◌-◌, ◌≤◌, ◌<◌}
 use native.Mathlib.Numerals.{add-one}
@@ -8,9 +7,9 @@ use native.Mathlib.Nat.{sub-zero}
 use native.Mathlib.Omega.{arith}
 use lib.ListN.{length, get_or, take, drop, set, replicate, length-append, length-replicate, length-map, length-set, get_or-append}
 use lib.Seq.{take-suc, drop-cons, set_at, append_snoc, take-length, length-take-le, take_at}
-use Rattle.region_graph.specs.Lists.{All, keep, exists, position}
+use Rattle.region_graph.specs.Lists.{All}
 use Rattle.region_graph.specs.Record.{places}
-use Rattle.region_graph.proofs.Lists.{all_at, map_append, exists_found, exists_missed, exists_fewer, exists_as_many}
+use Rattle.region_graph.proofs.Lists.{all_at, map_append}
 
 module _ {A B : Type 0} (f : A → B) where
   pub map_take : (n : ℕ) (xs : List A) → map f (take n xs) ≡ take n (map f xs)
@@ -73,20 +72,6 @@ module _ {A B : Type 0} {store : A → B} {none : B} {size : ℕ} where
     -- what the value at a place means, where each element comes back
     pub filled_means : (out : B → A) → All (λ x. out (store x) ≡ x) xs → (i : ℕ) (e : B) (d : A) → i < count → out (get_or items i e) ≡ get_or xs i d
     filled_means out back i e d k = ap out (filled_at i e d k) ∙ all_at (λ x. out (store x) ≡ x) xs i d (filled_inside i k) back
-
-    -- a search by place that ended within the count, and one that did not
-    pub filled_found : (p : A → Bool) {k : ℕ} → k ≡ position p xs → k < count → exists p xs ≡ true
-    filled_found p e l = exists_found p xs (omega (arith, h.counted))
-
-    pub filled_missed : (p : A → Bool) {k : ℕ} → k ≡ position p xs → count ≤ k → exists p xs ≡ false
-    filled_missed p e l = exists_missed p xs (omega (arith, h.counted))
-
-    -- a filter that left as many elements as the count, and one that did not
-    pub filled_whole : (p : A → Bool) {k : ℕ} → k ≡ length (keep (λ x. not (p x)) xs) → k ≡ count → exists p xs ≡ false
-    filled_whole p e l = exists_as_many p xs (sym e ∙ l ∙ h.counted)
-
-    pub filled_fewer : (p : A → Bool) {k : ℕ} → k ≡ length (keep (λ x. not (p x)) xs) → (k ≡ count → ⊥) → exists p xs ≡ true
-    filled_fewer p e l = exists_fewer p xs (λ q. l (e ∙ q ∙ sym h.counted))
 
     -- the next place takes one element more
     pub filled_more : (x : A) → count < size → Filled store none size (set items count (store x)) (count + 1) (xs ++ (x ∷ []))

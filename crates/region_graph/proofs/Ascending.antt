@@ -236,18 +236,6 @@ module _ {A : Type 0} (before : A → A → Bool) where
           → false ≡ ascends before xs
       steps_stop t e = sym (e ∙ step_next ∙ and_left (ascends before (drop i xs)) t)
 
--- of numbers
-module _ (xs : List ℕ) (i : ℕ) (pos : 1 ≤ i) where
-  pub ascends_end : length xs ≤ i → ascends ltb xs ≡ ascends ltb (drop (i - 1) xs) → true ≡ ascends ltb xs
-  ascends_end = steps_end ltb xs i pos
-
-  pub ascends_later : i < length xs → get_or xs (i - 1) 0 < get_or xs i 0 → ascends ltb xs ≡ ascends ltb (drop (i - 1) xs)
-      → ascends ltb xs ≡ ascends ltb (drop (i + 1 - 1) xs)
-  ascends_later h t = steps_later ltb xs i pos 0 h (lt-ltb _ _ t)
-
-  pub ascends_stop : i < length xs → get_or xs i 0 ≤ get_or xs (i - 1) 0 → ascends ltb xs ≡ ascends ltb (drop (i - 1) xs) → false ≡ ascends ltb xs
-  ascends_stop h t = steps_stop ltb xs i pos 0 h (le-ltb _ _ t)
-
 -- an ascending list of numbers below k is what a count to k meets
 
 abbrev Span : ℕ → ℕ → ℕ → Type 0

@@ -1,10 +1,10 @@
 -- Packages and entries as columns: their parts at equal places of lists, of which the shortest counts.
-use mathlib.Core.Path.{◌≡◌, refl, sym, ap}
-use mathlib.Core.List.{List, [], ◌∷◌, map}
+use mathlib.Core.Path.{◌≡◌, refl, sym, ap, ◌∙◌}
+use mathlib.Core.List.{List, [], ◌∷◌, ◌++◌, map}
 use Prim.Native.Nat.{ℕ, zero, suc, ◌-◌, ◌≤◌, ◌<◌, min}
 use native.Mathlib.Omega.{arith}
 use lib.Dec.{ltb}
-use lib.ListN.{length, get_or, take, replicate, length-map}
+use lib.ListN.{length, get_or, take, drop, replicate, length-map, length-replicate}
 use lib.Seq.{length-take-le}
 use Rattle.region_graph.specs.Size.{most_provided, most_listed}
 use Rattle.region_graph.specs.Lists.{All, ascends}
@@ -161,3 +161,11 @@ entries_put ns ls hs e h f g k = λ i. record {
   lowest = column_put (λ x. x.lowest) most_listed (entries ns ls hs) ls e h (entry_lowest ns ls hs) g i;
   highest = column_put (λ x. x.highest) most_listed (entries ns ls hs) hs e h (entry_highest ns ls hs) k i;
 }
+
+-- a column that is copied into the first of so many cleared places
+module _ (size count : ℕ) (xs : List ℕ) (e : count ≡ length (take count xs)) where
+  pub alike : count ≤ size → length (take count (replicate {A = ℕ} size 0)) ≡ length (take count xs)
+  alike l = length-take-le count (replicate {A = ℕ} size 0) (rw length-replicate l) ∙ e
+
+  pub copied_in : {new : List ℕ} → new ≡ take count xs → new ++ drop count (replicate size 0) ≡ put_into (replicate size 0) (take count xs)
+  copied_in f = rw f (ap (λ (k : ℕ). take count xs ++ drop k (replicate size 0)) e)

@@ -99,7 +99,7 @@ module _ {A B : Type 0} {store : A → B} {none : B} {size : ℕ} {items : List 
         let b : before x (get_or xs j x) ≡ false = not-true _ (sym (test_at j d n) ∙ rw f at e) in
         let k = none_after before strict x xs j x n rising b in
         let a : before x (get_or xs i x) ≡ false
-            = rw (get_or-take (suc j) xs i x (omega arith)) at (all_at (λ y. before x y ≡ false) (take (suc j) xs) i x (rw length-take (omega arith)) k) in
+        = rw (get_or-take (suc j) xs i x (omega arith)) at (all_at (λ y. before x y ≡ false) (take (suc j) xs) i x (rw length-take (omega arith)) k) in
         rw f (test_at i d (omega arith) ∙ ap not a)
 
     -- the new one stands where it comes before all that follow
@@ -111,21 +111,31 @@ module _ {A B : Type 0} {store : A → B} {none : B} {size : ℕ} {items : List 
         let f = filled_taken h in
         let n : at ≤ length xs = omega (arith, h.counted, within) in
         let low : All (λ y. before x y ≡ false) (take at xs)
-            = all_of (λ y. before x y ≡ false) x (take at xs) (λ i m.
-              let k : i < at = omega (arith, rw length-take at m) in
-              rw (get_or-take at xs i x k) (not-true _ (sym (test_at i (store x) (omega arith)) ∙ rw f at (point.0 i (store x) (omega arith) k)))) in
+        = all_of (λ y. before x y ≡ false) x (take at xs) (λ i m.
+        let k : i < at = omega (arith, rw length-take at m) in
+        rw (get_or-take at xs i x k) (not-true _ (sym (test_at i (store x) (omega arith)) ∙ rw f at (point.0 i (store x) (omega arith) k)))) in
         let high : All (λ y. before x y ≡ true) (drop at xs)
-            = all_of (λ y. before x y ≡ true) x (drop at xs) (λ i m.
-              let k : at + i < length xs = omega (arith, rw length-drop at m) in
-              rw (get_or-drop at xs i x)
-              (not-false _ (sym (test_at (at + i) (store x) k) ∙ rw f at (point.1 (at + i) (store x) (omega arith) (rw (f, length-map) k))))) in
+        = all_of (λ y. before x y ≡ true) x (drop at xs) (λ i m.
+        let k : at + i < length xs = omega (arith, rw length-drop at m) in
+        rw (get_or-drop at xs i x)
+        (not-false _ (sym (test_at (at + i) (store x) k) ∙ rw f at (point.1 (at + i) (store x) (omega arith) (rw (f, length-map) k))))) in
         let e : take at items ≡ map store (take at xs)
-            = rw h.shape (take-append-le at (map store xs) (replicate (size - length xs) none) (rw length-map n) ∙ take-map store at xs) in
+        = rw h.shape (take-append-le at (map store xs) (replicate (size - length xs) none) (rw length-map n) ∙ take-map store at xs) in
         let k : size - (count + 1) ≡ size - suc (length xs) = omega (arith, h.counted) in
         record {
           shape =
-              rw (shape, insert_length before x xs, insert_here before x xs at low high, map_append store (take at xs) (x ∷ drop at xs), append_assoc,
-              e, f, drop-map store at xs, beyond (count + 1) (omega arith) (omega arith), k);
+              rw (
+                shape,
+                insert_length before x xs,
+                insert_here before x xs at low high,
+                map_append store (take at xs) (x ∷ drop at xs),
+                append_assoc,
+                e,
+                f,
+                drop-map store at xs,
+                beyond (count + 1) (omega arith) (omega arith),
+                k,
+              );
           counted = rw insert_length (omega (arith, h.counted));
           room = rw insert_length (omega (arith, h.counted));
         }

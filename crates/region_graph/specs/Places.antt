@@ -1,10 +1,9 @@
--- What the functions of the record ask of its parts, and the tests by which they search and filter them.
-use Rattle.std.specs.Prelude.{◌≡◌, Bool, true, false, ◌&&◌, ◌||◌, List, ◌∷◌, ◌++◌, ℕ, ◌+◌, ◌-◌, ◌≤◌, eqb, ltb, length, take, drop, replicate, filter}
+-- What the functions of the record ask of its parts, and what those that leave out elements or put one in promise.
+use Rattle.std.specs.Prelude.{◌≡◌, Bool, true, false, List, ◌∷◌, ◌++◌, ℕ, ◌+◌, ◌-◌, ◌≤◌, length, take, drop, replicate, filter}
 use Rattle.std.specs.List.Sorted.{IsPartitionedBy, IsPartitionPoint}
 use Rattle.region_graph.specs.Size.{most_bundles, most_connections, most_listed, most_provided}
 use Rattle.region_graph.specs.Lists.{All}
 use Rattle.region_graph.specs.Model.{Bundle, Part, Connection}
-use Rattle.region_graph.specs.Calls.{at_location, in_region, joins, touches, names}
 use Rattle.region_graph.specs.Record.{Stored, Numbers, Provided, store_list, list_of, store_part, part_in}
 use Rattle.region_graph.specs.Record.{store_packages, packages_of, store_entries, entries_of, store_package_part, package_part_in}
 use Rattle.region_graph.specs.Record.{store_bundle, bundle_in, store_bundles, bundles_of}
@@ -14,10 +13,8 @@ use Rattle.region_graph.specs.declared.packages.Packages.{Packages}
 use Rattle.region_graph.specs.declared.packages.Entries.{Entries}
 use Rattle.region_graph.specs.declared.bundles.StoredBundle.{StoredBundle}
 use Rattle.region_graph.specs.declared.bundles.Bundles.{Bundles}
-use Rattle.region_graph.specs.declared.bundles.BundleTest.{BundleTest}
 use Rattle.region_graph.specs.declared.connections.StoredConnection.{StoredConnection}
 use Rattle.region_graph.specs.declared.connections.Connections.{Connections}
-use Rattle.region_graph.specs.declared.connections.ConnectionTest.{ConnectionTest}
 
 -- the places in which a list was put: it stands first, and each other place is as it was
 abbrev pub put_into : List ℕ → List ℕ → List ℕ
@@ -94,15 +91,3 @@ Inserted p old count item new =
     IsPartitionedBy p (take count old)
     → (at : ℕ) × (at ≤ count) × IsPartitionPoint (λ x. p x ≡ true) (λ x. p x ≡ false) (take count old) at
     × (new ≡ take at old ++ (item ∷ (drop at (take count old) ++ drop (count + 1) old)))
-
--- the tests by which bundles and connections are looked for and left out
-abbrev pub bundle_meets : BundleTest → Bundle → Bool
-bundle_meets (BundleTest.At l) b = at_location l b
-bundle_meets (BundleTest.In r) b = in_region r b
-bundle_meets (BundleTest.After l) b = ltb l b.location
-
-abbrev pub connection_meets : ConnectionTest → Connection → Bool
-connection_meets (ConnectionTest.Joining r s) c = joins r s c
-connection_meets (ConnectionTest.Touching r) c = touches r c
-connection_meets (ConnectionTest.Naming r l) c = names r l c
-connection_meets (ConnectionTest.After r s) c = ltb r c.source || (eqb r c.source && ltb s c.target)

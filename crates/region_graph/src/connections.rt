@@ -1,20 +1,16 @@
 // The places of the connections, in ascending order of their two ends, and their filters.
 ghost use Rattle.std.specs.Prelude.{◌≡◌, true, not, [], map, ◌<◌, ltb, length};
 ghost use Rattle.region_graph.specs.Size.{most_connections};
-ghost use Rattle.region_graph.specs.Lists.{All, ascends, every, keep, position, insert_by};
-ghost use Rattle.region_graph.specs.Model.{Part, entries, entry_before, ordered, connection_before};
+ghost use Rattle.region_graph.specs.Lists.{All, ascends, keep, member, insert_by};
+ghost use Rattle.region_graph.specs.Model.{Part, connection_before};
 ghost use Rattle.region_graph.specs.Calls.{part_within, of_listed, filter_within, filter_ascends, filter_ordered, joins, touches, names};
-ghost use Rattle.region_graph.specs.Record.{store_part, store_package_part, store_connection, store_connections};
+ghost use Rattle.region_graph.specs.Record.{store_part, part_in, store_connection, store_connections};
 ghost use Rattle.region_graph.specs.Record.{connection_in, no_connection, connections_of};
-ghost use Rattle.region_graph.specs.Places.{ConnectionStored, ConnectionsStored, connection_meets};
-ghost use Rattle.region_graph.specs.Promise.{new_part, new_filter};
-ghost use Rattle.region_graph.specs.Handed.{filter_lists, handed_connection};
+ghost use Rattle.region_graph.specs.Places.{PartStored, ConnectionStored, ConnectionsStored};
+ghost use Rattle.region_graph.specs.Handed.{number_part, filter_lists, handed_connection};
 
-use crate::numbers::{Numbers, ascending, copied, has_number};
-use crate::packages::{
-    Entries, EntryList, PartList, entries_ascending, entries_copied, entries_ordered, entry_count,
-    every_package,
-};
+use crate::numbers::{Numbers, ascending, has_number};
+use crate::packages::{Entries, EntryList, PartList};
 use crate::places::{insert, retain};
 use crate::size::{EVERYTHING, MOST_CONNECTIONS, MOST_LISTED};
 
@@ -36,14 +32,67 @@ pub struct Connections {
     pub items: [StoredConnection; MOST_CONNECTIONS],
 }
 
-// A property by which connections are looked for or left out: from one region to another, from or to a region, from a region
-// with a location in the bundle part, after a pair of regions in the order.
-#[derive(Clone, Copy)]
-pub enum ConnectionTest {
-    Joining(u32, u32),
-    Touching(u32),
-    Naming(u32, u32),
-    After(u32, u32),
+impl<'a> PartList<&'a [u32]> {
+    pub fn within(self) -> bool
+        ensures { result ≡ part_within (number_part self.entry) }
+    {
+        match self {
+            PartList::Everything => true,
+            PartList::Listed(list) => list.len() <= MOST_LISTED,
+        }
+    }
+
+    pub fn ascends(self) -> bool
+        ensures { result ≡ of_listed (ascends ltb) (number_part self.entry) }
+    {
+        match self {
+            PartList::Everything => true,
+            PartList::Listed(list) => ascending(list),
+        }
+    }
+
+    // Whether it passes a number.
+    pub fn passes(self, number: u32) -> bool
+        ensures { result ≡ of_listed (member number) (number_part self.entry) }
+    {
+        match self {
+            PartList::Everything => true,
+            PartList::Listed(list) => has_number(list, number),
+        }
+    }
+}
+
+impl Numbers {
+    // A part that is everything.
+    pub fn everything() -> Numbers
+        ensures { result ≡ store_part Part.everything }
+    {
+        Numbers {
+            count: EVERYTHING,
+            items: [0u32; MOST_LISTED],
+        }
+    }
+
+    pub fn from_part(part: PartList<&[u32]>) -> Numbers
+        requires { part_within (number_part part) ≡ true }
+        ensures { result ≡ store_part (number_part part.entry) }
+    {
+        match part {
+            PartList::Everything => Numbers::everything(),
+            PartList::Listed(list) => Numbers::from_slice(list),
+        }
+    }
+
+    pub fn as_part(&self) -> PartList<&[u32]>
+        requires { PartStored self.now }
+        ensures { number_part result ≡ part_in self.now }
+    {
+        if self.count == EVERYTHING {
+            PartList::Everything
+        } else {
+            PartList::Listed(self.as_slice())
+        }
+    }
 }
 
 // The parts of a filter that is handed in.
@@ -114,123 +163,6 @@ impl StoredConnection {
     }
 }
 
-// Whether a service part handed in is within its count.
-pub fn part_within(all: bool, list: &[u32]) -> bool
-    ensures { result ≡ part_within (new_part all list.now) }
-{
-    if all {
-        return true;
-    }
-    list.len() <= MOST_LISTED
-}
-
-pub fn part_ascending(all: bool, list: &[u32]) -> bool
-    ensures { result ≡ of_listed (ascends ltb) (new_part all list.now) }
-{
-    if all {
-        return true;
-    }
-    ascending(list)
-}
-
-// The same of a package part.
-fn package_part_within(all: bool, packages: &[u32], lowest: &[u16], highest: &[u16]) -> bool
-    ensures { result ≡ part_within (new_part all (entries packages.now lowest.now highest.now)) }
-{
-    if all {
-        return true;
-    }
-    entry_count(packages, lowest, highest) <= MOST_LISTED
-}
-
-fn package_part_ascending(all: bool, packages: &[u32], lowest: &[u16], highest: &[u16]) -> bool
-    ensures { result ≡ of_listed (ascends entry_before) (new_part all (entries packages.now lowest.now highest.now)) }
-{
-    if all {
-        return true;
-    }
-    entries_ascending(packages, lowest, highest)
-}
-
-// Whether no entry of a package part has a lowest version above its highest.
-pub fn package_part_ordered(all: bool, packages: &[u32], lowest: &[u16], highest: &[u16]) -> bool
-    ensures { result ≡ of_listed (every ordered) (new_part all (entries packages.now lowest.now highest.now)) }
-{
-    if all {
-        return true;
-    }
-    entries_ordered(packages, lowest, highest)
-}
-
-// Whether each part of a filter is within its count.
-pub fn filter_within(
-    bundles: &[u32],
-    all_packages: bool,
-    packages: &[u32],
-    lowest: &[u16],
-    highest: &[u16],
-    all_services: bool,
-    services: &[u32],
-) -> bool
-    ensures { result ≡ filter_within (new_filter bundles.now all_packages (entries packages.now lowest.now highest.now) all_services services.now) }
-{
-    if bundles.len() <= MOST_LISTED {
-        if package_part_within(all_packages, packages, lowest, highest) {
-            return part_within(all_services, services);
-        }
-    }
-    false
-}
-
-pub fn filter_ascending(
-    bundles: &[u32],
-    all_packages: bool,
-    packages: &[u32],
-    lowest: &[u16],
-    highest: &[u16],
-    all_services: bool,
-    services: &[u32],
-) -> bool
-    ensures { result ≡ filter_ascends (new_filter bundles.now all_packages (entries packages.now lowest.now highest.now) all_services services.now) }
-{
-    if ascending(bundles) {
-        if package_part_ascending(all_packages, packages, lowest, highest) {
-            return part_ascending(all_services, services);
-        }
-    }
-    false
-}
-
-// A service part that is everything.
-pub fn everything() -> Numbers
-    ensures { result ≡ store_part Part.everything }
-{
-    Numbers {
-        count: EVERYTHING,
-        items: [0u32; MOST_LISTED],
-    }
-}
-
-pub fn part_copied(all: bool, list: &[u32]) -> Numbers
-    requires { part_within (new_part all list.now) ≡ true }
-    ensures { result ≡ store_part (new_part all list.now) }
-{
-    if all {
-        return everything();
-    }
-    copied(list)
-}
-
-pub fn package_part_copied(all: bool, packages: &[u32], lowest: &[u16], highest: &[u16]) -> Entries
-    requires { part_within (new_part all (entries packages.now lowest.now highest.now)) ≡ true }
-    ensures { result ≡ store_package_part (new_part all (entries packages.now lowest.now highest.now)) }
-{
-    if all {
-        return every_package();
-    }
-    entries_copied(packages, lowest, highest)
-}
-
 // What stands in a place that is not used.
 pub fn no_connection() -> StoredConnection
     ensures { result ≡ store_connection no_connection }
@@ -250,40 +182,6 @@ pub fn no_connection() -> StoredConnection
             highest: [0u16; MOST_LISTED],
         },
         services: none,
-    }
-}
-
-pub fn connection_meets(c: StoredConnection, test: ConnectionTest) -> bool
-    requires { ConnectionStored c }
-    ensures { result ≡ connection_meets test (connection_in c) }
-{
-    match test {
-        ConnectionTest::Joining(source, target) => {
-            if c.source == source {
-                return c.target == target;
-            }
-            false
-        }
-        ConnectionTest::Touching(region) => {
-            if c.source == region {
-                return true;
-            }
-            c.target == region
-        }
-        ConnectionTest::Naming(region, location) => {
-            if c.source == region {
-                let count = c.bundles.count;
-                let items = c.bundles.items;
-                return has_number(&items[..count], location);
-            }
-            false
-        }
-        ConnectionTest::After(source, target) => {
-            if source == c.source {
-                return target < c.target;
-            }
-            source < c.source
-        }
     }
 }
 
@@ -342,78 +240,5 @@ impl Connections {
             (c.source, c.target) <= (connection.source, connection.target)
         });
         self.count += 1;
-    }
-
-    // The place of the first connection that meets a test, or the count where there is none.
-    pub fn first(self, test: ConnectionTest) -> usize
-        requires { ConnectionsStored self }
-        ensures { result ≡ position (connection_meets test) (connections_of self) }
-    {
-        let count = self.count;
-        let mut i: usize = 0;
-        while i < count {
-            let c = self.items[i];
-            if connection_meets(c, test) {
-                return i;
-            }
-            i += 1;
-        }
-        i
-    }
-
-    // The connections that do not meet a test: each moves down by as many as met it before, and what it leaves is not used.
-    // It is read again to be moved, so that one that stays is not copied for the test.
-    pub fn without(self, test: ConnectionTest) -> Connections
-        requires { ConnectionsStored self }
-        ensures { result ≡ store_connections (keep (λ c. not (connection_meets test c)) (connections_of self)) }
-    {
-        let none = no_connection();
-        let mut items = self.items;
-        let mut n: usize = 0;
-        let count = self.count;
-        let mut i: usize = 0;
-        while i < count {
-            let from = i;
-            i += 1;
-            let c = items[from];
-            if connection_meets(c, test) {
-                items[from] = none;
-            } else {
-                let to = n;
-                n += 1;
-                if to < from {
-                    let moved = items[from];
-                    items[to] = moved;
-                    items[from] = none;
-                }
-            }
-        }
-        Connections { count: n, items }
-    }
-
-    // One connection more; those after it move up, from the last on, each read again to be moved.
-    pub fn with(self, c: StoredConnection) -> Connections
-        requires connections_stored { ConnectionsStored self }
-        requires connection_stored { ConnectionStored c }
-        requires self_value { (ascends connection_before (connections_of self) ≡ true) × (length (connections_of self) < most_connections) }
-        ensures { result ≡ store_connections (insert_by connection_before (connection_in c) (connections_of self)) }
-    {
-        let mut items = self.items;
-        let count = self.count;
-        let mut i = count;
-        while 0 < i {
-            let last = items[i - 1];
-            if !connection_meets(last, ConnectionTest::After(c.source, c.target)) {
-                break;
-            }
-            let moved = items[i - 1];
-            items[i] = moved;
-            i -= 1;
-        }
-        items[i] = c;
-        Connections {
-            count: count + 1,
-            items,
-        }
     }
 }

@@ -17,9 +17,7 @@ use crate::Graph;
 use crate::bundles::StoredBundle;
 use crate::connections::StoredConnection;
 use crate::numbers::{Numbers, Provided, ascending};
-use crate::packages::{
-    Entries, Packages, entries_ascending, entries_ordered, every_package, packages_ascending,
-};
+use crate::packages::{Entries, EntryList, PackageList, Packages};
 use crate::refusals::Refusal;
 use crate::region_set::{has, is_region, singleton};
 use crate::size::{EVERYTHING, MOST_LISTED, MOST_PROVIDED, REGIONS};
@@ -113,7 +111,11 @@ fn packages_at(row: &[u64], at: usize) -> Option<Packages>
     let mut versions = [0u16; MOST_PROVIDED];
     put_heads(&mut numbers, codes, VERSION_BITS)?;
     put_tails(&mut versions, codes, 0);
-    packages_ascending(&numbers[..count], &versions[..count]).then_some(Packages {
+    let list = PackageList {
+        numbers: &numbers[..count],
+        versions: &versions[..count],
+    };
+    list.ascends().then_some(Packages {
         count,
         numbers,
         versions,
@@ -133,10 +135,15 @@ fn entries_at(row: &[u64], at: usize) -> Option<Entries>
     put_heads(&mut numbers, codes, 2 * VERSION_BITS)?;
     put_tails(&mut lowest, codes, VERSION_BITS);
     put_tails(&mut highest, codes, 0);
-    if !entries_ascending(&numbers[..count], &lowest[..count], &highest[..count]) {
+    let list = EntryList {
+        numbers: &numbers[..count],
+        lowest: &lowest[..count],
+        highest: &highest[..count],
+    };
+    if !list.ascends() {
         return None;
     }
-    entries_ordered(&numbers[..count], &lowest[..count], &highest[..count]).then_some(Entries {
+    list.ordered().then_some(Entries {
         count,
         numbers,
         lowest,
@@ -150,7 +157,7 @@ fn package_part_at(row: &[u64], at: usize) -> Option<Entries>
     ensures { PackagePartDecoded row.now at result }
 {
     if row[at] as usize == EVERYTHING {
-        return Some(every_package());
+        return Some(Entries::everything());
     }
     entries_at(row, at)
 }

@@ -3,7 +3,7 @@ ghost use Rattle.std.specs.Prelude.{◌≡◌, ◌≤◌, ltb, length};
 ghost use Rattle.region_graph.specs.Size.{most_listed, most_provided};
 ghost use Rattle.region_graph.specs.Lists.{ascends, member};
 ghost use Rattle.region_graph.specs.Record.{store_list, list_of, store_numbers, store_provided};
-ghost use Rattle.region_graph.specs.Places.{put_into, ListStored};
+ghost use Rattle.region_graph.specs.Places.{ListStored};
 
 use crate::size::{MOST_LISTED, MOST_PROVIDED};
 
@@ -54,41 +54,4 @@ pub fn has_number(list: &[u32], number: u32) -> bool
     ensures { result ≡ member number list.now }
 {
     list.contains(&number)
-}
-
-// Puts a list into the first places.
-pub fn put_numbers(places: &mut [u32], list: &[u32])
-    requires { length list.now ≤ length places.old }
-    ensures { places.new ≡ put_into places.old list.now }
-{
-    let mut i: usize = 0;
-    while i < list.len() {
-        places[i] = list[i];
-        i += 1;
-    }
-}
-
-// A lent list as a value of its own.
-pub fn copied(list: &[u32]) -> Numbers
-    requires { length list.now ≤ most_listed }
-    ensures { result ≡ store_numbers list.now }
-{
-    let mut items = [0u32; MOST_LISTED];
-    put_numbers(&mut items, list);
-    Numbers {
-        count: list.len(),
-        items,
-    }
-}
-
-pub fn provided_copied(list: &[u32]) -> Provided
-    requires { length list.now ≤ most_provided }
-    ensures { result ≡ store_provided list.now }
-{
-    let mut items = [0u32; MOST_PROVIDED];
-    put_numbers(&mut items, list);
-    Provided {
-        count: list.len(),
-        items,
-    }
 }

@@ -1,16 +1,16 @@
 // Packages and entries of package parts, in columns: the parts of one stand at equal places of lists, and the shortest list counts.
-ghost use Rattle.std.specs.Prelude.{◌≡◌, true, ◌&&◌, leb, ltb, ◌≤◌, length};
+ghost use Rattle.std.specs.Prelude.{◌≡◌, true, ◌&&◌, leb, ◌≤◌, length};
 ghost use Rattle.region_graph.specs.Size.{most_listed, most_provided};
-ghost use Rattle.region_graph.specs.Lists.{ascends, exists, every, member};
+ghost use Rattle.region_graph.specs.Lists.{ascends, exists, every};
 ghost use Rattle.region_graph.specs.Model.{Part, packages, entries, package_before, entry_before, ordered};
 ghost use Rattle.region_graph.specs.Items.{is_package, entry_passes};
 ghost use Rattle.region_graph.specs.Record.{store_packages, store_entries, store_package_part};
 ghost use Rattle.region_graph.specs.Calls.{part_within, of_listed};
-ghost use Rattle.region_graph.specs.Record.{packages_of, entries_of, package_part_in, store_part, part_in};
-ghost use Rattle.region_graph.specs.Places.{put_into, PackagesStored, EntriesStored, PackagePartStored, PartStored};
-ghost use Rattle.region_graph.specs.Handed.{package_list, entry_list, entry_part, number_part};
+ghost use Rattle.region_graph.specs.Record.{packages_of, entries_of, package_part_in};
+ghost use Rattle.region_graph.specs.Places.{PackagesStored, EntriesStored, PackagePartStored};
+ghost use Rattle.region_graph.specs.Handed.{package_list, entry_list, entry_part};
 
-use crate::numbers::{Numbers, ascending, has_number, put_numbers};
+use crate::numbers::ascending;
 use crate::size::{EVERYTHING, MOST_LISTED, MOST_PROVIDED};
 
 // What a bundle exports.
@@ -65,14 +65,25 @@ impl<'a> PackageList<'a> {
     pub fn ascends(self) -> bool
         ensures { result ≡ ascends package_before (package_list self.entry) }
     {
-        packages_ascending(self.numbers, self.versions)
+        for i in 1..self.count() {
+            let last = (self.numbers[i - 1], self.versions[i - 1]);
+            if (self.numbers[i], self.versions[i]) <= last {
+                return false;
+            }
+        }
+        true
     }
 
     // Whether they have a package.
     pub fn has(self, number: u32, version: u16) -> bool
         ensures { result ≡ exists (is_package number version) (package_list self.entry) }
     {
-        has_package(self.numbers, self.versions, number, version)
+        for i in 0..self.count() {
+            if self.numbers[i] == number && self.versions[i] == version {
+                return true;
+            }
+        }
+        false
     }
 }
 
@@ -80,28 +91,41 @@ impl<'a> EntryList<'a> {
     pub fn count(self) -> usize
         ensures { result ≡ length (entry_list self.entry) }
     {
-        entry_count(self.numbers, self.lowest, self.highest)
+        self.numbers
+            .len()
+            .min(self.lowest.len())
+            .min(self.highest.len())
     }
 
     // Whether they strictly ascend by number.
     pub fn ascends(self) -> bool
         ensures { result ≡ ascends entry_before (entry_list self.entry) }
     {
-        entries_ascending(self.numbers, self.lowest, self.highest)
+        ascending(&self.numbers[..self.count()])
     }
 
     // Whether no lowest version exceeds its highest.
     pub fn ordered(self) -> bool
         ensures { result ≡ every ordered (entry_list self.entry) }
     {
-        entries_ordered(self.numbers, self.lowest, self.highest)
+        for i in 0..self.count() {
+            if self.highest[i] < self.lowest[i] {
+                return false;
+            }
+        }
+        true
     }
 
     // Whether one of them passes a package.
     pub fn passes(self, number: u32, version: u16) -> bool
         ensures { result ≡ exists (entry_passes number version) (entry_list self.entry) }
     {
-        entries_pass(self.numbers, self.lowest, self.highest, number, version)
+        for i in 0..self.count() {
+            if self.numbers[i] == number && lies_between(version, self.lowest[i], self.highest[i]) {
+                return true;
+            }
+        }
+        false
     }
 }
 
@@ -146,76 +170,22 @@ impl<'a> PartList<EntryList<'a>> {
     }
 }
 
-impl<'a> PartList<&'a [u32]> {
-    pub fn within(self) -> bool
-        ensures { result ≡ part_within (number_part self.entry) }
-    {
-        match self {
-            PartList::Everything => true,
-            PartList::Listed(list) => list.len() <= MOST_LISTED,
-        }
-    }
-
-    pub fn ascends(self) -> bool
-        ensures { result ≡ of_listed (ascends ltb) (number_part self.entry) }
-    {
-        match self {
-            PartList::Everything => true,
-            PartList::Listed(list) => ascending(list),
-        }
-    }
-
-    // Whether it passes a number.
-    pub fn passes(self, number: u32) -> bool
-        ensures { result ≡ of_listed (member number) (number_part self.entry) }
-    {
-        match self {
-            PartList::Everything => true,
-            PartList::Listed(list) => has_number(list, number),
-        }
-    }
-}
-
-impl Numbers {
-    // A part that is everything.
-    pub fn everything() -> Numbers
-        ensures { result ≡ store_part Part.everything }
-    {
-        Numbers {
-            count: EVERYTHING,
-            items: [0u32; MOST_LISTED],
-        }
-    }
-
-    pub fn from_part(part: PartList<&[u32]>) -> Numbers
-        requires { part_within (number_part part) ≡ true }
-        ensures { result ≡ store_part (number_part part.entry) }
-    {
-        match part {
-            PartList::Everything => Numbers::everything(),
-            PartList::Listed(list) => Numbers::from_slice(list),
-        }
-    }
-
-    pub fn as_part(&self) -> PartList<&[u32]>
-        requires { PartStored self.now }
-        ensures { number_part result ≡ part_in self.now }
-    {
-        if self.count == EVERYTHING {
-            PartList::Everything
-        } else {
-            PartList::Listed(self.as_slice())
-        }
-    }
-}
-
 impl Packages {
     // What lists hand in as a value of its own.
     pub fn from_list(list: PackageList<'_>) -> Packages
         requires { length (package_list list) ≤ most_provided }
         ensures { result ≡ store_packages (package_list list.entry) }
     {
-        packages_copied(list.numbers, list.versions)
+        let count = list.count();
+        let mut numbers = [0u32; MOST_PROVIDED];
+        numbers[..count].copy_from_slice(&list.numbers[..count]);
+        let mut versions = [0u16; MOST_PROVIDED];
+        versions[..count].copy_from_slice(&list.versions[..count]);
+        Packages {
+            count,
+            numbers,
+            versions,
+        }
     }
 
     pub fn as_list(&self) -> PackageList<'_>
@@ -235,14 +205,31 @@ impl Entries {
         requires { length (entry_list list) ≤ most_listed }
         ensures { result ≡ store_entries (entry_list list.entry) }
     {
-        entries_copied(list.numbers, list.lowest, list.highest)
+        let count = list.count();
+        let mut numbers = [0u32; MOST_LISTED];
+        numbers[..count].copy_from_slice(&list.numbers[..count]);
+        let mut lowest = [0u16; MOST_LISTED];
+        lowest[..count].copy_from_slice(&list.lowest[..count]);
+        let mut highest = [0u16; MOST_LISTED];
+        highest[..count].copy_from_slice(&list.highest[..count]);
+        Entries {
+            count,
+            numbers,
+            lowest,
+            highest,
+        }
     }
 
     // A package part that is everything.
     pub fn everything() -> Entries
         ensures { result ≡ store_package_part Part.everything }
     {
-        every_package()
+        Entries {
+            count: EVERYTHING,
+            numbers: [0u32; MOST_LISTED],
+            lowest: [0u16; MOST_LISTED],
+            highest: [0u16; MOST_LISTED],
+        }
     }
 
     pub fn from_part(part: PartList<EntryList<'_>>) -> Entries
@@ -278,182 +265,16 @@ impl Entries {
     }
 }
 
-// How many packages two lists hand in.
-pub fn package_count(numbers: &[u32], versions: &[u16]) -> usize
-    ensures { result ≡ length (packages numbers.now versions.now) }
-{
-    if versions.len() < numbers.len() {
-        return versions.len();
-    }
-    numbers.len()
-}
-
-// How many entries three lists hand in.
-pub fn entry_count(numbers: &[u32], lowest: &[u16], highest: &[u16]) -> usize
-    ensures { result ≡ length (entries numbers.now lowest.now highest.now) }
-{
-    let count = package_count(numbers, lowest);
-    if highest.len() < count {
-        return highest.len();
-    }
-    count
-}
-
-// Whether a number and a version come before others.
-fn pair_before(number: u32, version: u16, next_number: u32, next_version: u16) -> bool
-    ensures { result ≡ package_before (record { number = number; version = version }) (record { number = next_number; version = next_version }) }
-{
-    if number == next_number {
-        return version < next_version;
-    }
-    number < next_number
-}
-
-// Whether packages strictly ascend by number, then version.
-pub fn packages_ascending(numbers: &[u32], versions: &[u16]) -> bool
-    ensures { result ≡ ascends package_before (packages numbers.now versions.now) }
-{
-    let count = package_count(numbers, versions);
-    let mut i: usize = 1;
-    while i < count {
-        if !pair_before(numbers[i - 1], versions[i - 1], numbers[i], versions[i]) {
-            return false;
-        }
-        i += 1;
-    }
-    true
-}
-
 // Whether packages have one.
 pub fn has_package(numbers: &[u32], versions: &[u16], number: u32, version: u16) -> bool
     ensures { result ≡ exists (is_package number version) (packages numbers.now versions.now) }
 {
-    let count = package_count(numbers, versions);
-    let mut i: usize = 0;
-    while i < count {
-        if numbers[i] == number {
-            if versions[i] == version {
-                return true;
-            }
-        }
-        i += 1;
-    }
-    false
-}
-
-// Whether entries strictly ascend by number.
-pub fn entries_ascending(numbers: &[u32], lowest: &[u16], highest: &[u16]) -> bool
-    ensures { result ≡ ascends entry_before (entries numbers.now lowest.now highest.now) }
-{
-    let count = entry_count(numbers, lowest, highest);
-    ascending(&numbers[..count])
-}
-
-// Whether no entry's lowest version exceeds its highest.
-pub fn entries_ordered(numbers: &[u32], lowest: &[u16], highest: &[u16]) -> bool
-    ensures { result ≡ every ordered (entries numbers.now lowest.now highest.now) }
-{
-    let count = entry_count(numbers, lowest, highest);
-    let mut i: usize = 0;
-    while i < count {
-        if highest[i] < lowest[i] {
-            return false;
-        }
-        i += 1;
-    }
-    true
+    PackageList { numbers, versions }.has(number, version)
 }
 
 // Whether a version lies between two.
 fn lies_between(version: u16, lowest: u16, highest: u16) -> bool
     ensures { result ≡ (leb lowest version && leb version highest) }
 {
-    if lowest <= version {
-        return version <= highest;
-    }
-    false
-}
-
-// Whether an entry passes a package.
-pub fn entries_pass(
-    numbers: &[u32],
-    lowest: &[u16],
-    highest: &[u16],
-    number: u32,
-    version: u16,
-) -> bool
-    ensures { result ≡ exists (entry_passes number version) (entries numbers.now lowest.now highest.now) }
-{
-    let count = entry_count(numbers, lowest, highest);
-    let mut i: usize = 0;
-    while i < count {
-        if numbers[i] == number {
-            if lies_between(version, lowest[i], highest[i]) {
-                return true;
-            }
-        }
-        i += 1;
-    }
-    false
-}
-
-// Puts a list of versions into the first places.
-pub fn put_versions(places: &mut [u16], list: &[u16])
-    requires { length list.now ≤ length places.old }
-    ensures { places.new ≡ put_into places.old list.now }
-{
-    let mut i: usize = 0;
-    while i < list.len() {
-        places[i] = list[i];
-        i += 1;
-    }
-}
-
-// Packages that lists hand in as a value of their own.
-pub fn packages_copied(numbers: &[u32], versions: &[u16]) -> Packages
-    requires { length (packages numbers.now versions.now) ≤ most_provided }
-    ensures { result ≡ store_packages (packages numbers.now versions.now) }
-{
-    let count = package_count(numbers, versions);
-    let mut number_places = [0u32; MOST_PROVIDED];
-    put_numbers(&mut number_places, &numbers[..count]);
-    let mut version_places = [0u16; MOST_PROVIDED];
-    put_versions(&mut version_places, &versions[..count]);
-    Packages {
-        count,
-        numbers: number_places,
-        versions: version_places,
-    }
-}
-
-// Entries that lists hand in as a value of their own.
-pub fn entries_copied(numbers: &[u32], lowest: &[u16], highest: &[u16]) -> Entries
-    requires { length (entries numbers.now lowest.now highest.now) ≤ most_listed }
-    ensures { result ≡ store_entries (entries numbers.now lowest.now highest.now) }
-{
-    let count = entry_count(numbers, lowest, highest);
-    let mut number_places = [0u32; MOST_LISTED];
-    put_numbers(&mut number_places, &numbers[..count]);
-    let mut lowest_places = [0u16; MOST_LISTED];
-    put_versions(&mut lowest_places, &lowest[..count]);
-    let mut highest_places = [0u16; MOST_LISTED];
-    put_versions(&mut highest_places, &highest[..count]);
-    Entries {
-        count,
-        numbers: number_places,
-        lowest: lowest_places,
-        highest: highest_places,
-    }
-}
-
-// A package part that is everything.
-pub fn every_package() -> Entries
-    ensures { result ≡ store_package_part Part.everything }
-{
-    Entries {
-        count: EVERYTHING,
-        numbers: [0u32; MOST_LISTED],
-        lowest: [0u16; MOST_LISTED],
-        highest: [0u16; MOST_LISTED],
-    }
+    lowest <= version && version <= highest
 }

@@ -18,20 +18,14 @@ pub fn is_region(number: u32) -> bool
 pub fn singleton(region: u32) -> u64
     ensures { result ≡ Sets.singleton region }
 {
-    if (region as usize) < REGIONS {
-        return 1u64 << region;
-    }
-    0
+    if is_region(region) { 1 << region } else { 0 }
 }
 
 // Whether a region is in a set.
 pub fn has(set: u64, region: u32) -> bool
     ensures { result ≡ Sets.has set region }
 {
-    if !is_region(region) {
-        return false;
-    }
-    (set >> region) % 2 == 1
+    is_region(region) && (set >> region) % 2 == 1
 }
 
 // The members of a set that are not in the other.
@@ -45,15 +39,12 @@ pub fn difference(set: u64, other: u64) -> u64
 pub fn lowest(set: u64) -> u32
     ensures { result ≡ count_trailing_zeros 64 set }
 {
-    u64::trailing_zeros(set)
+    set.trailing_zeros()
 }
 
 // A set without its lowest member; the empty set stays.
 pub fn without_lowest(set: u64) -> u64
     ensures { result ≡ bit_and set (2 ^ 64 - 1 - Sets.singleton (count_trailing_zeros 64 set)) }
 {
-    if set == 0 {
-        return 0;
-    }
-    set & (set - 1)
+    set & set.wrapping_sub(1)
 }

@@ -1,4 +1,5 @@
 -- What a query answers, by the first of its questions that is answered no.
+use Rattle.std.specs.Prelude.{Some, None}
 use mathlib.Core.Path.{◌≡◌, ◌∙◌}
 use mathlib.Core.Bool.{true, false}
 use mathlib.Core.List.{List, [], ◌∷◌}
@@ -10,7 +11,6 @@ use Rattle.region_graph.specs.Refusals.{not_installed, not_a_kind, no_place}
 use Rattle.region_graph.specs.Lists.{keep}
 use Rattle.region_graph.specs.Model.{Model}
 use Rattle.region_graph.specs.Promise.{place_of}
-use Rattle.region_graph.specs.declared.Place.TheVariants.{Within, Nowhere}
 use Rattle.region_routes.specs.Chosen.{chosen, sees}
 use Rattle.region_routes.specs.Hooks.{Outcome, Routed, Kept, item, kind_number, routed, kept, shown, kept_outcome, sees_from, all_installed, route_outcome}
 use Rattle.region_routes.specs.Hooks.{find_outcome, event_outcome}
@@ -19,11 +19,11 @@ use Rattle.region_routes.specs.Tables.{Room}
 use Rattle.region_routes.specs.declared.Kind.{Kind}
 
 module _ (m : Model) (l kind number version : ℕ) (entry : List ℕ) where
-  pub route_not_installed : place_of m.bundles l ≡ Nowhere
+  pub route_not_installed : place_of m.bundles l ≡ None
       → ◌≡◌ {A = Outcome Routed (List ℕ)} (routed (Routed.Refused not_installed) entry) (route_outcome m l kind number version entry)
   route_not_installed e = rw e
 
-  module _ {r : ℕ} (e : place_of m.bundles l ≡ Within r) where
+  module _ {r : ℕ} (e : place_of m.bundles l ≡ Some r) where
     pub route_not_a_kind : 2 < kind → ◌≡◌ {A = Outcome Routed (List ℕ)} (routed (Routed.Refused not_a_kind) entry) (route_outcome m l kind number version entry)
     route_not_a_kind k = rw (e, lt-leb kind 2 k)
 
@@ -36,11 +36,11 @@ module _ (m : Model) (l kind number version : ℕ) (entry : List ℕ) where
     route_answers k h q = rw (e, le-leb kind 2 k, le-leb regions (length entry) h) q
 
 module _ (m : Model) (kind : Kind) (l : ℕ) (xs entry : List ℕ) where
-  pub find_not_installed : place_of m.bundles l ≡ Nowhere
+  pub find_not_installed : place_of m.bundles l ≡ None
       → ◌≡◌ {A = Outcome Kept (List ℕ)} (kept (Kept.Refused not_installed) entry) (find_outcome m kind l xs entry)
   find_not_installed e = rw e
 
-  module _ {r : ℕ} (e : place_of m.bundles l ≡ Within r) where
+  module _ {r : ℕ} (e : place_of m.bundles l ≡ Some r) where
     pub find_no_place : length entry < length xs → ◌≡◌ {A = Outcome Kept (List ℕ)} (kept (Kept.Refused no_place) entry) (find_outcome m kind l xs entry)
     find_no_place h = rw (e, lt-leb (length xs) (length entry) h)
 
@@ -67,11 +67,11 @@ module _ (m : Model) (l : ℕ) (cs : List Candidate) (es ns vs : List ℕ) where
   abbrev outs : List (List ℕ)
   outs = es ∷ ns ∷ vs ∷ []
 
-  pub resolve_not_installed : place_of m.bundles l ≡ Nowhere
+  pub resolve_not_installed : place_of m.bundles l ≡ None
       → ◌≡◌ {A = Outcome Kept (List (List ℕ))} (kept (Kept.Refused not_installed) outs) (resolve_outcome m l cs outs)
   resolve_not_installed e = rw e
 
-  module _ {r : ℕ} (e : place_of m.bundles l ≡ Within r) where
+  module _ {r : ℕ} (e : place_of m.bundles l ≡ Some r) where
     pub resolve_no_exporter_place : length es < length cs
         → ◌≡◌ {A = Outcome Kept (List (List ℕ))} (kept (Kept.Refused no_place) outs) (resolve_outcome m l cs outs)
     resolve_no_exporter_place h = rw (e, lt-leb (length cs) (length es) h)

@@ -145,9 +145,6 @@ module _ {es links : List ℕ} {n : ℕ} (c : Chained es links) where
 
 -- the entry at the walk's place has a link, to a place further on
 module _ {es links : List ℕ} {n i : ℕ} (w : Standing es links n i) (h : i < length es) where
-  pub link_inside : chains + i < length links
-  link_inside = omega (arith, w.chained.few, w.chained.long)
-
   module _ {j : ℕ} (e : j ≡ get_or links (chains + i) 0) where
     pub link_further : i < j
     unfolding next_in

@@ -1,4 +1,5 @@
 -- The sets that a graph gives for an item, and what a search over them says of the model's routes.
+use Rattle.std.specs.Prelude.{Option, Some, None}
 use mathlib.Core.Path.{◌≡◌, refl, sym, ap, ap₂, ◌∙◌, subst}
 use mathlib.Core.Bool.{Bool, true, false, ◌&&◌, ◌||◌}
 use mathlib.Core.Logic.{◌⊎◌, inl, inr}
@@ -17,8 +18,6 @@ use Rattle.region_graph.specs.Calls.{at_location}
 use Rattle.region_graph.specs.Items.{holds, crosses, provides}
 use Rattle.region_graph.specs.Promise.{place_of, provider_place, holder_set, predecessor_sets}
 use Rattle.region_graph.specs.declared.Item.{Item}
-use Rattle.region_graph.specs.declared.Place.{Place}
-use Rattle.region_graph.specs.declared.Place.TheVariants.{Within, Nowhere}
 use Rattle.region_graph.proofs.Lists.{member_all, and_fst, false_true}
 use Rattle.region_graph.proofs.Bits.{bit_le, bit_zero, in_lt, set_below_lt, bit_set_below, alone_lt, bit_alone, set_is, has_set}
 use Rattle.region_graph.proofs.Views.{counted_at}
@@ -49,29 +48,29 @@ in_set : (p : ℕ → Bool) (n : ℕ) → n < regions → p n ≡ true → In (s
 in_set p n l e = bit_set_below regions p n l ∙ ap (λ (t : Bool). pick t 1 0) e
 
 -- the region in which a location is installed is below the count of regions
-place_inside : (rs : List ℕ) → All (λ r. r < regions) rs → (bs : List Bundle) → All (LegalBundle rs) bs → (l r : ℕ) → place_of bs l ≡ Within r → r < regions
+place_inside : (rs : List ℕ) → All (λ r. r < regions) rs → (bs : List Bundle) → All (LegalBundle rs) bs → (l r : ℕ) → place_of bs l ≡ Some r → r < regions
 place_inside rs h [] a l r e = let z : ◌≡◌ {A = ℕ} 0 1 = cc in absurd (omega arith)
 place_inside rs h (b ∷ bs) a l r e = go (at_location l b) (place_inside rs h bs a.1 l r) e
   where
-    go : (t : Bool) → (place_of bs l ≡ Within r → r < regions) → pick t (Within b.region) (place_of bs l) ≡ Within r → r < regions
+    go : (t : Bool) → (place_of bs l ≡ Some r → r < regions) → pick t (Some b.region) (place_of bs l) ≡ Some r → r < regions
     go true f k = let q : b.region ≡ r = cc in subst (λ (x : ℕ). x < regions) q (member_all (λ x. x < regions) b.region rs h a.0.region)
     go false f k = f k
 
-pub region_inside : (m : Model) → Legal m → (l : ℕ) {r : ℕ} → place_of m.bundles l ≡ Within r → r < regions
+pub region_inside : (m : Model) → Legal m → (l : ℕ) {r : ℕ} → place_of m.bundles l ≡ Some r → r < regions
 region_inside m h l {r} e = place_inside m.regions h.regions_legal.each m.bundles h.bundles_legal.each l r e
 
 -- so is that of a bundle that provides an item
-provider_installed : (l : ℕ) (i : Item) {r : ℕ} (bs : List Bundle) → provider_place bs l i ≡ Within r → place_of bs l ≡ Within r
+provider_installed : (l : ℕ) (i : Item) {r : ℕ} (bs : List Bundle) → provider_place bs l i ≡ Some r → place_of bs l ≡ Some r
 provider_installed l i [] e = e
 provider_installed l i {r} (b ∷ bs) e = go (at_location l b) (provides i b) (provider_installed l i bs) e
   where
-    go : (t u : Bool) → (provider_place bs l i ≡ Within r → place_of bs l ≡ Within r)
-        → pick t (pick u (Within b.region) Nowhere) (provider_place bs l i) ≡ Within r → pick t (Within b.region) (place_of bs l) ≡ Within r
+    go : (t u : Bool) → (provider_place bs l i ≡ Some r → place_of bs l ≡ Some r)
+        → pick t (pick u (Some b.region) None) (provider_place bs l i) ≡ Some r → pick t (Some b.region) (place_of bs l) ≡ Some r
     go true true f k = k
     go true false f k = let z : ◌≡◌ {A = ℕ} 0 1 = cc in absurd (omega arith)
     go false u f k = f k
 
-pub provider_inside : (m : Model) → Legal m → (l : ℕ) (i : Item) {r : ℕ} → provider_place m.bundles l i ≡ Within r → r < regions
+pub provider_inside : (m : Model) → Legal m → (l : ℕ) (i : Item) {r : ℕ} → provider_place m.bundles l i ≡ Some r → r < regions
 provider_inside m h l i e = region_inside m h l (provider_installed l i m.bundles e)
 
 -- so is the region of a held item
@@ -251,11 +250,11 @@ pub stands_sees : (m : Model) (i : Item) → Legal m → (l : ℕ)
     → stands_in (set_of (sees m i)) (place_of m.bundles l) ≡ sees_from m i (place_of m.bundles l)
 stands_sees m i h l = go (place_of m.bundles l) refl
   where
-    go : (p : Place) → place_of m.bundles l ≡ p → stands_in (set_of (sees m i)) p ≡ sees_from m i p
-    go (Within r) e = has_set (sees m i) r ∙ rw (lt-ltb r regions (region_inside m h l e))
-    go Nowhere e = refl
+    go : (p : Option ℕ) → place_of m.bundles l ≡ p → stands_in (set_of (sees m i)) p ≡ sees_from m i p
+    go (Some r) e = has_set (sees m i) r ∙ rw (lt-ltb r regions (region_inside m h l e))
+    go None e = refl
 
-pub keep_stands : (m : Model) (i : Item) → Legal m → {set : ℕ} → set ≡ set_of (sees m i) → {place : ℕ → Place}
+pub keep_stands : (m : Model) (i : Item) → Legal m → {set : ℕ} → set ≡ set_of (sees m i) → {place : ℕ → Option ℕ}
     → ((l : ℕ) → place l ≡ place_of m.bundles l) → (ls : List ℕ)
     → keep (λ l. stands_in set (place l)) ls ≡ keep (λ l. sees_from m i (place_of m.bundles l)) ls
 keep_stands m i h e f [] = refl

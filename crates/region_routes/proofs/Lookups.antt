@@ -1,4 +1,5 @@
 -- What the places of a number look up: the regions that its entries name, and the place of the first entry that passes a test.
+use Rattle.std.specs.Prelude.{Option, Some, None}
 use mathlib.Core.Path.{◌≡◌, refl, sym, ap, ap₂, ◌∙◌}
 use mathlib.Core.Bool.{Bool, true, false, ◌&&◌, and-true}
 use mathlib.Core.List.{List, [], ◌∷◌}
@@ -13,8 +14,6 @@ use borrow.Author.Tests.{eqb-true, eqb-false}
 use Rattle.std.specs.List.{fold}
 use Rattle.region_graph.specs.Lists.{pick}
 use Rattle.region_graph.specs.Sets.{singleton}
-use Rattle.region_graph.specs.declared.Place.{Place}
-use Rattle.region_graph.specs.declared.Place.TheVariants.{Within, Nowhere}
 use Rattle.region_graph.proofs.Views.{held, held_none, held_took, held_left}
 use Rattle.region_routes.specs.Tables.{number_in, place_in, held_in, place_at, place_beside}
 use Rattle.region_routes.specs.Chains.{places_left}
@@ -35,13 +34,13 @@ held_walked es n =
     ∙ ap (held place_in test) (take-length es)
 
 -- among the entries at the places of a list, the place of the first one that passes a test of its place
-abbrev pub first_place : List ℕ → (ℕ → Bool) → List ℕ → Place
-first_place es test [] = Nowhere
-first_place es test (i ∷ is) = pick (test i) (Within (place_in (get_or es i 0))) (first_place es test is)
+abbrev pub first_place : List ℕ → (ℕ → Bool) → List ℕ → Option ℕ
+first_place es test [] = None
+first_place es test (i ∷ is) = pick (test i) (Some (place_in (get_or es i 0))) (first_place es test is)
 
 -- `from i` is the place of the first one from place i on that has the number and passes the test
-module _ (es : List ℕ) (n : ℕ) (test : ℕ → Bool) (from : ℕ → Place) (last : from (length es) ≡ Nowhere)
-    (each : (i : ℕ) → i < length es → from i ≡ pick (eqb (number_in (get_or es i 0)) n && test i) (Within (place_in (get_or es i 0))) (from (i + 1))) where
+module _ (es : List ℕ) (n : ℕ) (test : ℕ → Bool) (from : ℕ → Option ℕ) (last : from (length es) ≡ None)
+    (each : (i : ℕ) → i < length es → from i ≡ pick (eqb (number_in (get_or es i 0)) n && test i) (Some (place_in (get_or es i 0))) (from (i + 1))) where
   first_from : (k i : ℕ) → i + k ≡ length es → first_place es test (places_left es n i) ≡ from i
   first_from zero i e =
       let s : i ≡ length es = omega arith in
@@ -55,7 +54,7 @@ module _ (es : List ℕ) (n : ℕ) (test : ℕ → Bool) (from : ℕ → Place) 
           → first_place es test (places_left es n i) ≡ from i
       go true q r =
           rw (left_own es n i h (eqb-true (number_in (get_or es i 0)) n q))
-          (ap (pick (test i) (Within (place_in (get_or es i 0)))) r ∙ sym (each i h ∙ rw q))
+          (ap (pick (test i) (Some (place_in (get_or es i 0)))) r ∙ sym (each i h ∙ rw q))
       go false q r = rw (left_other es n i h (eqb-false (number_in (get_or es i 0)) n q)) (r ∙ sym (each i h ∙ rw q))
 
 pub place_walked : (es : List ℕ) (n : ℕ) → first_place es (λ i. true) (places_left es n 0) ≡ place_at es n

@@ -1,4 +1,5 @@
 -- Tables of packages: their exporters, and the spans of what passes, at equal places beside them, and what they say of the model.
+use Rattle.std.specs.Prelude.{Option, Some, None}
 use mathlib.Core.Path.{◌≡◌, refl, sym, ap, ap₂, ◌∙◌}
 use mathlib.Core.Bool.{Bool, true, false, ◌&&◌, ◌||◌, and-false, or-true, or_assoc}
 use mathlib.Core.List.{List, [], ◌∷◌, ◌++◌, map, map-map}
@@ -16,8 +17,6 @@ use Rattle.region_graph.specs.Items.{is_package, entry_passes, provides, passes,
 use Rattle.region_graph.specs.Record.{bundle_in}
 use Rattle.region_graph.specs.Places.{BundleStored}
 use Rattle.region_graph.specs.Promise.{provider_place, predecessor_sets}
-use Rattle.region_graph.specs.declared.Place.{Place}
-use Rattle.region_graph.specs.declared.Place.TheVariants.{Within, Nowhere}
 use Rattle.region_graph.specs.declared.bundles.StoredBundle.{StoredBundle}
 use Rattle.region_graph.proofs.Lists.{exists_append, all_map, member_all, eqb_sym}
 use Rattle.region_graph.proofs.Ascending.{Rising, ascends_rising, strict_bundles}
@@ -26,26 +25,17 @@ use Rattle.region_graph.proofs.Storing.{packages_stored, versions_column}
 use Rattle.region_routes.specs.Hooks.{item}
 use Rattle.region_routes.specs.Tables.{width, everything_number, packed, number_in, ends, source_in, target_in, version_span, span_has, part_spans}
 use Rattle.region_routes.specs.Tables.{passed, listed_numbers, offer, passage, owner, passage_spans, offers, passages, owners, spans, step_in}
-use Rattle.region_routes.specs.Tables.{step_between, step_or_between, predecessors_by, place_beside, Appended, ExportTables}
-use Rattle.region_routes.proofs.TableLaws.{packed_number, packed_place, packed_of, packed_source, packed_target, source_inside, target_inside}
+use Rattle.region_routes.specs.Tables.{step_between, step_or_between, predecessors_by, place_beside, ExportTables}
+use Rattle.region_routes.proofs.TableLaws.{packed_number, packed_place, packed_of, packed_source, packed_target, connection_source, target_inside}
 
 -- owners
 
 -- the owners that a stored bundle has, by its column of versions
-module _ (b : StoredBundle) (s : BundleStored b) where
-  abbrev column : List ℕ
-  column = map (λ v. packed b.location v) (take b.packages.count b.packages.versions)
-
-  owner_column : column ≡ owner (bundle_in b)
-  owner_column =
-      ap (map (λ v. packed b.location v)) (filled_taken (versions_column b.packages (packages_stored b s)))
-      ∙ map-map (λ v. packed b.location v) (λ p. p.version) (bundle_in b).packages
-
-  pub owner_room : (n : ℕ) {k : ℕ} → n + length (owner (bundle_in b)) ≤ k → n + length column ≤ k
-  owner_room n h = rw owner_column h
-
-  pub owner_put : {before after : List ℕ} {at next : ℕ} → Appended before at column after next → Appended before at (owner (bundle_in b)) after next
-  owner_put a = rw owner_column at a
+pub owner_column : (b : StoredBundle) → BundleStored b
+    → map (λ v. packed b.location v) (take b.packages.count b.packages.versions) ≡ owner (bundle_in b)
+owner_column b s =
+    ap (map (λ v. packed b.location v)) (filled_taken (versions_column b.packages (packages_stored b s)))
+    ∙ map-map (λ v. packed b.location v) (λ p. p.version) (bundle_in b).packages
 
 -- a location and a version as one number
 packed_same : (l v k w : ℕ) → v < width → w < width → eqb (packed k w) (packed l v) ≡ (eqb k l && eqb v w)
@@ -59,8 +49,8 @@ packed_same l v k w h j = go (eqb k l) refl (eqb v w) refl
 module _ (l v n : ℕ) (low : v < width) where
   -- the entries of one bundle, with its location and their versions beside them
   module _ (b : Bundle) (i : b.region < regions) (es ls : List ℕ) where
-    abbrev test : Bool → Place
-    test t = pick t (Within b.region) (place_beside es ls (packed l v) n)
+    abbrev test : Bool → Option ℕ
+    test t = pick t (Some b.region) (place_beside es ls (packed l v) n)
 
     beside_packages : (ps : List Package) → All PackageFits ps
         → place_beside (map (λ x. packed x b.region) (map (λ p. p.number) ps) ++ es) (map (λ p. packed b.location p.version) ps ++ ls)
@@ -76,7 +66,7 @@ module _ (l v n : ℕ) (low : v < width) where
         )
         (first (eqb b.location l) (eqb n p.number) (eqb v p.version) (exists (is_package n v) ps))
       where
-        first : (t u w x : Bool) → pick (u && (t && w)) (Within b.region) (test (t && x)) ≡ test (t && ((u && w) || x))
+        first : (t u w x : Bool) → pick (u && (t && w)) (Some b.region) (test (t && x)) ≡ test (t && ((u && w) || x))
         first true true true x = refl
         first true true false x = refl
         first true false w x = refl
@@ -85,13 +75,13 @@ module _ (l v n : ℕ) (low : v < width) where
 
     beside_bundle : All PackageFits b.packages
         → place_beside (offer 1 b ++ es) (owner b ++ ls) (packed l v) n
-        ≡ pick (at_location l b && provides (item 1 n v) b) (Within b.region) (place_beside es ls (packed l v) n)
+        ≡ pick (at_location l b && provides (item 1 n v) b) (Some b.region) (place_beside es ls (packed l v) n)
     beside_bundle a = beside_packages b.packages a
 
   module _ {rs : List ℕ} (bound : (b : Bundle) → LegalBundle rs b → b.region < regions) where
     -- no bundle is at the location
     none_beside : (bs : List Bundle) → All (LegalBundle rs) bs → All (λ b. at_location l b ≡ false) bs
-        → place_beside (offers 1 bs) (owners bs) (packed l v) n ≡ Nowhere
+        → place_beside (offers 1 bs) (owners bs) (packed l v) n ≡ None
     none_beside [] a f = refl
     none_beside (b ∷ bs) a f =
         beside_bundle b (bound b a.0) (offers 1 bs) (owners bs) a.0.packages.each ∙ rw f.0 (none_beside bs a.1 f.1)
@@ -110,8 +100,8 @@ module _ (l v n : ℕ) (low : v < width) where
 
         by : (t : Bool) → at_location l b ≡ t → (u : Bool)
             → place_beside (offers 1 bs) (owners bs) (packed l v) n ≡ provider_place bs l (item 1 n v)
-            → pick (t && u) (Within b.region) (place_beside (offers 1 bs) (owners bs) (packed l v) n)
-            ≡ pick t (pick u (Within b.region) Nowhere) (provider_place bs l (item 1 n v))
+            → pick (t && u) (Some b.region) (place_beside (offers 1 bs) (owners bs) (packed l v) n)
+            ≡ pick t (pick u (Some b.region) None) (provider_place bs l (item 1 n v))
         by true e true f = refl
         by true e false f = none_beside bs a.1 (later e)
         by false e u f = f
@@ -220,7 +210,7 @@ module _ (m : Model) (h : Legal m) (n v : ℕ) where
           ∙ apart (all (passage 1 c)) (all (passages 1 cs)) (step_between (passage 1 c) (passage_spans c) n v r s)
           (step_between (passages 1 cs) (spans cs) n v r s)
           ∙ ap₂ ◌||◌
-          (part_says n v r s (source_inside m h {c = c} l.0) (target_inside m h {c = c} l.0) c.filter.packages l.0.filter.packages)
+          (part_says n v r s (connection_source m h {c = c} l.0) (target_inside m h {c = c} l.0) c.filter.packages l.0.filter.packages)
           (go cs l.1)
 
   stepped_spans : predecessors_by

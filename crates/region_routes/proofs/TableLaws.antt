@@ -1,37 +1,36 @@
 -- Tables: what an entry says, what a table says of the model whose table it is, and what a loop puts it together from.
+use Rattle.std.specs.Prelude.{Option}
 use mathlib.Core.Path.{◌≡◌, refl, sym, ap, ap₂, ◌∙◌}
 use mathlib.Core.Bool.{Bool, true, false, ◌&&◌, ◌||◌, and-false, or-true, or-false}
 use mathlib.Core.List.{List, [], ◌∷◌, map}
 use Prim.Native.Nat.{ℕ, zero, suc, ◌+◌, ◌≤◌, ◌<◌, ◌^◌}
 use native.Mathlib.Omega.{arith}
 use lib.Dec.{eqb, ltb}
-use lib.ListN.{length, get_or, replicate, length-map}
+use lib.ListN.{length, get_or, take, replicate, length-map}
 use borrow.Author.Tests.{ne_eqb}
-use Rattle.region_graph.specs.Size.{regions, most_bundles, most_connections, most_provided, most_listed}
+use Rattle.region_graph.specs.Size.{regions, most_provided, most_listed}
 use Rattle.region_graph.specs.Lists.{exists, All, member, concat_map}
 use Rattle.region_graph.specs.Sets.{set_of}
 use Rattle.region_graph.specs.Model.{Model, PackageEntry, Bundle, Filter, Part, Connection, Word, SortedPart, LegalEntry, entry_before}
 use Rattle.region_graph.specs.Model.{Legal, LegalBundle, LegalFilter, LegalConnection}
 use Rattle.region_graph.specs.Calls.{of_listed}
 use Rattle.region_graph.specs.Items.{provides, passes, crosses}
-use Rattle.region_graph.specs.Record.{places, store_bundle, store_connection, bundle_in, connection_in, no_bundle, no_connection}
+use Rattle.region_graph.specs.Record.{store_bundle, store_connection, bundle_in, connection_in, no_bundle, no_connection}
 use Rattle.region_graph.specs.Places.{ShortBundle, ShortConnection, BundleStored, ConnectionStored}
 use Rattle.region_graph.specs.Promise.{place_of, holder_set, predecessor_sets}
-use Rattle.region_graph.specs.declared.Place.{Place}
 use Rattle.region_graph.specs.declared.bundles.StoredBundle.{StoredBundle}
 use Rattle.region_graph.specs.declared.connections.StoredConnection.{StoredConnection}
 use Rattle.region_graph.proofs.Lists.{exists_append, all_at, all_map, member_all, eqb_sym, false_true}
 use Rattle.region_graph.proofs.Bits.{set_below_lt, set_none}
-use Rattle.region_graph.proofs.Arrays.{filled_at, filled_inside}
 use Rattle.region_graph.proofs.Storing.{stored_as, bundle_back, connection_back, bundles_each, connections_each}
 use Rattle.region_graph.proofs.Storing.{short_bundle, short_connection, short_connections}
 use Rattle.region_routes.specs.Hooks.{item, is_installed, all_installed}
 use Rattle.region_routes.specs.Search.{RegionSets}
 use Rattle.region_routes.specs.Tables.{width, everything_number, packed, number_in, place_in, ends, source_in, target_in, provided_numbers}
 use Rattle.region_routes.specs.Tables.{listed_numbers, part_numbers, passed, offer, passage, offers, passages, held_in, step_in, step_or}
-use Rattle.region_routes.specs.Tables.{predecessors_by, place_at, all_placed, NumberTables}
+use Rattle.region_routes.specs.Tables.{predecessors_by, place_at, all_placed, most_entries, NumberTables}
 use Rattle.region_routes.proofs.SetLaws.{counted_sets}
-use Rattle.region_routes.proofs.TableLoops.{Source, Gathering, gathering_room}
+use Rattle.region_routes.proofs.TableLoops.{Source, source_inside, source_at, gathering_room}
 
 -- what an entry says
 
@@ -138,8 +137,8 @@ module _ (m : Model) (h : Legal m) where
 
   -- passages
 
-  pub source_inside : {c : Connection} → LegalConnection m.regions c → c.source < regions
-  source_inside {c} l = member_all (λ x. x < regions) c.source m.regions h.regions_legal.each l.source
+  pub connection_source : {c : Connection} → LegalConnection m.regions c → c.source < regions
+  connection_source {c} l = member_all (λ x. x < regions) c.source m.regions h.regions_legal.each l.source
 
   pub target_inside : {c : Connection} → LegalConnection m.regions c → c.target < regions
   target_inside {c} l = member_all (λ x. x < regions) c.target m.regions h.regions_legal.each l.target
@@ -165,7 +164,7 @@ module _ (m : Model) (h : Legal m) where
       → exists (λ e. (eqb (source_in e) r && eqb (target_in e) s) && (eqb (number_in e) everything_number || eqb (number_in e) n)) (passage k c)
       ≡ ((eqb c.source r && eqb c.target s) && passes (item k n 0) c.filter)
   passage_says k n r s q c l =
-      let a = source_inside l in
+      let a = connection_source l in
       let b = target_inside l in
       let xs = passed (part_numbers k c.filter) in
       exists_map (λ x. packed x (ends c.source c.target))
@@ -210,59 +209,55 @@ module _ (m : Model) (h : Legal m) where
       all_map (LegalConnection m.regions) (λ c. length (passage k c) ≤ most_listed) (λ c l. rw length-map (few_passed k c.filter l.filter))
       m.connections h.connections_legal.each
 
-  -- the places of the bundles: what a table of them is put together from
+  -- the stored bundles: what a table of them is put together from
   module _ (f : Bundle → List ℕ) where
-    abbrev pub BundlesFrom : List StoredBundle → ℕ → Type 0
-    BundlesFrom items count = Source store_bundle (store_bundle no_bundle) most_bundles bundle_in f most_provided items count m.bundles
+    abbrev pub BundlesFrom : List StoredBundle → Type 0
+    BundlesFrom stored = Source store_bundle bundle_in f most_provided stored m.bundles
 
-    pub bundles_from : {items : List StoredBundle} {count : ℕ} → All (λ b. length (f b) ≤ most_provided) m.bundles
-        → items ≡ places store_bundle (store_bundle no_bundle) most_bundles m.bundles → count ≡ length m.bundles → BundlesFrom items count
-    bundles_from few s c = record {
-      filled = record { shape = s; counted = c; room = h.bundles_legal.few };
+    pub bundles_from : {stored : List StoredBundle} → All (λ b. length (f b) ≤ most_provided) m.bundles → stored ≡ map store_bundle m.bundles
+        → BundlesFrom stored
+    bundles_from few s = record {
+      stored_is = s;
       back = bundles_each m.bundles;
       few = few;
-      fits = omega arith;
+      fits = omega (arith, h.bundles_legal.few);
     }
 
-    -- what is asked of the place of which entries are put: it is stored in the one way, and there is room
-    pub bundles_asked : {items : List StoredBundle} {count : ℕ} {before out : List ℕ} {i n : ℕ} → BundlesFrom items count
-        → Gathering bundle_in f items count before i out n → (e : StoredBundle) → i < count
-        → BundleStored (get_or items i e) × (n + length (f (bundle_in (get_or items i e))) ≤ length out)
+    -- what is asked of the one of which entries are put: it is stored in the one way, and there is room
+    pub bundles_asked : {stored : List StoredBundle} {out : List ℕ} {i : ℕ} → BundlesFrom stored → out ≡ concat_map f (take i m.bundles)
+        → (e : StoredBundle) → i < length stored
+        → BundleStored (get_or stored i e) × (length out + length (f (bundle_in (get_or stored i e))) ≤ most_entries)
     bundles_asked {i = i} s g e l =
-        let w = s.filled in
         let b = get_or m.bundles i no_bundle in (
-          stored_as store_bundle bundle_in ShortBundle (λ b s. bundle_back b) b (filled_at w i e no_bundle l)
-              (short_bundle (all_at (LegalBundle m.regions) m.bundles i no_bundle (filled_inside w i l) h.bundles_legal.each)),
+          stored_as store_bundle bundle_in ShortBundle (λ b s. bundle_back b) b (source_at s i e no_bundle l)
+              (short_bundle (all_at (LegalBundle m.regions) m.bundles i no_bundle (source_inside s l) h.bundles_legal.each)),
           gathering_room s g e no_bundle l,
         )
 
-  -- the places of the connections
+  -- the stored connections
   module _ (f : Connection → List ℕ) where
-    abbrev pub ConnectionsFrom : List StoredConnection → ℕ → Type 0
-    ConnectionsFrom items count =
-        Source store_connection (store_connection no_connection) most_connections connection_in f most_listed items count m.connections
+    abbrev pub ConnectionsFrom : List StoredConnection → Type 0
+    ConnectionsFrom stored = Source store_connection connection_in f most_listed stored m.connections
 
-    pub connections_from : {items : List StoredConnection} {count : ℕ} → All (λ c. length (f c) ≤ most_listed) m.connections
-        → items ≡ places store_connection (store_connection no_connection) most_connections m.connections → count ≡ length m.connections
-        → ConnectionsFrom items count
-    connections_from few s c = record {
-      filled = record { shape = s; counted = c; room = h.connections_legal.few };
+    pub connections_from : {stored : List StoredConnection} → All (λ c. length (f c) ≤ most_listed) m.connections
+        → stored ≡ map store_connection m.connections → ConnectionsFrom stored
+    connections_from few s = record {
+      stored_is = s;
       back = connections_each m.connections (short_connections h);
       few = few;
-      fits = omega arith;
+      fits = omega (arith, h.connections_legal.few);
     }
 
     -- here a connection's ends are regions, too
-    pub connections_asked : {items : List StoredConnection} {count : ℕ} {before out : List ℕ} {i n : ℕ} → ConnectionsFrom items count
-        → Gathering connection_in f items count before i out n → (e : StoredConnection) → i < count
-        → ConnectionStored (get_or items i e) × ((((get_or items i e).source < regions) × ((get_or items i e).target < regions))
-        × (n + length (f (connection_in (get_or items i e))) ≤ length out))
+    pub connections_asked : {stored : List StoredConnection} {out : List ℕ} {i : ℕ} → ConnectionsFrom stored
+        → out ≡ concat_map f (take i m.connections) → (e : StoredConnection) → i < length stored
+        → ConnectionStored (get_or stored i e) × ((((get_or stored i e).source < regions) × ((get_or stored i e).target < regions))
+        × (length out + length (f (connection_in (get_or stored i e))) ≤ most_entries))
     connections_asked {i = i} s g e l =
-        let w = s.filled in
         let c = get_or m.connections i no_connection in
-        let legal = all_at (LegalConnection m.regions) m.connections i no_connection (filled_inside w i l) h.connections_legal.each in (
-          stored_as store_connection connection_in ShortConnection connection_back c (filled_at w i e no_connection l) (short_connection legal),
-          (rw (filled_at w i e no_connection l) (source_inside {c = c} legal, target_inside {c = c} legal), gathering_room s g e no_connection l),
+        let legal = all_at (LegalConnection m.regions) m.connections i no_connection (source_inside s l) h.connections_legal.each in (
+          stored_as store_connection connection_in ShortConnection connection_back c (source_at s i e no_connection l) (short_connection legal),
+          (rw (source_at s i e no_connection l) (connection_source {c = c} legal, target_inside {c = c} legal), gathering_room s g e no_connection l),
         )
 
 -- the places in the table of the bundles are the regions of the locations
@@ -270,7 +265,7 @@ pub place_table : {m : Model} → Legal m → {es : List ℕ} → es ≡ offers 
 place_table {m} h e l = ap (λ (es : List ℕ). place_at es l) e ∙ place_offers m h l
 
 -- each listener has a place where each is installed
-pub placed_installed : (m : Model) {place : ℕ → Place} → ((l : ℕ) → place l ≡ place_of m.bundles l) → (ls : List ℕ)
+pub placed_installed : (m : Model) {place : ℕ → Option ℕ} → ((l : ℕ) → place l ≡ place_of m.bundles l) → (ls : List ℕ)
     → all_placed place ls ≡ all_installed m ls
 placed_installed m e [] = refl
 placed_installed m e (l ∷ ls) = ap₂ ◌&&◌ (ap is_installed (e l)) (placed_installed m e ls)

@@ -11,8 +11,6 @@ use Rattle.region_graph.specs.Calls.{Question, ask, first_no}
 use Rattle.region_graph.specs.Promise.{place_of}
 use Rattle.region_graph.specs.declared.Item.{Item}
 use Rattle.region_graph.specs.declared.refusals.Refusal.{Refusal}
-use Rattle.region_graph.specs.declared.Place.{Place}
-use Rattle.region_graph.specs.declared.Place.TheVariants.{Within, Nowhere}
 use Rattle.region_routes.specs.Chosen.{chosen, sees}
 use Rattle.region_routes.specs.declared.Kind.{Kind}
 
@@ -78,9 +76,9 @@ abbrev pub kept : {E : Type 0} → Kept → E → Outcome Kept E
 kept answer exit = record { answer = answer; returned = kept_as answer; exit = exit }
 
 -- whether a bundle, and every listener, is installed
-abbrev pub is_installed : Place → Bool
-is_installed (Within r) = true
-is_installed Nowhere = false
+abbrev pub is_installed : Maybe ℕ → Bool
+is_installed (Some r) = true
+is_installed None = false
 
 abbrev pub all_installed : Model → List ℕ → Bool
 all_installed m [] = true
@@ -118,9 +116,9 @@ shown none entry = routed Routed.Hidden entry
 shown (some p) entry = routed (Routed.Count (length p - 1)) (written p entry)
 
 -- the chosen route from the region of an installed bundle
-abbrev pub shown_from : Model → Item → Place → List ℕ → Outcome Routed (List ℕ)
-shown_from m i (Within r) entry = shown (chosen m i r) entry
-shown_from m i Nowhere entry = shown none entry
+abbrev pub shown_from : Model → Item → Maybe ℕ → List ℕ → Outcome Routed (List ℕ)
+shown_from m i (Some r) entry = shown (chosen m i r) entry
+shown_from m i None entry = shown none entry
 
 abbrev pub route_outcome : Model → ℕ → ℕ → ℕ → ℕ → List ℕ → Outcome Routed (List ℕ)
 route_outcome m location kind number version entry =
@@ -131,9 +129,9 @@ abbrev pub kept_outcome : List ℕ → List ℕ → Outcome Kept (List ℕ)
 kept_outcome xs entry = kept (Kept.Wrote (length xs)) (written xs entry)
 
 -- whether the region of an installed bundle sees an item
-abbrev pub sees_from : Model → Item → Place → Bool
-sees_from m i (Within r) = sees m i r
-sees_from m i Nowhere = false
+abbrev pub sees_from : Model → Item → Maybe ℕ → Bool
+sees_from m i (Some r) = sees m i r
+sees_from m i None = false
 
 -- a find writes the candidates that its bundle sees
 abbrev pub find_outcome : Model → Kind → ℕ → List ℕ → List ℕ → Outcome Kept (List ℕ)

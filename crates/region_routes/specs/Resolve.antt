@@ -1,4 +1,5 @@
 -- Document 02, C-14 and C-15: what resolve answers and leaves in the output lists that it is lent.
+use Rattle.std.specs.Prelude.{Option, Some, None}
 use Rattle.std.specs.Prelude.{Bool, true, false, ◌&&◌, List, [], ◌∷◌, map, ℕ, eqb, leb, length}
 use Rattle.region_graph.specs.Refusals.{not_installed, no_place}
 use Rattle.region_graph.specs.Lists.{keep}
@@ -9,8 +10,6 @@ use Rattle.region_graph.specs.Promise.{place_of, provider_place}
 use Rattle.region_graph.specs.declared.Item.{Item}
 pub use Rattle.region_routes.specs.declared.resolver.Candidate.{Candidate}
 use Rattle.region_routes.specs.declared.resolver.Candidates.{Candidates}
-use Rattle.region_graph.specs.declared.Place.{Place}
-use Rattle.region_graph.specs.declared.Place.TheVariants.{Within, Nowhere}
 use Rattle.region_routes.specs.Chosen.{chosen_by, found}
 use Rattle.region_routes.specs.Hooks.{kind_number, item, written, Outcome, Kept, kept, is_installed, judged}
 use Rattle.region_routes.specs.declared.Kind.TheVariants as Kind
@@ -41,18 +40,18 @@ unfoldable pub reaches : Model → Item → ℕ → ℕ → Bool
 reaches m i t r = found (chosen_by (crosses m i) (eqb t) r)
 
 -- the same for a candidate's package, with the place of the exporter that exports it
-abbrev pub offered_at : Model → Candidate → ℕ → Place → Bool
-offered_at m c r (Within t) = reaches m (package_of c) t r
-offered_at m c r Nowhere = false
+abbrev pub offered_at : Model → Candidate → ℕ → Option ℕ → Bool
+offered_at m c r (Some t) = reaches m (package_of c) t r
+offered_at m c r None = false
 
 -- whether the exporter is installed and exports the package, and region r has a route for the package that ends in the exporter's region
 abbrev pub is_offered : Model → Candidate → ℕ → Bool
 is_offered m c r = offered_at m c r (provider_place m.bundles c.exporter (package_of c))
 
 -- the same of the region of an installed bundle
-abbrev pub offered_from : Model → Candidate → Place → Bool
-offered_from m c (Within r) = is_offered m c r
-offered_from m c Nowhere = false
+abbrev pub offered_from : Model → Candidate → Option ℕ → Bool
+offered_from m c (Some r) = is_offered m c r
+offered_from m c None = false
 
 -- each output list has a place for each candidate
 abbrev pub places_for : ℕ → List (List ℕ) → Bool

@@ -1,11 +1,10 @@
 -- What the functions on tables promise each other. A table has the items of one kind as plain numbers, so that it is lent and not copied.
-use Rattle.std.specs.Prelude.{◌≡◌, Bool, true, false, ◌&&◌, ◌||◌, List, [], ◌∷◌, ◌++◌, map, ℕ, zero, suc, ◌+◌, ◌*◌, ◌/◌, ◌%◌, ◌^◌, ◌≤◌, eqb, leb, length, take}
+use Rattle.std.specs.Prelude.{Option, Some, None}
+use Rattle.std.specs.Prelude.{◌≡◌, Bool, true, false, ◌&&◌, ◌||◌, List, [], ◌∷◌, map, ℕ, zero, suc, ◌+◌, ◌*◌, ◌/◌, ◌%◌, ◌^◌, ◌≤◌, eqb, leb, length}
 use Rattle.region_graph.specs.Size.{regions, most_connections, most_listed}
 use Rattle.region_graph.specs.Lists.{pick, exists, concat_map, count_from}
 use Rattle.region_graph.specs.Sets.{has, set_of}
 use Rattle.region_graph.specs.Model.{Model, PackageEntry, Bundle, Filter, Part, Connection, Legal}
-use Rattle.region_graph.specs.declared.Place.{Place}
-use Rattle.region_graph.specs.declared.Place.TheVariants.{Within, Nowhere}
 use Rattle.region_routes.specs.Hooks.{kind_number, is_installed}
 use Rattle.region_routes.specs.Resolve.{Candidate}
 use Rattle.region_routes.specs.declared.Kind.TheVariants as Kind
@@ -104,17 +103,6 @@ passage_spans c = part_spans c.filter.packages
 abbrev pub spans : List Connection → List ℕ
 spans cs = concat_map passage_spans cs
 
--- xs was put at the places from `at` on; what stands before them is as it was, and `next` is the place after them
-pub record Appended (before : List ℕ) (at : ℕ) (xs after : List ℕ) (next : ℕ) : Type 0 where
-  pub counted : next ≡ at + length xs
-  pub kept : take next after ≡ take at before ++ xs
-
--- the first `count` places hold the table
-pub record Holding (xs items : List ℕ) (count : ℕ) : Type 0 where
-  pub few : count ≤ most_entries
-  pub room : count ≤ length items
-  pub table : take count items ≡ xs
-
 -- the regions that the entries of a number name, and whether one of them goes from region r to region s
 abbrev pub held_in : List ℕ → ℕ → ℕ
 held_in es n = set_of (λ r. exists (λ e. eqb (place_in e) r && eqb (number_in e) n) es)
@@ -140,23 +128,23 @@ unfoldable pub predecessors_by : (ℕ → ℕ → Bool) → List ℕ
 predecessors_by step = map (λ s. set_of (λ r. step r s)) (count_from 0 regions)
 
 -- the place of the first entry that has the number
-abbrev pub place_at : List ℕ → ℕ → Place
-place_at [] l = Nowhere
-place_at (e ∷ es) l = pick (eqb (number_in e) l) (Within (place_in e)) (place_at es l)
+abbrev pub place_at : List ℕ → ℕ → Option ℕ
+place_at [] l = None
+place_at (e ∷ es) l = pick (eqb (number_in e) l) (Some (place_in e)) (place_at es l)
 
 -- the place of the first entry that has the number n, and l beside it
-abbrev pub place_beside : List ℕ → List ℕ → ℕ → ℕ → Place
-place_beside [] ls l n = Nowhere
-place_beside (e ∷ es) [] l n = Nowhere
-place_beside (e ∷ es) (k ∷ ls) l n = pick (eqb (number_in e) n && eqb k l) (Within (place_in e)) (place_beside es ls l n)
+abbrev pub place_beside : List ℕ → List ℕ → ℕ → ℕ → Option ℕ
+place_beside [] ls l n = None
+place_beside (e ∷ es) [] l n = None
+place_beside (e ∷ es) (k ∷ ls) l n = pick (eqb (number_in e) n && eqb k l) (Some (place_in e)) (place_beside es ls l n)
 
 -- whether a place is in a set
-abbrev pub stands_in : ℕ → Place → Bool
-stands_in set (Within r) = has set r
-stands_in set Nowhere = false
+abbrev pub stands_in : ℕ → Option ℕ → Bool
+stands_in set (Some r) = has set r
+stands_in set None = false
 
 -- each number has a place
-abbrev pub all_placed : (ℕ → Place) → List ℕ → Bool
+abbrev pub all_placed : (ℕ → Option ℕ) → List ℕ → Bool
 all_placed place [] = true
 all_placed place (l ∷ ls) = is_installed (place l) && all_placed place ls
 

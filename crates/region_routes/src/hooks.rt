@@ -11,11 +11,11 @@ ghost use Rattle.region_routes.specs.Tables.{NumberTables, most_entries, everyth
 
 use crate::Kind;
 use crate::search::{regions_seeing, regions_seeing_by};
-use crate::tables::{Chains, EVERYTHING_NUMBER, FEW, MOST_ENTRIES, offers, passages, wide};
+use crate::tables::{Chains, EVERYTHING_NUMBER, FEW, Table};
+use region_graph::Graph;
 use region_graph::refusals::Refusal;
 use region_graph::region_set::has;
 use region_graph::size::REGIONS;
-use region_graph::{Graph, Place};
 
 // Writes the candidates that pass a test, and gives their count.
 fn keep_where<F: Fn(u32) -> bool>(candidates: &[u32], out: &mut [u32], keeps: F) -> usize
@@ -33,20 +33,18 @@ fn keep_where<F: Fn(u32) -> bool>(candidates: &[u32], out: &mut [u32], keeps: F)
     count
 }
 
-// Writes the candidates of a kind that a region sees, by the tables of the kind, which are chained first.
-fn keep_seen(
-    offered: &[u64],
-    passing: &[u64],
-    region: u32,
-    candidates: &[u32],
-    out: &mut [u32],
-) -> usize
-    requires offered_len_bound { (length offered.now ≤ most_entries) × (length passing.now ≤ most_entries) }
+// Writes the candidates of a kind by number that a region sees: makes the tables of the kind, with their chains.
+fn keep_many(graph: &Graph, kind: Kind, region: u32, candidates: &[u32], out: &mut [u32]) -> usize
+    requires valid { Valid graph.now × (eqb (kind_number kind) (kind_number Kind.Package) ≡ false) }
     requires region_lt_regions { (region < regions) × (length candidates.now ≤ length out.old) }
-    ensures { (m : Model) (kind : ℕ) → NumberTables m kind offered.now passing.now → kept (Kept.Wrote result) out.new ≡ kept_outcome (keep (λ n. sees m (item kind n 0) region) candidates.now) out.old }
+    ensures { kept (Kept.Wrote result) out.new ≡ kept_outcome (keep (λ n. sees (meaning graph.now) (item (kind_number kind) n 0) region) candidates.now) out.old }
 {
-    let offered = Chains::of(offered);
-    let passing = Chains::of(passing);
+    let mut offered = Table::new();
+    offered.put_offers(graph, kind);
+    let offered = Chains::of(offered.entries());
+    let mut passing = Table::new();
+    passing.put_passages(graph, kind);
+    let passing = Chains::of(passing.entries());
     let always = passing.predecessors(EVERYTHING_NUMBER, [0; REGIONS]);
     keep_where(
         candidates,
@@ -63,55 +61,35 @@ fn keep_seen(
     )
 }
 
-// Writes the candidates of a kind by number that a region sees: makes the tables of the kind.
-fn keep_many(graph: Graph, kind: Kind, region: u32, candidates: &[u32], out: &mut [u32]) -> usize
-    requires valid { Valid graph × (eqb (kind_number kind) (kind_number Kind.Package) ≡ false) }
-    requires region_lt_regions { (region < regions) × (length candidates.now ≤ length out.old) }
-    ensures { kept (Kept.Wrote result) out.new ≡ kept_outcome (keep (λ n. sees (meaning graph) (item (kind_number kind) n 0) region) candidates.now) out.old }
-{
-    let mut offered = [0u64; MOST_ENTRIES];
-    let given = offers(&mut offered, graph, kind);
-    let mut passing = [0u64; MOST_ENTRIES];
-    let passed = passages(&mut passing, graph, kind);
-    keep_seen(
-        &offered[..given],
-        &passing[..passed],
-        region,
-        candidates,
-        out,
-    )
-}
-
 // Writes the candidates of a kind that a region sees: asks the graph about each, and makes no tables.
-fn keep_few(graph: Graph, kind: Kind, region: u32, candidates: &[u32], out: &mut [u32]) -> usize
-    requires valid { Valid graph }
+fn keep_few(graph: &Graph, kind: Kind, region: u32, candidates: &[u32], out: &mut [u32]) -> usize
+    requires valid { Valid graph.now }
     requires region_lt_regions { (region < regions) × (length candidates.now ≤ length out.old) }
-    ensures { kept (Kept.Wrote result) out.new ≡ kept_outcome (keep (λ n. sees (meaning graph) (item (kind_number kind) n 0) region) candidates.now) out.old }
+    ensures { kept (Kept.Wrote result) out.new ≡ kept_outcome (keep (λ n. sees (meaning graph.now) (item (kind_number kind) n 0) region) candidates.now) out.old }
 {
     keep_where(
         candidates,
         out,
         |number|
-            requires { Valid graph × (region < regions) }
-            ensures { result ≡ sees (meaning graph) (item (kind_number kind) number 0) region }
+            requires { Valid graph.now × (region < regions) }
+            ensures { result ≡ sees (meaning graph.entry.now) (item (kind_number kind) number 0) region }
         { has(regions_seeing(graph, kind.item(number)), region) },
     )
 }
 
 // The items of a kind by number among the candidates that a bundle sees.
+#[tactic(auto, using(crate::proofs::Judging::region_inside, crate::proofs::Answering::find_not_installed, crate::proofs::Answering::find_no_place, crate::proofs::Answering::find_answers))]
 fn find(
-    graph: Graph,
+    graph: &Graph,
     kind: Kind,
     location: u32,
     candidates: &[u32],
     out: &mut [u32],
 ) -> Result<usize, Refusal>
-    requires { Valid graph × (eqb (kind_number kind) (kind_number Kind.Package) ≡ false) }
-    ensures { kept (kept_answer result) out.new ≡ find_outcome (meaning graph) kind location candidates.now out.old }
+    requires { Valid graph.now × (eqb (kind_number kind) (kind_number Kind.Package) ≡ false) }
+    ensures { kept (kept_answer result) out.new ≡ find_outcome (meaning graph.now) kind location candidates.now out.old }
 {
-    let Place::Within(region) = graph.region_of(location) else {
-        return Err(Refusal::NotInstalled);
-    };
+    let region = graph.region_of(location).ok_or(Refusal::NotInstalled)?;
     if out.len() < candidates.len() {
         return Err(Refusal::NoPlace);
     }
@@ -125,7 +103,7 @@ fn find(
 fn is_placed(bundles: &Chains<'_>, listener: u32) -> bool
     ensures { result ≡ is_installed (place_at bundles.now.table.now listener) }
 {
-    matches!(bundles.place_of(wide(listener)), Place::Within(_))
+    bundles.place_of(u64::from(listener)).is_some()
 }
 
 // Whether every listener has a place in the table of the bundles.
@@ -141,26 +119,25 @@ fn all_placed(bundles: &Chains<'_>, listeners: &[u32]) -> bool
 fn stands_in(bundles: &Chains<'_>, listener: u32, set: u64) -> bool
     ensures { result ≡ stands_in set (place_at bundles.now.table.now listener) }
 {
-    match bundles.place_of(wide(listener)) {
-        Place::Within(region) => has(set, region),
-        Place::Nowhere => false,
-    }
+    bundles
+        .place_of(u64::from(listener))
+        .is_some_and(|region| has(set, region))
 }
 
 // The listeners that see an item of a kind.
 fn event(
-    graph: Graph,
+    graph: &Graph,
     kind: Kind,
     listeners: &[u32],
     number: u32,
     out: &mut [u32],
 ) -> Result<usize, Refusal>
-    requires { Valid graph }
-    ensures { kept (kept_answer result) out.new ≡ event_outcome (meaning graph) kind listeners.now number out.old }
+    requires { Valid graph.now }
+    ensures { kept (kept_answer result) out.new ≡ event_outcome (meaning graph.now) kind listeners.now number out.old }
 {
-    let mut offered = [0u64; MOST_ENTRIES];
-    let count = offers(&mut offered, graph, Kind::Bundle);
-    let bundles = Chains::of(&offered[..count]);
+    let mut bundles = Table::new();
+    bundles.put_offers(graph, Kind::Bundle);
+    let bundles = Chains::of(bundles.entries());
     if !all_placed(&bundles, listeners) {
         return Err(Refusal::NotInstalled);
     }
@@ -176,52 +153,52 @@ fn event(
 
 // The bundles among the candidates that a bundle sees.
 pub fn bundle_find(
-    graph: Graph,
+    graph: &Graph,
     location: u32,
     candidates: &[u32],
     out: &mut [u32],
 ) -> Result<usize, Refusal>
-    requires { Valid graph }
-    ensures { kept (kept_answer result) out.new ≡ find_outcome (meaning graph) Kind.Bundle location candidates.now out.old }
+    requires { Valid graph.now }
+    ensures { kept (kept_answer result) out.new ≡ find_outcome (meaning graph.now) Kind.Bundle location candidates.now out.old }
 {
     find(graph, Kind::Bundle, location, candidates, out)
 }
 
 // The services among the candidates that a bundle sees.
 pub fn service_find(
-    graph: Graph,
+    graph: &Graph,
     location: u32,
     candidates: &[u32],
     out: &mut [u32],
 ) -> Result<usize, Refusal>
-    requires { Valid graph }
-    ensures { kept (kept_answer result) out.new ≡ find_outcome (meaning graph) Kind.Service location candidates.now out.old }
+    requires { Valid graph.now }
+    ensures { kept (kept_answer result) out.new ≡ find_outcome (meaning graph.now) Kind.Service location candidates.now out.old }
 {
     find(graph, Kind::Service, location, candidates, out)
 }
 
 // The listeners that see a bundle.
 pub fn bundle_event(
-    graph: Graph,
+    graph: &Graph,
     listeners: &[u32],
     bundle: u32,
     out: &mut [u32],
 ) -> Result<usize, Refusal>
-    requires { Valid graph }
-    ensures { kept (kept_answer result) out.new ≡ event_outcome (meaning graph) Kind.Bundle listeners.now bundle out.old }
+    requires { Valid graph.now }
+    ensures { kept (kept_answer result) out.new ≡ event_outcome (meaning graph.now) Kind.Bundle listeners.now bundle out.old }
 {
     event(graph, Kind::Bundle, listeners, bundle, out)
 }
 
 // The listeners that see a service.
 pub fn service_event(
-    graph: Graph,
+    graph: &Graph,
     listeners: &[u32],
     service: u32,
     out: &mut [u32],
 ) -> Result<usize, Refusal>
-    requires { Valid graph }
-    ensures { kept (kept_answer result) out.new ≡ event_outcome (meaning graph) Kind.Service listeners.now service out.old }
+    requires { Valid graph.now }
+    ensures { kept (kept_answer result) out.new ≡ event_outcome (meaning graph.now) Kind.Service listeners.now service out.old }
 {
     event(graph, Kind::Service, listeners, service, out)
 }

@@ -11,14 +11,11 @@ ghost use Rattle.region_routes.specs.Tables.{ExportTables, Room, most_entries, e
 
 use crate::Kind;
 use crate::search::{Ends, search, search_for};
-use crate::tables::{
-    Chains, EVERYTHING_NUMBER, FEW, MOST_ENTRIES, offers, owner_number, owners, passages, spans,
-    wide,
-};
+use crate::tables::{Chains, EVERYTHING_NUMBER, FEW, Table, owner_number};
 use region_graph::refusals::Refusal;
 use region_graph::region_set::{has, singleton};
 use region_graph::size::REGIONS;
-use region_graph::{Graph, Item, Place};
+use region_graph::{Graph, Item};
 
 // A candidate: an exporter's location with a package.
 #[derive(Clone, Copy)]
@@ -86,10 +83,10 @@ fn keep_where<F: Fn(Candidate) -> bool>(
 }
 
 // Whether a region is offered a candidate: asks the graph, and makes no tables.
-fn is_offered(graph: Graph, region: u32, candidate: Candidate) -> bool
-    requires valid { Valid graph }
+fn is_offered(graph: &Graph, region: u32, candidate: Candidate) -> bool
+    requires valid { Valid graph.now }
     requires region_lt_regions { region < regions }
-    ensures { result ≡ is_offered (meaning graph) candidate region }
+    ensures { result ≡ is_offered (meaning graph.now) candidate region }
 {
     let package = Item {
         kind: Kind::Package.number(),
@@ -97,11 +94,11 @@ fn is_offered(graph: Graph, region: u32, candidate: Candidate) -> bool
         version: candidate.version,
     };
     match graph.provider(candidate.exporter, package) {
-        Place::Within(home) => {
+        Some(home) => {
             let search = search_for(graph, package, Ends::Region(home));
             has(search.layers.reached, region)
         }
-        Place::Nowhere => false,
+        None => false,
     }
 }
 
@@ -112,7 +109,7 @@ struct PackageTables<'a> {
     exported: Chains<'a>,
     owned: &'a [u64],
     passing: Chains<'a>,
-    spans: &'a [u32],
+    spans: &'a [u64],
     always: [u64; REGIONS],
     ghost owned_len: { length owned.now ≡ length exported.table.now },
     ghost spans_len: { length spans.now ≡ length passing.table.now },
@@ -126,43 +123,47 @@ impl<'a> PackageTables<'a> {
         ensures { (m : Model) → ExportTables m self.now.exported.table.now self.now.owned.now self.now.passing.table.now self.now.spans.now → result ≡ is_offered m candidate region }
     {
         let owner = owner_number(candidate.exporter, candidate.version);
-        let sought = wide(candidate.number);
+        let sought = u64::from(candidate.number);
         match self.exported.place_beside(self.owned, owner, sought) {
-            Place::Within(home) => {
+            Some(home) => {
                 let pred = self
                     .passing
                     .predecessors_between(self.spans, sought, candidate.version, self.always);
                 has(search(&pred, singleton(home)).reached, region)
             }
-            Place::Nowhere => false,
+            None => false,
         }
     }
 }
 
-// Writes the candidates that a region is offered, by the tables of the packages, which are chained first.
-fn resolve_by<'a>(
-    exported: &'a [u64],
-    owned: &'a [u64],
-    passing: &'a [u64],
-    spans: &'a [u32],
+// Writes the candidates that a region is offered: makes the tables of the packages.
+fn resolve_many(
+    graph: &Graph,
     region: u32,
     given: Candidates<'_>,
     out_exporters: &mut [u32],
     out_packages: &mut [u32],
     out_versions: &mut [u16],
 ) -> usize
-    requires exported_len_bound { (length exported.now ≤ most_entries) × (length passing.now ≤ most_entries) }
-    requires owned_len { (length owned.now ≡ length exported.now) × (length spans.now ≡ length passing.now) }
+    requires valid { Valid graph.now }
     requires region_lt_regions { (region < regions) × Room (candidate_list given) out_exporters.old out_packages.old out_versions.old }
-    ensures { (m : Model) → ExportTables m exported.now owned.now passing.now spans.now → kept (Kept.Wrote result) (out_exporters.new ∷ out_packages.new ∷ out_versions.new ∷ []) ≡ resolved (keep (λ c. is_offered m c region) (candidate_list given.entry)) (out_exporters.old ∷ out_packages.old ∷ out_versions.old ∷ []) }
+    ensures { kept (Kept.Wrote result) (out_exporters.new ∷ out_packages.new ∷ out_versions.new ∷ []) ≡ resolved (keep (λ c. is_offered (meaning graph.now) c region) (candidate_list given.entry)) (out_exporters.old ∷ out_packages.old ∷ out_versions.old ∷ []) }
 {
-    let passing = Chains::of(passing);
+    let mut exported = Table::new();
+    exported.put_offers(graph, Kind::Package);
+    let mut owned = Table::new();
+    owned.put_owners(graph);
+    let mut passing = Table::new();
+    passing.put_passages(graph, Kind::Package);
+    let mut spans = Table::new();
+    spans.put_connection_spans(graph);
+    let passing = Chains::of(passing.entries());
     let always = passing.predecessors(EVERYTHING_NUMBER, [0; REGIONS]);
     let tables = PackageTables {
-        exported: Chains::of(exported),
-        owned,
+        exported: Chains::of(exported.entries()),
+        owned: owned.entries(),
         passing,
-        spans,
+        spans: spans.entries(),
         always,
     };
     keep_where(
@@ -174,51 +175,17 @@ fn resolve_by<'a>(
     )
 }
 
-// Writes the candidates that a region is offered: makes the tables of the packages.
-fn resolve_many(
-    graph: Graph,
-    region: u32,
-    given: Candidates<'_>,
-    out_exporters: &mut [u32],
-    out_packages: &mut [u32],
-    out_versions: &mut [u16],
-) -> usize
-    requires valid { Valid graph }
-    requires region_lt_regions { (region < regions) × Room (candidate_list given) out_exporters.old out_packages.old out_versions.old }
-    ensures { kept (Kept.Wrote result) (out_exporters.new ∷ out_packages.new ∷ out_versions.new ∷ []) ≡ resolved (keep (λ c. is_offered (meaning graph) c region) (candidate_list given.entry)) (out_exporters.old ∷ out_packages.old ∷ out_versions.old ∷ []) }
-{
-    let mut exported = [0u64; MOST_ENTRIES];
-    let exports = offers(&mut exported, graph, Kind::Package);
-    let mut owned = [0u64; MOST_ENTRIES];
-    let located = owners(&mut owned, graph);
-    let mut passing = [0u64; MOST_ENTRIES];
-    let passed = passages(&mut passing, graph, Kind::Package);
-    let mut span_places = [0u32; MOST_ENTRIES];
-    let spanned = spans(&mut span_places, graph);
-    resolve_by(
-        &exported[..exports],
-        &owned[..located],
-        &passing[..passed],
-        &span_places[..spanned],
-        region,
-        given,
-        out_exporters,
-        out_packages,
-        out_versions,
-    )
-}
-
 // Writes the candidates that a region is offered: asks the graph about each, and makes no tables.
 fn resolve_few(
-    graph: Graph,
+    graph: &Graph,
     region: u32,
     given: Candidates<'_>,
     out_exporters: &mut [u32],
     out_packages: &mut [u32],
     out_versions: &mut [u16],
 ) -> usize
-    requires { Valid graph × ((region < regions) × Room (candidate_list given) out_exporters.old out_packages.old out_versions.old) }
-    ensures { kept (Kept.Wrote result) (out_exporters.new ∷ out_packages.new ∷ out_versions.new ∷ []) ≡ resolved (keep (λ c. is_offered (meaning graph) c region) (candidate_list given.entry)) (out_exporters.old ∷ out_packages.old ∷ out_versions.old ∷ []) }
+    requires { Valid graph.now × ((region < regions) × Room (candidate_list given) out_exporters.old out_packages.old out_versions.old) }
+    ensures { kept (Kept.Wrote result) (out_exporters.new ∷ out_packages.new ∷ out_versions.new ∷ []) ≡ resolved (keep (λ c. is_offered (meaning graph.now) c region) (candidate_list given.entry)) (out_exporters.old ∷ out_packages.old ∷ out_versions.old ∷ []) }
 {
     keep_where(
         given,
@@ -232,7 +199,7 @@ fn resolve_few(
 // The candidates, exporters with packages, that a bundle is offered. The C interface lends the lists one by one.
 #[tactic(auto, using(crate::proofs::Judging::region_inside, crate::proofs::Answering::resolve_not_installed, crate::proofs::Answering::resolve_no_exporter_place, crate::proofs::Answering::resolve_no_number_place, crate::proofs::Answering::resolve_no_version_place, crate::proofs::Answering::resolve_answers))]
 pub fn resolve(
-    graph: Graph,
+    graph: &Graph,
     location: u32,
     exporters: &[u32],
     packages: &[u32],
@@ -241,12 +208,10 @@ pub fn resolve(
     out_packages: &mut [u32],
     out_versions: &mut [u16],
 ) -> Result<usize, Refusal>
-    requires { Valid graph }
-    ensures { kept (kept_answer result) (out_exporters.new ∷ out_packages.new ∷ out_versions.new ∷ []) ≡ resolve_outcome (meaning graph) location (candidates exporters.now packages.now versions.now) (out_exporters.old ∷ out_packages.old ∷ out_versions.old ∷ []) }
+    requires { Valid graph.now }
+    ensures { kept (kept_answer result) (out_exporters.new ∷ out_packages.new ∷ out_versions.new ∷ []) ≡ resolve_outcome (meaning graph.now) location (candidates exporters.now packages.now versions.now) (out_exporters.old ∷ out_packages.old ∷ out_versions.old ∷ []) }
 {
-    let Place::Within(region) = graph.region_of(location) else {
-        return Err(Refusal::NotInstalled);
-    };
+    let region = graph.region_of(location).ok_or(Refusal::NotInstalled)?;
     let given = Candidates {
         exporters,
         packages,

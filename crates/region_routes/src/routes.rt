@@ -9,7 +9,7 @@ use crate::search::{Ends, ItemSearch, Members, search_for};
 use region_graph::refusals::Refusal;
 use region_graph::region_set::has;
 use region_graph::size::REGIONS;
-use region_graph::{Graph, Item, Place};
+use region_graph::{Graph, Item};
 
 // The smallest region of a set to which a connection from a region leads.
 fn next_to(pred: &[u64; REGIONS], set: u64, region: u32) -> u32
@@ -40,20 +40,19 @@ fn walk(search: &ItemSearch, deep: usize, region: u32, out: &mut [u8])
 
 // The count of connections of the route that document 01 picks, its regions at the buffer's start, one byte each; None where the item is
 // hidden. Any number is asked as a kind's, and refused after the bundle is found: so it is no Kind.
+#[tactic(auto, using(crate::proofs::Judging::region_inside, crate::proofs::Answering::route_not_installed, crate::proofs::Answering::route_not_a_kind, crate::proofs::Answering::route_no_place))]
 pub fn route(
-    graph: Graph,
+    graph: &Graph,
     location: u32,
     kind: u32,
     number: u32,
     version: u16,
     out: &mut [u8],
 ) -> Result<Option<usize>, Refusal>
-    requires { Valid graph }
-    ensures { routed (routed_answer result) out.new ≡ route_outcome (meaning graph) location kind number version out.old }
+    requires { Valid graph.now }
+    ensures { routed (routed_answer result) out.new ≡ route_outcome (meaning graph.now) location kind number version out.old }
 {
-    let Place::Within(region) = graph.region_of(location) else {
-        return Err(Refusal::NotInstalled);
-    };
+    let region = graph.region_of(location).ok_or(Refusal::NotInstalled)?;
     if 2 < kind {
         return Err(Refusal::NotAKind);
     }

@@ -11,7 +11,7 @@ ghost use Rattle.region_routes.specs.Hooks.{item};
 ghost use Rattle.region_routes.specs.Tables.{NumberTables, everything_number, «step_in», predecessors_by};
 ghost use Rattle.region_routes.specs.Search.{RegionSets, SetOfRegions, TakesLowest, Layer, Searched, At, InLayer, end_set};
 
-use crate::tables::{Chains, wide};
+use crate::tables::Chains;
 use region_graph::region_set::{difference, has, lowest, singleton, without_lowest};
 use region_graph::size::REGIONS;
 use region_graph::{Graph, Item};
@@ -112,9 +112,9 @@ pub enum Ends {
 }
 
 // The regions in which a route may end.
-fn end_set(graph: Graph, item: Item, ends: Ends) -> u64
-    requires { Valid graph }
-    ensures { result ≡ end_set (meaning graph) item ends }
+fn end_set(graph: &Graph, item: Item, ends: Ends) -> u64
+    requires { Valid graph.now }
+    ensures { result ≡ end_set (meaning graph.now) item ends }
 {
     match ends {
         Ends::Holders => graph.holders(item),
@@ -123,9 +123,9 @@ fn end_set(graph: Graph, item: Item, ends: Ends) -> u64
 }
 
 // The search for an item.
-pub fn search_for(graph: Graph, item: Item, ends: Ends) -> ItemSearch
-    requires { Valid graph }
-    ensures { (result.pred ≡ predecessor_sets (meaning graph) item) × Searched (predecessor_sets (meaning graph) item) (end_set (meaning graph) item ends) result.layers.sets result.layers.deep result.layers.reached }
+pub fn search_for(graph: &Graph, item: Item, ends: Ends) -> ItemSearch
+    requires { Valid graph.now }
+    ensures { (result.pred ≡ predecessor_sets (meaning graph.now) item) × Searched (predecessor_sets (meaning graph.now) item) (end_set (meaning graph.now) item ends) result.layers.sets result.layers.deep result.layers.reached }
 {
     let pred = graph.predecessors(item);
     let layers = search(&pred, end_set(graph, item, ends));
@@ -133,9 +133,9 @@ pub fn search_for(graph: Graph, item: Item, ends: Ends) -> ItemSearch
 }
 
 // The regions that see an item.
-pub fn regions_seeing(graph: Graph, item: Item) -> u64
-    requires { Valid graph }
-    ensures { result ≡ set_of (sees (meaning graph) item) }
+pub fn regions_seeing(graph: &Graph, item: Item) -> u64
+    requires { Valid graph.now }
+    ensures { result ≡ set_of (sees (meaning graph.now) item) }
 {
     search_for(graph, item, Ends::Holders).layers.reached
 }
@@ -150,7 +150,7 @@ pub fn regions_seeing_by(
     requires { always ≡ predecessors_by (step_in passing.now.table.now everything_number) }
     ensures { (m : Model) (kind : ℕ) → NumberTables m kind offered.now.table.now passing.now.table.now → result ≡ set_of (sees m (item kind number 0)) }
 {
-    let sought = wide(number);
+    let sought = u64::from(number);
     let held = offered.holders(sought);
     if held == 0 {
         return 0;

@@ -1,5 +1,5 @@
 // Tables of the items of one kind, made once for a query and lent: slices of numbers are not copied, as a graph is.
-ghost use Rattle.std.specs.Prelude.{◌≡◌, Bool, [], ◌∷◌, map, ℕ, ◌+◌, ◌<◌, ◌≤◌, eqb, length, get_or, take};
+ghost use Rattle.std.specs.Prelude.{◌≡◌, Bool, List, [], ◌∷◌, ◌++◌, map, ℕ, ◌+◌, ◌<◌, ◌≤◌, eqb, length, get_or, take};
 ghost use Rattle.region_graph.specs.Size.{regions, everything_sign};
 ghost use Rattle.region_graph.specs.Record.{Valid, meaning, bundle_in, connection_in, package_part_in};
 ghost use Rattle.region_graph.specs.Places.{BundleStored, PackagePartStored, ConnectionStored};
@@ -7,12 +7,16 @@ ghost use Rattle.region_graph.specs.Promise.{new_part};
 ghost use Rattle.region_routes.specs.Hooks.{kind_number};
 ghost use Rattle.region_routes.specs.Tables;
 ghost use Rattle.region_routes.specs.Chains.{chain, chains, Chained, Standing, places_left, with_step};
-ghost use Rattle.std.specs.Iterator.{YieldsFirst, item_count};
+ghost use Rattle.std.specs.Iterator.{YieldsFirst, Drains, IsFinite, item_count, size};
+ghost use Rattle.std.specs.Iterator.Runs.{WholeRun};
+ghost use Rattle.std.specs.List.{zip};
 
 use crate::Kind;
 use region_graph::region_set::singleton;
 use region_graph::size::{EVERYTHING, MOST_CONNECTIONS, MOST_LISTED, REGIONS};
-use region_graph::{Entries, Graph, Place, StoredBundle, StoredConnection};
+use region_graph::{Entries, Graph, StoredBundle, StoredConnection};
+use std::marker::Model;
+use std::slice;
 
 // An entry is a number times this, and a place below it.
 const WIDTH: u64 = 65536;
@@ -21,7 +25,7 @@ const WIDTH: u64 = 65536;
 pub const EVERYTHING_NUMBER: u64 = 4294967296;
 
 // What the connections pass at most; the bundles bring no more.
-pub const MOST_ENTRIES: usize = MOST_CONNECTIONS * MOST_LISTED;
+const MOST_ENTRIES: usize = MOST_CONNECTIONS * MOST_LISTED;
 
 // Below so many candidates tables cost more than a search for each.
 pub const FEW: usize = 4;
@@ -32,235 +36,12 @@ const CHAINS: usize = 256;
 // The starts of the chains, and a place for each entry.
 const LINKS: usize = CHAINS + MOST_ENTRIES;
 
-pub fn wide(number: u32) -> u64
-    ensures { (result ≡ number) × (result < Tables.everything_number) }
+// A number with what goes with it, below WIDTH, as one number.
+fn packed(number: u64, place: u32) -> u64
+    requires { number ≤ Tables.everything_number }
+    ensures { result ≡ Tables.packed number place }
 {
-    number as u64
-}
-
-// A location and a version as one number.
-pub fn owner_number(location: u32, version: u16) -> u64
-    ensures { result ≡ Tables.packed location version }
-{
-    wide(location) * WIDTH + (version as u64)
-}
-
-// The lowest and the highest version of an entry as one number.
-fn span_number(lowest: u16, highest: u16) -> u32
-    ensures { result ≡ Tables.packed lowest highest }
-{
-    (lowest as u32) * (WIDTH as u32) + (highest as u32)
-}
-
-// Whether a version lies between those of a span.
-fn is_between(version: u16, span: u32) -> bool
-    ensures { result ≡ Tables.span_has version span }
-{
-    (span / (WIDTH as u32)..=span % (WIDTH as u32)).contains(&u32::from(version))
-}
-
-// Puts one entry at a place, and gives the next place.
-fn append_one(out: &mut [u64], at: usize, number: u64, place: u32) -> usize
-    requires { (at < length out.old) × (number ≤ Tables.everything_number) }
-    ensures { Tables.Appended out.old at (Tables.packed number place ∷ []) out.new result }
-{
-    out[at] = number * WIDTH + wide(place);
-    at + 1
-}
-
-// Puts an entry for each number of a list.
-fn append(out: &mut [u64], at: usize, place: u32, numbers: &[u32]) -> usize
-    requires { at + length (map (λ n. Tables.packed n place) numbers.now) ≤ length out.old }
-    ensures { Tables.Appended out.old at (map (λ n. Tables.packed n place) numbers.now) out.new result }
-{
-    let mut n = at;
-    let mut i: usize = 0;
-    while i < numbers.len() {
-        let number = wide(numbers[i]);
-        n = append_one(out, n, number, place);
-        i += 1;
-    }
-    n
-}
-
-// Puts the location of a bundle with the version of each package of a list.
-fn append_owner(out: &mut [u64], at: usize, location: u32, versions: &[u16]) -> usize
-    requires { at + length (map (λ v. Tables.packed location v) versions.now) ≤ length out.old }
-    ensures { Tables.Appended out.old at (map (λ v. Tables.packed location v) versions.now) out.new result }
-{
-    let mut n = at;
-    let mut i: usize = 0;
-    while i < versions.len() {
-        out[n] = owner_number(location, versions[i]);
-        n += 1;
-        i += 1;
-    }
-    n
-}
-
-// Puts what a bundle brings to its region.
-fn append_offer(out: &mut [u64], at: usize, b: StoredBundle, kind: Kind) -> usize
-    requires bundle_stored { BundleStored b }
-    requires b_in_bounds { at + length (Tables.offer (kind_number kind) (bundle_in b)) ≤ length out.old }
-    ensures { Tables.Appended out.old at (Tables.offer (kind_number kind) (bundle_in b)) out.new result }
-{
-    match kind {
-        Kind::Bundle => append_one(out, at, wide(b.location), b.region),
-        Kind::Package => {
-            let count = b.packages.count;
-            let numbers = b.packages.numbers;
-            append(out, at, b.region, &numbers[..count])
-        }
-        Kind::Service => {
-            let count = b.services.count;
-            let items = b.services.items;
-            append(out, at, b.region, &items[..count])
-        }
-    }
-}
-
-// Puts what a part of a filter passes: by its count the first numbers, or everything.
-fn append_part(out: &mut [u64], at: usize, ends: u32, count: usize, numbers: &[u32]) -> usize
-    requires count_in_bounds { (count ≡ everything_sign → ⊥) → count ≤ length numbers.now }
-    requires numbers_in_bounds { at + length (map (λ n. Tables.packed n ends) (Tables.passed (new_part (eqb count everything_sign) (take count numbers.now)))) ≤ length out.old }
-    ensures { Tables.Appended out.old at (map (λ n. Tables.packed n ends) (Tables.passed (new_part (eqb count everything_sign) (take count numbers.now)))) out.new result }
-{
-    if count == EVERYTHING {
-        return append_one(out, at, EVERYTHING_NUMBER, ends);
-    }
-    append(out, at, ends, &numbers[..count])
-}
-
-// Puts what a connection passes, with its two ends.
-fn append_passage(out: &mut [u64], at: usize, c: StoredConnection, kind: Kind) -> usize
-    requires connection_stored { ConnectionStored c }
-    requires source_lt_regions { (c.source < regions) × (c.target < regions) }
-    requires c_in_bounds { at + length (Tables.passage (kind_number kind) (connection_in c)) ≤ length out.old }
-    ensures { Tables.Appended out.old at (Tables.passage (kind_number kind) (connection_in c)) out.new result }
-{
-    let ends = c.source * (REGIONS as u32) + c.target;
-    match kind {
-        Kind::Bundle => {
-            let count = c.bundles.count;
-            let items = c.bundles.items;
-            append(out, at, ends, &items[..count])
-        }
-        Kind::Package => {
-            let count = c.packages.count;
-            let numbers = c.packages.numbers;
-            append_part(out, at, ends, count, &numbers)
-        }
-        Kind::Service => {
-            let count = c.services.count;
-            let items = c.services.items;
-            append_part(out, at, ends, count, &items)
-        }
-    }
-}
-
-// Puts what the bundles of a graph bring to their regions, and gives the count.
-pub fn offers(items: &mut [u64], graph: Graph, kind: Kind) -> usize
-    requires valid { Valid graph }
-    requires len { length items.old ≡ Tables.most_entries }
-    ensures { Tables.Holding (Tables.offers (kind_number kind) (meaning graph).bundles) items.new result }
-{
-    let bundles = graph.bundle_places();
-    let count = graph.bundle_count();
-    let mut n: usize = 0;
-    let mut i: usize = 0;
-    while i < count {
-        let b = bundles[i];
-        i += 1;
-        n = append_offer(items, n, b, kind);
-    }
-    n
-}
-
-// Puts, for each package that the bundles of a graph bring, the exporter's location with the version, and gives the count.
-pub fn owners(items: &mut [u64], graph: Graph) -> usize
-    requires valid { Valid graph }
-    requires len { length items.old ≡ Tables.most_entries }
-    ensures { Tables.Holding (Tables.owners (meaning graph).bundles) items.new result }
-{
-    let bundles = graph.bundle_places();
-    let count = graph.bundle_count();
-    let mut n: usize = 0;
-    let mut i: usize = 0;
-    while i < count {
-        let b = bundles[i];
-        i += 1;
-        let given = b.packages.count;
-        let versions = b.packages.versions;
-        n = append_owner(items, n, b.location, &versions[..given]);
-    }
-    n
-}
-
-// Puts what the connections of a graph pass, and gives the count.
-pub fn passages(items: &mut [u64], graph: Graph, kind: Kind) -> usize
-    requires valid { Valid graph }
-    requires len { length items.old ≡ Tables.most_entries }
-    ensures { Tables.Holding (Tables.passages (kind_number kind) (meaning graph).connections) items.new result }
-{
-    let connections = graph.connection_places();
-    let count = graph.connection_count();
-    let mut n: usize = 0;
-    let mut i: usize = 0;
-    while i < count {
-        let c = connections[i];
-        i += 1;
-        n = append_passage(items, n, c, kind);
-    }
-    n
-}
-
-// Puts the spans of a package part; for everything, one that nothing asks for.
-fn append_spans(out: &mut [u32], at: usize, part: Entries) -> usize
-    requires package_part_stored { PackagePartStored part }
-    requires part_in_bounds { at + length (Tables.part_spans (package_part_in part)) ≤ length out.old }
-    ensures { Tables.Appended out.old at (Tables.part_spans (package_part_in part)) out.new result }
-{
-    let count = part.count;
-    if count == EVERYTHING {
-        out[at] = 0;
-        return at + 1;
-    }
-    let lowest = part.lowest;
-    let highest = part.highest;
-    let mut n = at;
-    let mut i: usize = 0;
-    while i < count {
-        out[n] = span_number(lowest[i], highest[i]);
-        n += 1;
-        i += 1;
-    }
-    n
-}
-
-// Puts, for each entry of what the connections of a graph pass of packages, its span, and gives the count.
-pub fn spans(items: &mut [u32], graph: Graph) -> usize
-    requires valid { Valid graph }
-    requires len { length items.old ≡ Tables.most_entries }
-    ensures { Tables.Holding (Tables.spans (meaning graph).connections) items.new result }
-{
-    let connections = graph.connection_places();
-    let count = graph.connection_count();
-    let mut n: usize = 0;
-    let mut i: usize = 0;
-    while i < count {
-        let c = connections[i];
-        i += 1;
-        let packages = c.packages;
-        n = append_spans(items, n, packages);
-    }
-    n
-}
-
-// The chain of a number.
-fn chain_of(number: u64) -> usize
-    ensures { (result ≡ chain number) × (result < chains) }
-{
-    (number % (CHAINS as u64)) as usize
+    number * WIDTH + u64::from(place)
 }
 
 // The number of an entry.
@@ -275,6 +56,223 @@ fn place_in(entry: u64) -> u32
     ensures { result ≡ Tables.place_in entry }
 {
     (entry % WIDTH) as u32
+}
+
+// A location and a version as one number.
+pub fn owner_number(location: u32, version: u16) -> u64
+    ensures { result ≡ Tables.packed location version }
+{
+    packed(u64::from(location), u32::from(version))
+}
+
+// Whether a version lies between those of a span.
+fn is_between(version: u16, span: u64) -> bool
+    ensures { result ≡ Tables.span_has version span }
+{
+    (number_in(span)..=u64::from(place_in(span))).contains(&u64::from(version))
+}
+
+// The numbers that a stored bundle brings to its region.
+fn provided(b: &StoredBundle, kind: Kind) -> &[u32]
+    requires { BundleStored b.now }
+    ensures { result.now ≡ Tables.provided_numbers (kind_number kind) (bundle_in b.now) }
+{
+    match kind {
+        Kind::Bundle => slice::from_ref(&b.location),
+        Kind::Package => &b.packages.numbers[..b.packages.count],
+        Kind::Service => &b.services.items[..b.services.count],
+    }
+}
+
+// A table: entries in memory of a fixed size.
+#[derive(Drop)]
+pub struct Table {
+    entries: [u64; MOST_ENTRIES],
+    count: usize,
+}
+
+impl Model for Table {
+    ghost use Rattle.std.specs.Prelude.{List, ℕ, ◌≤◌, take};
+    ghost use Rattle.region_routes.specs.Tables.{most_entries};
+
+    ghost Value = { List ℕ };
+
+    ghost view = { λ t. take t.count t.entries };
+
+    ghost invariant = { λ t. t.count ≤ most_entries };
+}
+
+impl Table {
+    pub fn new() -> Table
+        ensures { result ≡ [] }
+    {
+        Table {
+            entries: [0; MOST_ENTRIES],
+            count: 0,
+        }
+    }
+
+    pub fn entries(&self) -> &[u64]
+        ensures { (result.now ≡ self.now) × (length self.now ≤ Tables.most_entries) }
+    {
+        &self.entries[..self.count]
+    }
+
+    fn push(&mut self, entry: u64)
+        requires { length self.old < Tables.most_entries }
+        ensures { self.new ≡ self.old ++ entry ∷ [] }
+    {
+        self.entries[self.count] = entry;
+        self.count += 1;
+    }
+
+    // Puts each item of an iterator at the end.
+    fn extend<I: Iterator<Item = u64> + Drop>(&mut self, entries: I)
+        requires can { I.can_next entries }
+        requires ends { IsFinite (I.remaining entries) }
+        requires fits { length self.old + size (I.remaining entries) ≤ Tables.most_entries }
+        ensures ran { (xs : List ℕ) × Drains I.next_gives entries xs × (self.new ≡ self.old ++ xs) }
+        ensures runs { WholeRun I.next_gives entries (λ p. self.new ≡ self.old ++ p.items) }
+    {
+        for entry in entries {
+            self.push(entry);
+        }
+    }
+
+    // Puts an entry for each number of a list.
+    fn put(&mut self, place: u32, numbers: &[u32])
+        requires { length self.old + length numbers.now ≤ Tables.most_entries }
+        ensures { self.new ≡ self.old ++ map (λ n. Tables.packed n place) numbers.now }
+    {
+        self.extend(numbers.iter().map(|n| packed(u64::from(*n), place)));
+    }
+
+    // Puts one number with each place of a list.
+    fn put_places(&mut self, number: u32, places: &[u16])
+        requires { length self.old + length places.now ≤ Tables.most_entries }
+        ensures { self.new ≡ self.old ++ map (λ p. Tables.packed number p) places.now }
+    {
+        self.extend(places.iter().map(|p| owner_number(number, *p)));
+    }
+
+    // Puts numbers with the places beside them.
+    fn put_pairs(&mut self, numbers: &[u16], places: &[u16])
+        requires { length self.old + length places.now ≤ Tables.most_entries }
+        ensures { self.new ≡ self.old ++ map (λ p. Tables.packed p.0 p.1) (zip numbers.now places.now) }
+    {
+        let pairs = numbers.iter().zip(places);
+        self.extend(pairs.map(|(n, p)| packed(u64::from(*n), u32::from(*p))));
+    }
+
+    // Puts what a bundle brings to its region.
+    fn put_offer(&mut self, b: &StoredBundle, kind: Kind)
+        requires stored { BundleStored b.now }
+        requires room { length self.old + length (Tables.offer (kind_number kind) (bundle_in b.now)) ≤ Tables.most_entries }
+        ensures { self.new ≡ self.old ++ Tables.offer (kind_number kind) (bundle_in b.now) }
+    {
+        self.put(b.region, provided(b, kind));
+    }
+
+    // Puts the location of a bundle with the version of each package that it brings.
+    fn put_owner(&mut self, b: &StoredBundle)
+        requires stored { BundleStored b.now }
+        requires room { length self.old + length (Tables.owner (bundle_in b.now)) ≤ Tables.most_entries }
+        ensures { self.new ≡ self.old ++ Tables.owner (bundle_in b.now) }
+    {
+        self.put_places(b.location, &b.packages.versions[..b.packages.count]);
+    }
+
+    // Puts what a part of a filter passes: by its count the first numbers, or everything.
+    fn put_part(&mut self, ends: u32, count: usize, numbers: &[u32])
+        requires counted { (count ≡ everything_sign → ⊥) → count ≤ length numbers.now }
+        requires room { length self.old + length (Tables.passed (new_part (eqb count everything_sign) (take count numbers.now))) ≤ Tables.most_entries }
+        ensures { self.new ≡ self.old ++ map (λ n. Tables.packed n ends) (Tables.passed (new_part (eqb count everything_sign) (take count numbers.now))) }
+    {
+        if count == EVERYTHING {
+            self.push(packed(EVERYTHING_NUMBER, ends));
+        } else {
+            self.put(ends, &numbers[..count]);
+        }
+    }
+
+    // Puts what a connection passes, with its two ends.
+    fn put_passage(&mut self, c: &StoredConnection, kind: Kind)
+        requires stored { ConnectionStored c.now }
+        requires inside { (c.now.source < regions) × (c.now.target < regions) }
+        requires room { length self.old + length (Tables.passage (kind_number kind) (connection_in c.now)) ≤ Tables.most_entries }
+        ensures { self.new ≡ self.old ++ Tables.passage (kind_number kind) (connection_in c.now) }
+    {
+        let ends = c.source * (REGIONS as u32) + c.target;
+        match kind {
+            Kind::Bundle => self.put(ends, &c.bundles.items[..c.bundles.count]),
+            Kind::Package => self.put_part(ends, c.packages.count, &c.packages.numbers),
+            Kind::Service => self.put_part(ends, c.services.count, &c.services.items),
+        }
+    }
+
+    // Puts the spans of a package part; for everything, one that nothing asks for.
+    fn put_spans(&mut self, part: &Entries)
+        requires stored { PackagePartStored part.now }
+        requires room { length self.old + length (Tables.part_spans (package_part_in part.now)) ≤ Tables.most_entries }
+        ensures { self.new ≡ self.old ++ Tables.part_spans (package_part_in part.now) }
+    {
+        if part.count == EVERYTHING {
+            self.push(0);
+        } else {
+            self.put_pairs(&part.lowest, &part.highest[..part.count]);
+        }
+    }
+
+    // Puts what the bundles of a graph bring to their regions.
+    pub fn put_offers(&mut self, graph: &Graph, kind: Kind)
+        requires valid { Valid graph.now }
+        requires empty { self.old ≡ [] }
+        ensures { self.new ≡ Tables.offers (kind_number kind) (meaning graph.now).bundles }
+    {
+        for b in graph.bundles() {
+            self.put_offer(b, kind);
+        }
+    }
+
+    // Puts, for each package that the bundles of a graph bring, the exporter's location with the version.
+    pub fn put_owners(&mut self, graph: &Graph)
+        requires valid { Valid graph.now }
+        requires empty { self.old ≡ [] }
+        ensures { self.new ≡ Tables.owners (meaning graph.now).bundles }
+    {
+        for b in graph.bundles() {
+            self.put_owner(b);
+        }
+    }
+
+    // Puts what the connections of a graph pass.
+    pub fn put_passages(&mut self, graph: &Graph, kind: Kind)
+        requires valid { Valid graph.now }
+        requires empty { self.old ≡ [] }
+        ensures { self.new ≡ Tables.passages (kind_number kind) (meaning graph.now).connections }
+    {
+        for c in graph.connections() {
+            self.put_passage(c, kind);
+        }
+    }
+
+    // Puts, for each entry of what the connections of a graph pass of packages, its span.
+    pub fn put_connection_spans(&mut self, graph: &Graph)
+        requires valid { Valid graph.now }
+        requires empty { self.old ≡ [] }
+        ensures { self.new ≡ Tables.spans (meaning graph.now).connections }
+    {
+        for c in graph.connections() {
+            self.put_spans(&c.packages);
+        }
+    }
+}
+
+// The chain of a number.
+fn chain_of(number: u64) -> usize
+    ensures { (result ≡ chain number) × (result < chains) }
+{
+    (number % (CHAINS as u64)) as usize
 }
 
 // Adds the step from the source of an entry to its target.
@@ -345,7 +343,7 @@ impl<'a> Chains<'a> {
     // The same of the entries that have a number, and beside them a span that has a version.
     pub fn predecessors_between(
         &self,
-        spans: &[u32],
+        spans: &[u64],
         number: u64,
         version: u16,
         given: [u64; REGIONS],
@@ -363,30 +361,29 @@ impl<'a> Chains<'a> {
     }
 
     // The place of the first entry that has a number.
-    pub fn place_of(&self, number: u64) -> Place
+    pub fn place_of(&self, number: u64) -> Option<u32>
         ensures { result ≡ Tables.place_at self.now.table.now number }
     {
-        match self.places(number).next() {
-            Some(i) => Place::Within(place_in(self.table[i])),
-            None => Place::Nowhere,
-        }
+        let i = self.places(number).next()?;
+        Some(place_in(self.table[i]))
     }
 
     // The place of the first entry that has a number, and an owner beside it.
-    pub fn place_beside(&self, owned: &[u64], asked: u64, number: u64) -> Place
+    pub fn place_beside(&self, owned: &[u64], asked: u64, number: u64) -> Option<u32>
         requires { length owned.now ≡ length self.now.table.now }
         ensures { result ≡ Tables.place_beside self.now.table.now owned.now asked number }
     {
         for i in self.places(number) {
             if owned[i] == asked {
-                return Place::Within(place_in(self.table[i]));
+                return Some(place_in(self.table[i]));
             }
         }
-        Place::Nowhere
+        None
     }
 }
 
-// The places of the entries of a table that have a number, from one of its chain on.
+// The places of the entries of a table that have a number, from one of its chain on. What stands beside the entries is a slice of the
+// caller's: the tables of bundles and services have nothing beside them.
 #[derive(Drop)]
 struct Places<'a> {
     table: &'a [u64],
@@ -404,6 +401,7 @@ impl<'a> Iterator for Places<'a> {
     ghost remaining = { item_count (λ s. places_left s.table.now s.number s.at) };
 
     fn next(&mut self) -> Option<usize> {
+        // Each turn reads from its entry's link where the next one begins, so that no range counts the places.
         while self.at < self.table.len() {
             let i = self.at;
             self.at = usize::from(self.links[CHAINS + i]);

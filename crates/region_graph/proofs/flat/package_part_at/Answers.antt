@@ -7,7 +7,7 @@ use Rattle.region_graph.proofs.FlatLaws.{part_listed}
 use Rattle.region_graph.proofs.flat.package_part_at.Goals as goal
 
 pub returns-then-row-at-eq-EVERYTHING : goal.returns-then-row-at-eq-EVERYTHING
-returns-then-row-at-eq-EVERYTHING c = Decoded.found Part.everything tt c.if-row-at-eq-EVERYTHING.true (ap Some c.every_package.ensures)
+returns-then-row-at-eq-EVERYTHING c = Decoded.found Part.everything tt c.if-row-at-eq-EVERYTHING.true (ap Some c.everything.ensures)
 
 pub returns : goal.returns
 returns c =

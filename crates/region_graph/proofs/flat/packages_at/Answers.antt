@@ -11,4 +11,4 @@ returns-in_err-put_heads c =
 pub returns : goal.returns
 returns c =
     rw c.then_some.ensures
-    (packages_found c.args.row.now c.args.at c.in_ok-codes.ensures c.in_ok-put_heads.ensures c.put_tails.ensures c.packages_ascending.ensures)
+    (packages_found c.args.row.now c.args.at c.in_ok-codes.ensures c.in_ok-put_heads.ensures c.put_tails.ensures c.ascends.ensures)

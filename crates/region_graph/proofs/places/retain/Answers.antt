@@ -10,15 +10,15 @@ loop-i-preserved g c =
     let f = l.invariant in
     elim c.if-keeps.branch [
       | goal.then-keeps w ↦ rw (w.items-is, w.kept-is) (
-          omega (arith, f.0),
-          length-set _ _ _ ∙ f.1,
-          λ p t. retain_kept _ (f.2 p t) (omega (arith, f.1, c.requires.in_bounds)) (t _ _ (says_at g.F.Fn c.keeps.ensures refl)) w.index-items-i-then-keeps.is w.if-keeps.true,
-        )
+        omega (arith, f.0),
+        length-set _ _ _ ∙ f.1,
+        λ p t. retain_kept _ (f.2 p t) (omega (arith, f.1, c.requires.in_bounds)) (t _ _ (says_at g.F.Fn c.keeps.ensures refl)) w.index-items-i-then-keeps.is w.if-keeps.true,
+      )
       | goal.else-keeps w ↦ rw (w.items-is, w.kept-is) (
-          omega (arith, f.0),
-          f.1,
-          λ p t. retain_left _ (f.2 p t) (omega (arith, f.1, c.requires.in_bounds)) (t _ _ (says_at g.F.Fn c.keeps.ensures refl)) w.if-keeps.false,
-        )
+        omega (arith, f.0),
+        f.1,
+        λ p t. retain_left _ (f.2 p t) (omega (arith, f.1, c.requires.in_bounds)) (t _ _ (says_at g.F.Fn c.keeps.ensures refl)) w.if-keeps.false,
+      )
     ]
 
 pub loop-left-preserved : goal.loop-left-preserved

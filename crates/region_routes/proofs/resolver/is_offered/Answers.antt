@@ -6,14 +6,14 @@ use Rattle.region_routes.proofs.Keeping.{has_by}
 use Rattle.region_routes.proofs.resolver.is_offered.Goals as goal
 
 -- a route ends in the exporter's region
-pub returns-in-Within : goal.returns-in-Within
-returns-in-Within c =
+pub returns-in-Some : goal.returns-in-Some
+returns-in-Some c =
     let a = c.args in
-    let m = meaning a.graph in
+    let m = meaning a.graph.now in
     let r = c.requires in
-    let home = c.in-Within.home in
+    let home = c.in-Some.home in
     let wanted = package_of a.candidate in
-    let e = rw c.number.ensures at (sym c.provider.ensures ∙ c.in-Within.is) in
+    let e = rw c.number.ensures at (sym c.provider.ensures ∙ c.in-Some.is) in
     let f = c.search_for-search.result.layers in
     sym (has_by (reaches m wanted home) a.region
     (reached_reaches m wanted r.valid.good home (provider_inside m r.valid.good a.candidate.exporter wanted e)

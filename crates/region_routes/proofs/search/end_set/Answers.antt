@@ -6,9 +6,9 @@ use Rattle.region_routes.proofs.search.end_set.Goals as goal
 pub returns-in-Holders : goal.returns-in-Holders
 returns-in-Holders c =
     let s = c.args in
-    c.holders.ensures ∙ ap (end_set (meaning s.graph) s.item) (sym c.in-Holders.is)
+    c.holders.ensures ∙ ap (end_set (meaning s.graph.now) s.item) (sym c.in-Holders.is)
 
 pub returns-in-Region : goal.returns-in-Region
 returns-in-Region c =
     let s = c.args in
-    c.singleton.ensures ∙ ap (end_set (meaning s.graph) s.item) (sym c.in-Region.is)
+    c.singleton.ensures ∙ ap (end_set (meaning s.graph.now) s.item) (sym c.in-Region.is)

@@ -5,7 +5,7 @@ use Rattle.region_routes.proofs.search.search_for.Goals as goal
 pub search-layers-requires : goal.search-layers-requires
 search-layers-requires c =
     let s = c in
-    let m = meaning s.args.graph in (
+    let m = meaning s.args.graph.now in (
       rw c.predecessors-pred.ensures (predecessors_sets m s.args.item),
       rw c.end_set.ensures (end_set_small m s.args.item s.args.ends),
     )

@@ -1,7 +1,5 @@
 use Rattle.std.proofs.Common.{refl, arith}
-use Rattle.region_graph.specs.Lists.{All}
 use Rattle.region_graph.specs.Record.{bundles_of}
-use Rattle.region_graph.specs.Places.{BundleStored}
 use Rattle.region_graph.proofs.Arrays.{filled_taken}
 use Rattle.region_graph.proofs.Storing.{bundles_filled, bundles_each_stored}
 use Rattle.region_graph.proofs.bundles.Bundles.as_slice.Goals as goal

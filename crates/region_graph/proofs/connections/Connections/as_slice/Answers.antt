@@ -1,7 +1,5 @@
 use Rattle.std.proofs.Common.{refl, arith}
-use Rattle.region_graph.specs.Lists.{All}
 use Rattle.region_graph.specs.Record.{connections_of}
-use Rattle.region_graph.specs.Places.{ConnectionStored}
 use Rattle.region_graph.proofs.Arrays.{filled_taken}
 use Rattle.region_graph.proofs.Storing.{connections_filled, connections_each_stored}
 use Rattle.region_graph.proofs.connections.Connections.as_slice.Goals as goal

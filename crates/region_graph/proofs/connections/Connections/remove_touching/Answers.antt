@@ -1,4 +1,4 @@
-use Rattle.std.proofs.Common.{not, eqb, refl, rules}
+use Rattle.std.proofs.Common.{not, refl, rules}
 use Rattle.region_graph.specs.Calls.{touches}
 use Rattle.region_graph.specs.Record.{connection_in}
 use Rattle.region_graph.specs.declared.connections.StoredConnection.{StoredConnection}

@@ -1,6 +1,5 @@
 use Rattle.std.proofs.Common.{refl, arith}
 use Rattle.region_graph.specs.Record.{list_of}
-use Rattle.region_graph.proofs.Arrays.{filled_within}
 use Rattle.region_graph.proofs.Storing.{list_filled}
 use Rattle.region_graph.proofs.numbers.NumberList.as_slice.Goals as goal
 

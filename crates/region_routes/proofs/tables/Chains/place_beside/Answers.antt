@@ -4,7 +4,7 @@ use lib.Dec.{eqb}
 use lib.ListN.{get_or}
 use native.Mathlib.Omega.{arith}
 use borrow.Author.Tests.{eq-eqb, ne_eqb}
-use Rattle.region_graph.specs.declared.Place.TheVariants.{Within}
+use Rattle.std.specs.Prelude.{Some}
 use Rattle.region_routes.proofs.Chaining.{walking_start, walking_inside, walking_at, walking_next}
 use Rattle.region_routes.proofs.Lookups.{beside_walked}
 use Rattle.region_routes.proofs.tables.Chains.place_beside.Goals as goal
@@ -30,7 +30,7 @@ offset_bounds-self-i c = omega (arith, walking_inside c.loop-i.invariant c.in-So
 pub returns-then-owned-i : goal.returns-then-owned-i
 returns-then-owned-i c =
     let e : eqb (get_or c.args.owned.now c.in-Some.i 0) c.args.asked ≡ true = eq-eqb _ _ c.if-owned-i.true in
-    ap Within c.place_in.ensures ∙ rw e at (walking_at c.loop-i.invariant c.in-Some.ensures.steps)
+    ap Some c.place_in.ensures ∙ rw e at (walking_at c.loop-i.invariant c.in-Some.ensures.steps)
 
 pub loop-i-preserved : goal.loop-i-preserved
 loop-i-preserved c =

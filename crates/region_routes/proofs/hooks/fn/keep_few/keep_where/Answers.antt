@@ -8,5 +8,5 @@ use Rattle.region_routes.proofs.hooks.fn.keep_few.keep_where.Goals as goal
 pub returns : goal.returns
 returns c =
     let a = c.captures in
-    sym (has_by (λ n. sees (meaning a.graph) (item (kind_number a.kind) c.args.number 0) n) a.region (rw c.item.ensures at c.regions_seeing.ensures)
+    sym (has_by (λ n. sees (meaning a.graph.now) (item (kind_number a.kind) c.args.number 0) n) a.region (rw c.item.ensures at c.regions_seeing.ensures)
     c.requires.1 c.has.ensures refl)

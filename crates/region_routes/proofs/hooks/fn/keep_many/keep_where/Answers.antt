@@ -1,0 +1,8 @@
+use Rattle.std.proofs.Common.{refl, sym}
+use Rattle.region_routes.specs.Chosen.{sees}
+use Rattle.region_routes.specs.Hooks.{item}
+use Rattle.region_routes.proofs.Keeping.{has_by}
+use Rattle.region_routes.proofs.hooks.fn.keep_many.keep_where.Goals as goal
+
+pub returns : goal.returns
+returns c = λ m k t. sym (has_by (sees m (item k c.args.number 0)) c.captures.region (c.regions_seeing_by.ensures m k t) c.requires.1 c.has.ensures refl)

@@ -1,0 +1,10 @@
+use mathlib.Core.Path.{◌≡◌}
+use lib.ListN.{take}
+use Rattle.region_graph.specs.Lists.{concat_map}
+use Rattle.region_graph.specs.Record.{meaning}
+use Rattle.region_routes.specs.Hooks.{kind_number}
+use Rattle.region_routes.specs.Tables.{passage}
+use Rattle.region_routes.proofs.tables.Table.put_passages.Given as goal
+
+abbrev pub invariant-loop-c : goal.invariant-loop-c
+invariant-loop-c l = l.self ≡ concat_map (passage (kind_number l.fn.kind)) (take l.c-index (meaning l.fn.graph).connections)

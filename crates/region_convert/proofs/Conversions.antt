@@ -1,28 +1,29 @@
 -- What a conversion answers: 15 where its versions are not those of the file, then what a read refuses, then what the writer says.
 use mathlib.Core.Path.{◌≡◌, refl, sym, ap, ◌∙◌}
-use mathlib.Core.Bool.{Bool, true, false, not, ◌&&◌}
+use mathlib.Core.Bool.{Bool, true, false, ◌&&◌}
 use mathlib.Core.List.{List, ◌++◌}
 use Prim.Native.Nat.{ℕ, ◌≤◌}
 use native.Mathlib.Omega.{arith}
-use borrow.Author.Tests.{le-leb, leb-true, ne_eqb, not-true, not-false}
+use borrow.Author.Tests.{le-leb, leb-true, ne_eqb}
+use Rattle.std.specs.Prelude.{Result, Ok, Err}
 use lib.Dec.{leb}
 use lib.ListN.{length, get_or}
-use Rattle.region_graph.specs.Refusals.{not_refused, not_an_archive}
+use Rattle.region_graph.specs.Refusals.{not_refused, refusal_number}
 use Rattle.region_graph.specs.Lists.{pick}
 use Rattle.region_graph.specs.Model.{Model}
 use Rattle.region_graph.specs.Calls.{Question, first_no}
-use Rattle.region_graph.specs.Record.{Valid, meaning}
-use Rattle.region_graph.specs.declared.Changed.{Changed}
+use Rattle.region_graph.specs.Record.{meaning}
+use Rattle.region_graph.specs.declared.Graph.{Graph}
+use Rattle.region_graph.specs.declared.refusals.Refusal.{Refusal}
 use Rattle.region_graph.proofs.Lists.{and_fst, and_snd}
 use Rattle.region_graph.proofs.Legal.{first_step, second_step}
 use Rattle.region_routes.specs.Hooks.{Outcome, written, judged}
 use Rattle.region_archive.specs.Image.{latest}
-use Rattle.region_archive.specs.File.{FileMeaning, read_model, oldest, opens}
-use Rattle.region_archive.specs.Promise.{archived, image_outcome, Reads}
-use Rattle.region_archive.specs.declared.Written.{Written}
-use Rattle.region_archive.proofs.FileReads.{opens_long}
+use Rattle.region_archive.specs.File.{FileMeaning, read_model, read_number, oldest, opens}
+use Rattle.region_archive.specs.Promise.{Written, written_answer, archived, image_outcome, Given}
+use Rattle.region_archive.proofs.FileReads.{opens_long, refusal_positive}
 use Rattle.region_convert.specs.Conversion.{questions_between}
-use Rattle.region_convert.specs.Between.{ReadsBetween}
+use Rattle.region_convert.specs.Between.{GivenBetween}
 
 -- a file that opens as one of the versions from `low` to `high` is of one of them, and opens as one of more
 module _ (low high : ℕ) (s : List ℕ) (e : opens low high s ≡ true) where
@@ -42,22 +43,18 @@ module _ (low high : ℕ) (s : List ℕ) (e : opens low high s ≡ true) where
       ) refl
 
 -- a file of a version that is not admitted, and one that a read judges
-module _ (low high : ℕ) {s : List ℕ} {b : Bool} (told : b ≡ opens low high s) {r : Changed} where
-  pub not_opened : not b ≡ true → Valid r.graph → r.number ≡ not_an_archive → ReadsBetween low high s r
-  not_opened n v e = record {
-    valid = v;
-    number = λ f. e ∙ rw (sym told ∙ not-true b n) refl;
-    next = λ z. absurd (omega (arith, z, e));
-  }
+module _ (low high : ℕ) (s : List ℕ) where
+  pub not_opened : opens low high s ≡ false → GivenBetween low high s (Err Refusal.NotAnArchive)
+  not_opened n f = rw n refl
 
-  pub opened_read : not b ≡ false → oldest ≤ low → high ≤ latest → Reads s r → ReadsBetween low high s r
-  opened_read n l h read =
-      let e = sym told ∙ not-false b n in
-      record {
-        valid = read.valid;
-        number = λ f. (read.says f).number ∙ rw (e, opens_more low high s e l h) refl;
-        next = λ z f. (read.says f).next;
-      }
+  module _ (e : opens low high s ≡ true) (l : oldest ≤ low) (h : high ≤ latest) where
+    asked_alike : (f : FileMeaning s) → read_number f ≡ first_no (questions_between low high f)
+    asked_alike f = rw (e, opens_more low high s e l h) refl
+
+    pub opened_read : (r : Result Graph Refusal) → Given s r → GivenBetween low high s r
+    opened_read (Ok g) read =
+        record { valid = read.valid; number = λ f. (read.says f).number ∙ asked_alike f; next = λ f. (read.says f).next }
+    opened_read (Err k) read = λ f. (read f).0 ∙ asked_alike f
 
 -- Versions from `low` to `high`, and for each model the questions that follow those of the reader and the image that is written.
 module _ (low high : ℕ) (rest : Model → List Question) (image_of : Model → List ℕ) (entry : List ℕ) {s : List ℕ} where
@@ -79,15 +76,14 @@ module _ (low high : ℕ) (rest : Model → List Question) (image_of : Model →
   then_asked f e = ap (answer_by f) (second_step (asked f) (rest (read_model f)) (refl, (refl, (refl, tt))) e refl refl)
 
   -- what is refused, and what is written of a file that was read
-  module _ {r : Changed} (read : ReadsBetween low high s r) where
-    pub not_read : (r.number ≡ not_refused → ⊥) → (f : FileMeaning s) → archived (Written.Refused r.number) entry ≡ outcome f
-    not_read u f =
-        let t = image_of (read_model f) in
-        sym (ap (λ (x : Bool). pick x (archived (Written.Bytes (length t)) (written t entry)) (archived (Written.Refused r.number) entry))
-        (ne_eqb r.number not_refused u))
-        ∙ ap (answer_by f) (first_step (asked f) (rest (read_model f)) (refl, (refl, (refl, tt))) (read.number f) u)
+  pub not_read : (e : Refusal) → GivenBetween low high s (Err e) → (f : FileMeaning s) → archived (written_answer (Err e)) entry ≡ outcome f
+  not_read e read f =
+      let t = image_of (read_model f) in
+      let n = refusal_number e in
+      sym (ap (λ (x : Bool). pick x (archived (Written.Bytes (length t)) (written t entry)) (archived (Written.Refused n) entry))
+      (ne_eqb n not_refused (refusal_positive e)))
+      ∙ ap (answer_by f) (first_step (asked f) (rest (read_model f)) (refl, (refl, (refl, tt))) (read f) (refusal_positive e))
 
-    pub then_written : r.number ≡ not_refused → {o : Outcome Written (List ℕ)}
-        → o ≡ image_outcome (rest (meaning r.graph)) (image_of (meaning r.graph)) entry → (f : FileMeaning s) → o ≡ outcome f
-    then_written z e f =
-        e ∙ ap (λ (m : Model). image_outcome (rest m) (image_of m) entry) (read.next z f) ∙ then_asked f (sym z ∙ read.number f)
+  pub then_written : {g : Graph} → GivenBetween low high s (Ok g) → {o : Outcome Written (List ℕ)}
+      → o ≡ image_outcome (rest (meaning g)) (image_of (meaning g)) entry → (f : FileMeaning s) → o ≡ outcome f
+  then_written read e f = e ∙ ap (λ (m : Model). image_outcome (rest m) (image_of m) entry) (read.next f) ∙ then_asked f (read.number f)

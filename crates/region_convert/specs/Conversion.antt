@@ -5,8 +5,7 @@ use Rattle.region_graph.specs.Calls.{Question, ask}
 use Rattle.region_routes.specs.Hooks.{Outcome}
 use Rattle.region_archive.specs.Image.{latest, image, older_image}
 use Rattle.region_archive.specs.File.{FileMeaning, is_image, read_model, oldest, front_questions}
-use Rattle.region_archive.specs.Promise.{archived, image_outcome, write_questions, older_questions}
-use Rattle.region_archive.specs.declared.Written.{Written}
+use Rattle.region_archive.specs.Promise.{Written, archived, image_outcome, write_questions, older_questions}
 
 -- the reader's questions, where versions from `low` to `high` are admitted
 abbrev pub questions_between : ℕ → ℕ → {s : List ℕ} → FileMeaning s → List Question

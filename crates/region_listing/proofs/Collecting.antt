@@ -1,5 +1,5 @@
 -- Laws of the different packages of a list, and of a collection that gathers them.
-use mathlib.Core.Path.{◌≡◌, refl, sym, ap, ◌∙◌}
+use mathlib.Core.Path.{◌≡◌, refl, sym, ap, ◌∙◌, subst}
 use mathlib.Core.Bool.{Bool, true, false, ◌&&◌, ◌||◌, or-true, or-false, or_assoc}
 use mathlib.Core.List.{List, [], ◌∷◌, ◌++◌, map}
 use Prim.Native.Nat.{ℕ, ◌+◌, ◌-◌, ◌≤◌, ◌<◌}
@@ -8,23 +8,21 @@ use native.Mathlib.Omega.{arith}
 use borrow.Author.Tests.{eqb-true}
 use lib.Dec.{eqb}
 use lib.ListN.{length, get_or, take, set, replicate, length-append, length-map, length-set, replicate-append-replicate}
-use lib.Seq.{take-suc, take-suc-set, take-length, length-take-le, get_or-take}
+use lib.Seq.{take-suc, take_all, take-suc-set, take-length, length-take-le, get_or-take}
 use Rattle.region_graph.specs.Size.{most_bundles, most_provided}
 use Rattle.region_graph.specs.Lists.{All, pick, exists, concat_map}
 use Rattle.region_graph.specs.Model.{Package, packages, Bundle}
 use Rattle.region_graph.specs.Items.{is_package}
-use Rattle.region_graph.specs.Record.{Valid, meaning, no_bundle, store_packages, packages_of, store_bundles, bundles_of, bundle_in}
-use Rattle.region_graph.specs.Places.{Short, ShortBundle, AtMost, PackagesStored, BundlesStored}
-use Rattle.region_graph.specs.Promise.{bundle_places}
+use Rattle.region_graph.specs.Record.{Valid, meaning, no_bundle, store_packages, packages_of, store_bundle, bundle_in}
+use Rattle.region_graph.specs.Places.{Short, ShortBundle, AtMost, PackagesStored}
 use Rattle.region_graph.specs.declared.Graph.{Graph}
 use Rattle.region_graph.specs.declared.packages.Packages.{Packages}
 use Rattle.region_graph.specs.declared.bundles.StoredBundle.{StoredBundle}
-use Rattle.region_graph.specs.declared.bundles.Bundles.{Bundles}
 use Rattle.region_graph.proofs.Lists.{eqb_sym, and_fst, and_snd, pick_yes, pick_no, exists_append, exists_none, concat_next, concat_within, concat_most}
-use Rattle.region_graph.proofs.Arrays.{Filled, filled_at, filled_means, prefix_counted}
+use Rattle.region_graph.proofs.Arrays.{Filled, filled_at, prefix_counted}
 use Rattle.region_graph.proofs.Columns.{no_package, packages_length, packages_at}
-use Rattle.region_graph.proofs.Storing.{bundles_each, bundles_back, stored_as, bundles_filled, filled_bundles, bundles_stored}
-use Rattle.region_graph.proofs.Storing.{packages_back, numbers_column, versions_column}
+use Rattle.region_graph.proofs.Storing.{stored_as, bundles_stored, packages_back, numbers_column, versions_column}
+use Rattle.region_graph.proofs.Views.{stored_length, bundle_means_at}
 use Rattle.region_routes.specs.declared.Kind.{Kind}
 use Rattle.region_listing.specs.Listing.{joined, joined_all, different, without_version, provided, held}
 use Rattle.region_listing.specs.Counts.{most_different, items_in, Collected}
@@ -214,37 +212,8 @@ module _ {items : List ℕ} {count : ℕ} {xs : List ℕ} (f : Filled (λ x. x) 
     ap packages_of cleared_stores ∙ packages_back (map without_version xs),
   )
 
--- the bundles that stand in the first n places
-abbrev pub in_places : List StoredBundle → ℕ → Bundles
-in_places ps n = record { count = n; items = ps }
-
--- those of a valid graph store its bundles
-module _ {g : Graph} (v : Valid g) {ps : List StoredBundle} {n : ℕ} (e : ps ≡ bundle_places (meaning g)) (f : n ≡ length (meaning g).bundles) where
-  stored : in_places ps n ≡ store_bundles (meaning g).bundles
-  stored = filled_bundles (record { shape = e; counted = f; room = v.good.bundles_legal.few })
-
-  pub places_stored : BundlesStored (in_places ps n)
-  unfolding meaning
-  places_stored =
-      stored_as store_bundles bundles_of (AtMost most_bundles ShortBundle) (λ bs r. bundles_back bs) (meaning g).bundles stored
-      (bundles_stored g v).good
-
-  pub places_mean : bundles_of (in_places ps n) ≡ (meaning g).bundles
-  places_mean = ap bundles_of stored ∙ bundles_back (meaning g).bundles
-
--- how many they are, and the one at a place
-module _ {ps : List StoredBundle} {n : ℕ} (h : BundlesStored (in_places ps n)) where
-  pub places_count : n ≡ length (bundles_of (in_places ps n))
-  places_count = (bundles_filled (in_places ps n) h).counted
-
-  pub places_few : n ≤ most_bundles
-  places_few = omega (arith, places_count, h.good.few)
-
-  pub place_means : (i : ℕ) (d : StoredBundle) → i < n → bundle_in (get_or ps i d) ≡ get_or (bundles_of (in_places ps n)) i no_bundle
-  place_means i d l = filled_means (bundles_filled (in_places ps n) h) bundle_in (bundles_each (bundles_of (in_places ps n))) i d no_bundle l
-
 -- one bundle more
-pub held_next : (k : Kind) (bs : List Bundle) (i : ℕ) → i < length bs
+held_next : (k : Kind) (bs : List Bundle) (i : ℕ) → i < length bs
     → held k (take (i + 1) bs) ≡ joined_all (held k (take i bs)) (provided k (get_or bs i no_bundle))
 unfolding held
 held_next k bs i h =
@@ -257,7 +226,7 @@ provided_few b h Kind.Package = h.packages
 provided_few b h Kind.Service = omega (arith, length-map b.services without_version, h.services)
 
 -- the places hold what the bundles before one and that bundle bring
-pub held_room : (bs : List Bundle) → AtMost most_bundles ShortBundle bs → (k : Kind) (i : ℕ) → i < length bs
+held_room : (bs : List Bundle) → AtMost most_bundles ShortBundle bs → (k : Kind) (i : ℕ) → i < length bs
     → length (held k (take i bs)) + length (provided k (get_or bs i no_bundle)) ≤ most_different
 unfolding held
 held_room bs row k i h =
@@ -269,6 +238,42 @@ held_room bs row k i h =
       concat_most ShortBundle (provided k) most_provided (λ b x. provided_few b x k) bs row.each,
       row.few,
     )
+
+-- the bundles of a valid graph, one by one
+module _ {g : Graph} (v : Valid g) {items : List StoredBundle} (s : items ≡ map store_bundle (meaning g).bundles) (k : Kind) where
+  bundles_long : length items ≡ length (meaning g).bundles
+  bundles_long = stored_length store_bundle (meaning g).bundles s
+
+  bundles_short : AtMost most_bundles ShortBundle (meaning g).bundles
+  unfolding meaning
+  bundles_short = (bundles_stored g v).good
+
+  -- what those before one bring is collected, and `p` is what that one brings
+  module _ {i : ℕ} (l : i < length items) (d : StoredBundle) {c : Collection} (h : Collected c (held k (take i (meaning g).bundles)))
+      (p : Packages) (b : packages_of p ≡ provided k (bundle_in (get_or items i d))) where
+    brought : packages_of p ≡ provided k (get_or (meaning g).bundles i no_bundle)
+    brought = b ∙ ap (provided k) (bundle_means_at g v s i d l)
+
+    pub collecting_room : length (items_in c) + length (packages_of p) ≤ most_different
+    collecting_room =
+        omega (
+          arith,
+          held_room (meaning g).bundles bundles_short k i (omega (arith, bundles_long)),
+          ap length h.those,
+          ap length brought,
+        )
+
+    pub collecting_more : {e : Collection} → Collected e (joined_all (items_in c) (packages_of p)) → Collected e (held k (take (i + 1) (meaning g).bundles))
+    collecting_more {e} r =
+        subst (Collected e)
+        (ap (λ (xs : List Package). joined_all xs (packages_of p)) h.those ∙ ap (joined_all (held k (take i (meaning g).bundles))) brought
+        ∙ sym (held_next k (meaning g).bundles i (omega (arith, bundles_long))))
+        r
+
+  -- there is no further bundle
+  pub collecting_end : {i : ℕ} → length items ≤ i → {c : Collection} → Collected c (held k (take i (meaning g).bundles)) → Collected c (held k (meaning g).bundles)
+  collecting_end {i} l {c} h =
+      subst (λ (bs : List Bundle). Collected c (held k bs)) (take_all i (meaning g).bundles (omega (arith, bundles_long))) h
 
 -- the different packages of a list are those that it has
 same_equal : (p x : Package) → same_pair p x ≡ true → p ≡ x

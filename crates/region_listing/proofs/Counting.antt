@@ -16,10 +16,10 @@ use Rattle.region_graph.specs.Model.{Model, Package}
 use Rattle.region_graph.specs.declared.Item.{Item}
 use Rattle.region_graph.proofs.Lists.{keep_append, keep_length}
 use Rattle.region_graph.proofs.Columns.{no_package}
-use Rattle.region_graph.proofs.Bits.{bit_le, bit_zero, in_lt, bit_set_below}
+use Rattle.region_graph.proofs.Bits.{bit_le, bit_zero, bit_set_below}
 use Rattle.region_routes.specs.Chosen.{sees}
 use Rattle.region_routes.specs.Hooks.{kind_number, item}
-use Rattle.region_routes.specs.Search.{In, SetOfRegions}
+use Rattle.region_routes.specs.Search.{In}
 use Rattle.region_routes.specs.declared.Kind.{Kind}
 use Rattle.region_routes.proofs.SetLaws.{in_dec}
 use Rattle.region_routes.proofs.SearchLoops.{Taken}
@@ -39,13 +39,12 @@ same_digit a b n f g = go (in_dec a n)
 -- the members of `set` are counted, but for those that are left
 pub record Adding (counts : List ℕ) (set : ℕ) (next : List ℕ) (left : ℕ) : Type 0 where
   pub word : left < 2 ^ 64
-  pub inside : SetOfRegions left
   pub size : length next ≡ regions
   pub each : (r : ℕ) → r < regions → get_or next r 0 + bit left r ≡ get_or counts r 0 + bit set r
 
 module _ {counts : List ℕ} {all : ℕ} where
-  pub adding_start : CountsFit counts → all < 2 ^ 64 → all < 2 ^ regions → Adding counts all counts all
-  adding_start f w h = record { word = w; inside = λ n i. in_lt regions all n h i; size = f.size; each = λ r k. refl }
+  pub adding_start : CountsFit counts → all < 2 ^ 64 → Adding counts all counts all
+  adding_start f w = record { word = w; size = f.size; each = λ r k. refl }
 
   -- a count of a region has room for one more
   pub adding_room : CountsFit counts → {next : List ℕ} {left r : ℕ} → Adding counts all next left → r < regions → get_or next r 0 ≤ most_different + 1
@@ -57,7 +56,6 @@ module _ {counts : List ℕ} {all : ℕ} where
   adding_more {next} {left} {r} {rest} a t =
       record {
         word = omega (arith, t.less, a.word);
-        inside = λ n h. a.inside n (t.kept n h);
         size = length-set next r (get_or next r 0 + 1) ∙ a.size;
         each = λ n h. go n h (ℕ_discrete n r);
       }

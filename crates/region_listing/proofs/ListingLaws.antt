@@ -1,7 +1,7 @@
 -- Laws of the listing's text.
 use mathlib.Core.Path.{◌≡◌, refl, sym, ap, ◌∙◌, subst}
 use mathlib.Core.Bool.{Bool, true, false}
-use mathlib.Core.List.{List, [], ◌∷◌, ◌++◌}
+use mathlib.Core.List.{List, [], ◌∷◌, ◌++◌, map}
 use Prim.Native.Nat.{ℕ, suc, ◌+◌, ◌-◌, ◌*◌, ◌^◌, ◌≤◌, ◌<◌}
 use native.Mathlib.Omega.{arith}
 use borrow.Author.Tests.{eq-eqb, ne_eqb}
@@ -10,15 +10,17 @@ use lib.ListN.{length, get_or, take, drop, replicate, length-append, length-repl
 use lib.Seq.{take-length}
 use Rattle.region_graph.specs.Lists.{concat_map}
 use Rattle.region_graph.specs.Size.{regions, most_bundles, most_provided}
-use Rattle.region_graph.specs.Refusals.{not_refused}
+use Rattle.region_graph.specs.Refusals.{not_refused, refusal_number}
 use Rattle.region_graph.specs.Lists.{pick, All}
 use Rattle.region_graph.specs.Model.{Model, Bundle, Legal, LegalBundle}
-use Rattle.region_graph.specs.Record.{no_bundle, bundles_of, bundle_in}
-use Rattle.region_graph.specs.Places.{BundlesStored}
+use Rattle.region_graph.specs.Record.{Valid, meaning, no_bundle, store_bundle, bundle_in}
+use Rattle.region_graph.specs.declared.Graph.{Graph}
+use Rattle.region_graph.specs.declared.refusals.Refusal.{Refusal}
 use Rattle.region_graph.specs.declared.bundles.StoredBundle.{StoredBundle}
 use Rattle.region_graph.proofs.Lists.{pick_yes, pick_no, keep_length, all_at, all_map, member_all, concat_next, concat_within, concat_most}
 use Rattle.region_graph.proofs.Arrays.{drop_replicate}
 use Rattle.region_graph.proofs.Storing.{short_bundle}
+use Rattle.region_graph.proofs.Views.{stored_length, bundle_means_at}
 use Rattle.region_routes.specs.Chosen.{sees}
 use Rattle.region_routes.specs.Hooks.{kind_number}
 use Rattle.region_routes.specs.declared.Kind.{Kind}
@@ -28,11 +30,12 @@ use Rattle.text_lines.proofs.Writes.{wrote_then, wrote_is, wrote_length}
 use Rattle.text_lines.proofs.DecimalLaws.{decimal_few, decimal_most}
 use Rattle.region_archive.specs.File.{FileMeaning, read_model, read_number}
 use Rattle.region_archive.proofs.Meaning.{file_meaning, model_legal}
+use Rattle.region_archive.proofs.FileReads.{refusal_positive}
 use Rattle.region_listing.specs.Listing.{provided, held, seen_from, line_of, line, header, listing_text, refused_word, refusal_text, file_text}
 use Rattle.region_listing.specs.Listing.{header_size, line_size, longest_text, store_text, ArchiveListed}
 use Rattle.region_listing.specs.Counts.{Counted}
 use Rattle.region_listing.specs.declared.listing.Text.{Text}
-use Rattle.region_listing.proofs.Collecting.{joined_few, in_places, places_count, place_means, provided_few}
+use Rattle.region_listing.proofs.Collecting.{joined_few, provided_few}
 use Rattle.region_listing.proofs.Counting.{item_of}
 
 -- a line by the counts of each region
@@ -41,10 +44,10 @@ row bundles packages services b =
     line_of b.location b.region (get_or bundles b.region 0) (get_or packages b.region 0) (get_or services b.region 0)
 
 -- the regions of bundles are regions
-abbrev pub Inside : List Bundle → Type 0
+abbrev Inside : List Bundle → Type 0
 Inside bs = All (λ b. b.region < regions) bs
 
-pub legal_inside : (m : Model) → Legal m → Inside m.bundles
+legal_inside : (m : Model) → Legal m → Inside m.bundles
 legal_inside m l =
     all_map (LegalBundle m.regions) (λ b. b.region < regions)
     (λ b h. member_all (λ n. n < regions) b.region m.regions l.regions_legal.each h.region)
@@ -61,54 +64,50 @@ module _ (m : Model) {bundles packages services : List ℕ} (p : Counted m Kind.
       let g = r.each b.region h.0 in
       λ i. line_of b.location b.region (e i) (f i) (g i) ++ rows_lines bs h.1 i
 
-  pub rows_are : Legal m → {bs : List Bundle} → bs ≡ m.bundles → concat_map (row bundles packages services) bs ≡ concat_map (line m) m.bundles
-  rows_are l e = ap (concat_map (row bundles packages services)) e ∙ rows_lines m.bundles (legal_inside m l)
+  pub rows_are : Legal m → concat_map (row bundles packages services) m.bundles ≡ concat_map (line m) m.bundles
+  rows_are l = rows_lines m.bundles (legal_inside m l)
 
--- the lines of the first i bundles that stand in places are written
-pub record Lining (line : Bundle → List ℕ) (ps : List StoredBundle) (n : ℕ) (old new : List ℕ) (from at i : ℕ) : Type 0 where
-  pub reached : i ≤ n
-  pub stored : BundlesStored (in_places ps n)
-  pub within : Inside (bundles_of (in_places ps n))
-  pub room : from + length (concat_map line (bundles_of (in_places ps n))) ≤ length old
-  pub wrote : WrittenAt old new from (concat_map line (take i (bundles_of (in_places ps n)))) at
+-- the lines of the first i bundles are written
+pub record Lining (line : Bundle → List ℕ) (bs : List Bundle) (old new : List ℕ) (from at i : ℕ) : Type 0 where
+  pub room : from + length (concat_map line bs) ≤ length old
+  pub wrote : WrittenAt old new from (concat_map line (take i bs)) at
 
-module _ {line : Bundle → List ℕ} {ps : List StoredBundle} {n : ℕ} {old new : List ℕ} {from at i : ℕ} (h : Lining line ps n old new from at i)
-    (k : i < n) (d : StoredBundle) where
-  here : bundle_in (get_or ps i d) ≡ get_or (bundles_of (in_places ps n)) i no_bundle
-  here = place_means h.stored i d k
+module _ {g : Graph} (v : Valid g) {items : List StoredBundle} (s : items ≡ map store_bundle (meaning g).bundles) {i : ℕ} (k : i < length items)
+    (d : StoredBundle) where
+  here : bundle_in (get_or items i d) ≡ get_or (meaning g).bundles i no_bundle
+  here = bundle_means_at g v s i d k
 
-  few : i < length (bundles_of (in_places ps n))
-  few = omega (arith, places_count h.stored)
+  few : i < length (meaning g).bundles
+  few = omega (arith, stored_length store_bundle (meaning g).bundles s)
 
   -- the region of the next bundle
-  pub lining_region : (get_or ps i d).region < regions
+  pub lining_region : (get_or items i d).region < regions
   lining_region =
       subst (λ (b : Bundle). b.region < regions) (sym here)
-      (all_at (λ b. b.region < regions) (bundles_of (in_places ps n)) i no_bundle few h.within)
+      (all_at (λ b. b.region < regions) (meaning g).bundles i no_bundle few (legal_inside (meaning g) v.good))
 
-  -- there is room for its line
-  pub lining_room : at + length (line (bundle_in (get_or ps i d))) ≤ length new
-  lining_room =
-      let bs = bundles_of (in_places ps n) in
-      omega (
-        arith,
-        h.room,
-        h.wrote.ends,
-        wrote_length h.wrote,
-        ap (λ (b : Bundle). length (line b)) here,
-        concat_within line bs i (length bs) no_bundle few (omega arith),
-        ap (λ (xs : List Bundle). length (concat_map line xs)) (take-length bs),
-      )
+  module _ {line : Bundle → List ℕ} {old new : List ℕ} {from at : ℕ} (h : Lining line (meaning g).bundles old new from at i) where
+    -- there is room for its line
+    pub lining_room : at + length (line (bundle_in (get_or items i d))) ≤ length new
+    lining_room =
+        let bs = (meaning g).bundles in
+        omega (
+          arith,
+          h.room,
+          h.wrote.ends,
+          wrote_length h.wrote,
+          ap (λ (b : Bundle). length (line b)) here,
+          concat_within line bs i (length bs) no_bundle few (omega arith),
+          ap (λ (xs : List Bundle). length (concat_map line xs)) (take-length bs),
+        )
 
-  -- one line more
-  pub lining_more : {last : List ℕ} {to : ℕ} → WrittenAt new last at (line (bundle_in (get_or ps i d))) to → Lining line ps n old last from to (i + 1)
-  lining_more w = record {
-    reached = omega arith;
-    stored = h.stored;
-    within = h.within;
-    room = h.room;
-    wrote = wrote_is (sym (concat_next line (bundles_of (in_places ps n)) i no_bundle few)) (wrote_then h.wrote (wrote_is (ap line here) w));
-  }
+    -- one line more
+    pub lining_more : {last : List ℕ} {to : ℕ} → WrittenAt new last at (line (bundle_in (get_or items i d))) to
+        → Lining line (meaning g).bundles old last from to (i + 1)
+    lining_more w = record {
+      room = h.room;
+      wrote = wrote_is (sym (concat_next line (meaning g).bundles i no_bundle few)) (wrote_then h.wrote (wrote_is (ap line here) w));
+    }
 
 field_few : (j n end : ℕ) → n < 10 ^ suc j → length (decimal_field n end) ≤ suc (suc j)
 field_few j n end h = omega (arith, length-append (decimal n) (end ∷ []), decimal_few j n h)
@@ -181,13 +180,15 @@ pub text_stored : {old new xs : List ℕ} {next : ℕ} → old ≡ replicate lon
 unfolding store_text
 text_stored e w = let z = wrote_same 0 longest_text e w in λ i. record { length = z.0 i; bytes = z.1 i }
 
-module _ {s : List ℕ} (f : FileMeaning s) {n : ℕ} (e : n ≡ read_number f) where
-  -- the text of a file that is refused, and that of one that is accepted
-  pub refused_text : (n ≡ not_refused → ⊥) → refusal_text n ≡ file_text f
-  refused_text h = ap refusal_text e ∙ sym (pick_no (listing_text (read_model f)) (refusal_text (read_number f)) (ne_eqb _ _ (λ z. h (e ∙ z))))
+-- the text of a file that is refused, and that of one that is accepted
+module _ {s : List ℕ} (f : FileMeaning s) where
+  pub refused_text : (r : Refusal) → refusal_number r ≡ read_number f → refusal_text (refusal_number r) ≡ file_text f
+  refused_text r e =
+      ap refusal_text e
+      ∙ sym (pick_no (listing_text (read_model f)) (refusal_text (read_number f)) (ne_eqb _ _ (λ z. refusal_positive r (e ∙ z))))
 
-  pub accepted_text : {m : Model} → n ≡ not_refused → m ≡ read_model f → listing_text m ≡ file_text f
-  accepted_text h g = ap listing_text g ∙ sym (pick_yes (listing_text (read_model f)) (refusal_text (read_number f)) (eq-eqb _ _ (sym e ∙ h)))
+  pub accepted_text : {m : Model} → not_refused ≡ read_number f → m ≡ read_model f → listing_text m ≡ file_text f
+  accepted_text e g = ap listing_text g ∙ sym (pick_yes (listing_text (read_model f)) (refusal_text (read_number f)) (eq-eqb _ _ (sym e)))
 
 -- the longest text holds every text
 listing_fits : (m : Model) → Legal m → length (listing_text m) ≤ longest_text

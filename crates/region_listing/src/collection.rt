@@ -41,47 +41,41 @@ impl Collection {
 }
 
 // What a bundle brings to its region, of a kind.
-fn provided_by(b: StoredBundle, kind: Kind) -> Packages
-    requires { BundleStored b }
-    ensures { PackagesStored result × (packages_of result ≡ provided kind (bundle_in b)) }
+fn provided_by(b: &StoredBundle, kind: Kind) -> Packages
+    requires { BundleStored b.now }
+    ensures { PackagesStored result × (packages_of result ≡ provided kind (bundle_in b.now)) }
 {
     match kind {
         Kind::Bundle => {
-            let location = b.location;
-            let mut numbers = [0u32; MOST_PROVIDED];
-            numbers[0] = location;
+            let mut numbers = [0; MOST_PROVIDED];
+            numbers[0] = b.location;
             Packages {
                 count: 1,
                 numbers,
-                versions: [0u16; MOST_PROVIDED],
+                versions: [0; MOST_PROVIDED],
             }
         }
         Kind::Package => b.packages,
-        Kind::Service => {
-            let numbers = b.services.items;
-            Packages {
-                count: b.services.count,
-                numbers,
-                versions: [0u16; MOST_PROVIDED],
-            }
-        }
+        Kind::Service => Packages {
+            count: b.services.count,
+            numbers: b.services.items,
+            versions: [0; MOST_PROVIDED],
+        },
     }
 }
 
 // The different items of a kind.
-pub fn collect(graph: Graph, kind: Kind) -> Collection
-    requires { Valid graph }
-    ensures { Collected result (held kind (meaning graph).bundles) }
+pub fn collect(graph: &Graph, kind: Kind) -> Collection
+    requires { Valid graph.now }
+    ensures { Collected result (held kind (meaning graph.now).bundles) }
 {
     let mut all = Collection {
         count: 0,
-        numbers: [0u32; MOST_DIFFERENT],
-        versions: [0u16; MOST_DIFFERENT],
+        numbers: [0; MOST_DIFFERENT],
+        versions: [0; MOST_DIFFERENT],
     };
-    let places = graph.bundle_places();
-    let count = graph.bundle_count();
-    for i in 0..count {
-        let list = provided_by(places[i], kind);
+    for b in graph.bundles() {
+        let list = provided_by(b, kind);
         all.join(&list);
     }
     all

@@ -1,6 +1,4 @@
 // For each region how many different items of a kind it sees.
-ghost use Rattle.std.specs.Prelude.{◌<◌, ◌^◌};
-ghost use Rattle.region_graph.specs.Size.{regions};
 ghost use Rattle.region_graph.specs.Record.{Valid, meaning};
 ghost use Rattle.region_listing.specs.Counts.{CountsFit, CountedOnce, Counted};
 
@@ -8,11 +6,11 @@ use crate::collection::collect;
 use region_graph::region_set::{lowest, without_lowest};
 use region_graph::size::REGIONS;
 use region_graph::{Graph, Item};
-use region_routes::{Kind, kind_number, regions_seeing};
+use region_routes::{Kind, regions_seeing};
 
 // Counts each member of a set once more.
 fn count_members(counts: &mut [u32; REGIONS], set: u64)
-    requires { CountsFit counts.old × (set < 2 ^ regions) }
+    requires { CountsFit counts.old }
     ensures { CountedOnce counts.old set counts.new }
 {
     // What is left loses a member at each turn: so there are as many turns as the set has members, not one for each region.
@@ -25,13 +23,13 @@ fn count_members(counts: &mut [u32; REGIONS], set: u64)
 }
 
 // How many different items of a kind each region sees.
-pub fn seen(graph: Graph, kind: Kind) -> [u32; REGIONS]
-    requires { Valid graph }
-    ensures { Counted (meaning graph) kind result }
+pub fn seen(graph: &Graph, kind: Kind) -> [u32; REGIONS]
+    requires { Valid graph.now }
+    ensures { Counted (meaning graph.now) kind result }
 {
     let all = collect(graph, kind);
-    let code = kind_number(kind);
-    let mut counts = [0u32; REGIONS];
+    let code = kind.number();
+    let mut counts = [0; REGIONS];
     for i in 0..all.count {
         let item = Item {
             kind: code,

@@ -1,13 +1,14 @@
 // The listing of an archive as text: for each bundle how many different bundles, packages and services it sees.
 ghost use Rattle.std.specs.Prelude.{◌≡◌, ◌+◌, ◌≤◌, length, replicate};
 ghost use Rattle.region_graph.specs.Record.{Valid, meaning};
+ghost use Rattle.region_graph.specs.Refusals.{refusal_number};
 ghost use Rattle.text_lines.specs.Written.{WrittenAt};
 ghost use Rattle.region_listing.specs.Listing.{«line_of», listing_text, refusal_text, ArchiveListed, longest_text};
 
 use crate::counts::seen;
 use region_archive::read;
 use region_graph::Graph;
-use region_graph::refusals::NOT_REFUSED;
+use region_graph::refusals::Refusal;
 use region_graph::size::MOST_BUNDLES;
 use region_routes::Kind;
 use text_lines::{put_bytes, put_field};
@@ -49,19 +50,16 @@ fn put_row(buffer: &mut [u8], at: usize, row: Row) -> usize
 }
 
 // Writes the header, and the line of each bundle.
-fn put_listing(buffer: &mut [u8], graph: Graph) -> usize
-    requires valid { Valid graph }
+fn put_listing(buffer: &mut [u8], graph: &Graph) -> usize
+    requires valid { Valid graph.now }
     requires longest_text_in_bounds { longest_text ≤ length buffer.old }
-    ensures { WrittenAt buffer.old buffer.new 0 (listing_text (meaning graph)) result }
+    ensures { WrittenAt buffer.old buffer.new 0 (listing_text (meaning graph.now)) result }
 {
     let bundles = seen(graph, Kind::Bundle);
     let packages = seen(graph, Kind::Package);
     let services = seen(graph, Kind::Service);
-    let places = graph.bundle_places();
-    let count = graph.bundle_count();
     let mut at = put_bytes(buffer, 0, b"asker region bundles packages services\n");
-    for i in 0..count {
-        let b = places[i];
+    for b in graph.bundles() {
         let r = b.region as usize;
         let row = Row {
             location: b.location,
@@ -76,19 +74,19 @@ fn put_listing(buffer: &mut [u8], graph: Graph) -> usize
 }
 
 // Writes that a file is refused, with the number.
-fn put_refusal(buffer: &mut [u8], number: u32) -> usize
+fn put_refusal(buffer: &mut [u8], refusal: Refusal) -> usize
     requires { longest_text ≤ length buffer.old }
-    ensures { WrittenAt buffer.old buffer.new 0 (refusal_text number) result }
+    ensures { WrittenAt buffer.old buffer.new 0 (refusal_text (refusal_number refusal)) result }
 {
     let at = put_bytes(buffer, 0, b"refused ");
-    put_field(buffer, at, number, b'\n')
+    put_field(buffer, at, refusal.number(), b'\n')
 }
 
 // The places of a text, each 0.
 fn blank() -> [u8; LONGEST]
     ensures { result ≡ replicate longest_text 0 }
 {
-    [0u8; LONGEST]
+    [0; LONGEST]
 }
 
 // The listing of an archive, or the number of its refusal.
@@ -97,10 +95,9 @@ pub fn list_archive(bytes: &[u8]) -> Text
 {
     let archive = read(bytes);
     let mut text = blank();
-    let length = if archive.number != NOT_REFUSED {
-        put_refusal(&mut text, archive.number)
-    } else {
-        put_listing(&mut text, archive.graph)
+    let length = match &archive {
+        Ok(graph) => put_listing(&mut text, graph),
+        Err(refusal) => put_refusal(&mut text, *refusal),
     };
     Text {
         length,

@@ -12,9 +12,9 @@ returns-in-Bundle c = rw c.in-Bundle.is (record { stored = refl; good = omega ar
 pub returns-in-Package : goal.returns-in-Package
 returns-in-Package c =
     let s = c in
-    rw c.in-Package.is (packages_stored s.args.b s.requires, refl)
+    rw c.in-Package.is (packages_stored s.args.b.now s.requires, refl)
 
 pub returns-in-Service : goal.returns-in-Service
 returns-in-Service c =
     let s = c in
-    rw c.in-Service.is (cleared_stored (provided_filled s.args.b.services (services_stored s.args.b s.requires)))
+    rw c.in-Service.is (cleared_stored (provided_filled s.args.b.now.services (services_stored s.args.b.now s.requires)))

@@ -9,10 +9,10 @@ use Rattle.region_listing.proofs.counts.count_members.Goals.{After-without_lowes
 turn : (c : After-without_lowest-left) → Taken c.loop-left.left c.lowest-n.result c.without_lowest-left.result
 turn c =
     let a = c.loop-left.invariant.1 in
-    taken a.inside a.word (above_none _ c.loop-left-test.true) c.lowest-n.ensures c.without_lowest-left.ensures
+    taken a.word (above_none _ c.loop-left-test.true) c.lowest-n.ensures c.without_lowest-left.ensures
 
 pub loop-left-init : goal.loop-left-init
-loop-left-init c = (c.requires.0, adding_start c.requires.0 (search rules) c.requires.1)
+loop-left-init c = (c.requires, adding_start c.requires (search rules))
 
 pub overflow_add-counts : goal.overflow_add-counts
 overflow_add-counts c =

@@ -17,10 +17,7 @@ loop-i-init c = (collected_own c.collect-all.ensures, tally_none)
 
 pub count_members-requires : goal.count_members-requires
 count_members-requires c =
-    let v = c.loop-i.invariant in (
-      tally_fits v.1 (omega (arith, v.0.count, collected_length v.0)),
-      subst (λ (x : ℕ). x < 2 ^ regions) (sym c.regions_seeing.ensures) (set_below_lt regions _),
-    )
+    let v = c.loop-i.invariant in tally_fits v.1 (omega (arith, v.0.count, collected_length v.0))
 
 pub loop-i-preserved : goal.loop-i-preserved
 loop-i-preserved c =
@@ -36,7 +33,7 @@ returns c =
     let s = c.args in
     let l = c.loop-i in
     let d = c.collect-all in
-    let m = meaning s.graph in
-    let t = subst (λ (k : ℕ). Tally m k (items_in d.result) l.counts l.i) c.kind_number-code.ensures l.invariant.1 in
+    let m = meaning s.graph.now in
+    let t = subst (λ (k : ℕ). Tally m k (items_in d.result) l.counts l.i) c.number-code.ensures l.invariant.1 in
     tally_all (omega (arith, collected_length d.ensures))
     (subst (λ (ps : List Package). Tally m (kind_number s.kind) ps l.counts l.i) d.ensures.those t)

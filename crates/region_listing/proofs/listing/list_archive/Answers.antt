@@ -6,20 +6,18 @@ use Rattle.region_listing.specs.Listing.{longest_text, store_text}
 use Rattle.region_listing.proofs.ListingLaws.{text_stored, refused_text, accepted_text}
 use Rattle.region_listing.proofs.listing.list_archive.Goals as goal
 
-pub returns-then-archive-ne-NOT_REFUSED : goal.returns-then-archive-ne-NOT_REFUSED
-returns-then-archive-ne-NOT_REFUSED c =
-    let b = c in
-    λ f. text_stored b.blank-text.ensures c.put_refusal-length.ensures
-    ∙ ap store_text (refused_text f (b.read-archive.ensures.says f).number (λ z. omega (arith, z, c.if-archive-ne-NOT_REFUSED.true)))
-
 pub put_listing-length-requires : goal.put_listing-length-requires
 put_listing-length-requires c =
-    let b = c in
-    record { valid = b.read-archive.ensures.valid; longest_text_in_bounds = omega (arith, ap length b.blank-text.ensures, length-replicate {A = ℕ} longest_text 0) }
+    let read = rw c.in-Ok.is at c.read-archive.ensures in
+    record { valid = read.valid; longest_text_in_bounds = omega (arith, ap length c.blank-text.ensures, length-replicate {A = ℕ} longest_text 0) }
 
-pub returns-else-archive-ne-NOT_REFUSED : goal.returns-else-archive-ne-NOT_REFUSED
-returns-else-archive-ne-NOT_REFUSED c =
-    let b = c in
-    let r = b.read-archive.ensures in
-    λ f. text_stored b.blank-text.ensures c.put_listing-length.ensures
-    ∙ ap store_text (accepted_text f (r.says f).number c.if-archive-ne-NOT_REFUSED.false (r.says f).next)
+pub returns-in-Ok : goal.returns-in-Ok
+returns-in-Ok c =
+    let read = rw c.in-Ok.is at c.read-archive.ensures in
+    λ f. text_stored c.blank-text.ensures c.put_listing-length.ensures
+    ∙ ap store_text (accepted_text f (read.says f).number (read.says f).next)
+
+pub returns-in-Err : goal.returns-in-Err
+returns-in-Err c =
+    let read = rw c.in-Err.is at c.read-archive.ensures in
+    λ f. text_stored c.blank-text.ensures c.put_refusal-length.ensures ∙ ap store_text (refused_text f c.in-Err.refusal (read f).0)

@@ -1,6 +1,7 @@
+use Rattle.region_graph.specs.Record.{meaning}
 use Rattle.region_listing.proofs.ListingLaws.{row, Lining}
 use Rattle.region_listing.proofs.listing.put_listing.Given as goal
 
-abbrev pub invariant-loop-i : goal.invariant-loop-i
-invariant-loop-i l =
-    Lining (row l.bundles l.packages l.services) l.places l.count l.initial.buffer l.buffer l.initial.at l.at l.i
+abbrev pub invariant-loop-b : goal.invariant-loop-b
+invariant-loop-b l =
+    Lining (row l.bundles l.packages l.services) (meaning l.graph).bundles l.initial.buffer l.buffer l.initial.at l.at l.b-index

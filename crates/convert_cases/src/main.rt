@@ -2,9 +2,8 @@
 // write one. The file `stdout` has the answers.
 #![tactic(auto)]
 
-use region_archive::Written;
 use region_convert::{back, forward};
-use script_text::{Hex, put_hex, value, word};
+use script_text::{Answer, Hex, put_hex, value, word};
 use std::alloc::{AllocError, Global};
 use std::io;
 use std::io::{BufWriter, Read, Write};
@@ -33,11 +32,7 @@ fn convert<W: Write>(out: &mut W, alloc: Global, archive: &[u8], line: &[u8]) ->
         b"forward" => forward(archive, &mut room),
         _ => back(archive, &mut room),
     };
-    let room = Hex(&room);
-    match written {
-        Written::Bytes(length) => writeln!(out, "0 {length} {room}"),
-        Written::Refused(number) => writeln!(out, "{number} - {room}"),
-    }
+    writeln!(out, "{} {}", Answer(written), Hex(&room))
 }
 
 fn run<W: Write>(out: &mut W, alloc: Global, script: &[u8]) -> io::Result<()> {

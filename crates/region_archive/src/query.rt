@@ -2,9 +2,9 @@
 ghost use Rattle.region_archive.specs.Promise.{Queried, query_number};
 
 use crate::reading::read;
+use region_graph::Item;
 use region_graph::refusals::Refusal;
 use region_graph::region_set::has;
-use region_graph::Item;
 use region_routes::regions_seeing;
 
 // What the query answers for an item that is seen, and for one that is hidden.

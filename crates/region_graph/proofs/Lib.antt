@@ -5,7 +5,6 @@ pub mod Arrays
 pub mod Columns
 pub mod Legal
 pub mod Storing
-pub mod PlaceLoops
 pub mod PlaceEdits
 pub mod Codes
 pub mod FlatLaws

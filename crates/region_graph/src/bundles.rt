@@ -38,13 +38,13 @@ pub struct BundleLists<'a> {
 
 impl<'a> BundleLists<'a> {
     // Whether both are within their count.
-    pub fn within(self) -> bool
+    pub(crate) fn within(self) -> bool
         ensures { result ≡ (within most_provided (package_list self.entry.packages) && within most_provided self.entry.services.now) }
     {
         self.packages.count() <= MOST_PROVIDED && self.services.len() <= MOST_PROVIDED
     }
 
-    pub fn ascends(self) -> bool
+    pub(crate) fn ascends(self) -> bool
         ensures { result ≡ (ascends package_before (package_list self.entry.packages) && ascends ltb self.entry.services.now) }
     {
         self.packages.ascends() && ascending(self.services)

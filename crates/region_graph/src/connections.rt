@@ -33,7 +33,7 @@ pub struct Connections {
 }
 
 impl<'a> PartList<&'a [u32]> {
-    pub fn within(self) -> bool
+    pub(crate) fn within(self) -> bool
         ensures { result ≡ part_within (number_part self.entry) }
     {
         match self {
@@ -42,7 +42,7 @@ impl<'a> PartList<&'a [u32]> {
         }
     }
 
-    pub fn ascends(self) -> bool
+    pub(crate) fn ascends(self) -> bool
         ensures { result ≡ of_listed (ascends ltb) (number_part self.entry) }
     {
         match self {
@@ -52,7 +52,7 @@ impl<'a> PartList<&'a [u32]> {
     }
 
     // Whether it passes a number.
-    pub fn passes(self, number: u32) -> bool
+    pub(crate) fn passes(self, number: u32) -> bool
         ensures { result ≡ of_listed (member number) (number_part self.entry) }
     {
         match self {
@@ -64,7 +64,7 @@ impl<'a> PartList<&'a [u32]> {
 
 impl Numbers {
     // A part that is everything.
-    pub fn everything() -> Numbers
+    pub(crate) fn everything() -> Numbers
         ensures { result ≡ store_part Part.everything }
     {
         Numbers {
@@ -73,7 +73,7 @@ impl Numbers {
         }
     }
 
-    pub fn from_part(part: PartList<&[u32]>) -> Numbers
+    pub(crate) fn from_part(part: PartList<&[u32]>) -> Numbers
         requires { part_within (number_part part) ≡ true }
         ensures { result ≡ store_part (number_part part.entry) }
     {
@@ -83,7 +83,7 @@ impl Numbers {
         }
     }
 
-    pub fn as_part(&self) -> PartList<&[u32]>
+    pub(crate) fn as_part(&self) -> PartList<&[u32]>
         requires { PartStored self.now }
         ensures { number_part result ≡ part_in self.now }
     {
@@ -105,20 +105,20 @@ pub struct FilterLists<'a> {
 
 impl<'a> FilterLists<'a> {
     // Whether each part is within its count.
-    pub fn within(self) -> bool
+    pub(crate) fn within(self) -> bool
         ensures { result ≡ filter_within (filter_lists self.entry) }
     {
         self.bundles.len() <= MOST_LISTED && self.packages.within() && self.services.within()
     }
 
-    pub fn ascends(self) -> bool
+    pub(crate) fn ascends(self) -> bool
         ensures { result ≡ filter_ascends (filter_lists self.entry) }
     {
         ascending(self.bundles) && self.packages.ascends() && self.services.ascends()
     }
 
     // Whether no entry of the package part has a lowest version above its highest.
-    pub fn ordered(self) -> bool
+    pub(crate) fn ordered(self) -> bool
         ensures { result ≡ filter_ordered (filter_lists self.entry) }
     {
         self.packages.ordered()
@@ -127,7 +127,7 @@ impl<'a> FilterLists<'a> {
 
 impl StoredConnection {
     // A connection from one region to another whose filter is handed in.
-    pub fn new(source: u32, target: u32, filter: FilterLists<'_>) -> StoredConnection
+    pub(crate) fn new(source: u32, target: u32, filter: FilterLists<'_>) -> StoredConnection
         requires { filter_within (filter_lists filter) ≡ true }
         ensures { result ≡ store_connection (handed_connection source target filter.entry) }
     {
@@ -141,21 +141,21 @@ impl StoredConnection {
     }
 
     // Whether it leads from one region to another.
-    pub fn joins(&self, source: u32, target: u32) -> bool
+    pub(crate) fn joins(&self, source: u32, target: u32) -> bool
         ensures { result ≡ joins source target (connection_in self.now) }
     {
         self.source == source && self.target == target
     }
 
     // Whether it leads from a region or to it.
-    pub fn touches(&self, region: u32) -> bool
+    pub(crate) fn touches(&self, region: u32) -> bool
         ensures { result ≡ touches region (connection_in self.now) }
     {
         self.source == region || self.target == region
     }
 
     // Whether it leads from a region, and has a location in its bundle part.
-    pub fn names(&self, region: u32, location: u32) -> bool
+    pub(crate) fn names(&self, region: u32, location: u32) -> bool
         requires { ConnectionStored self.now }
         ensures { result ≡ names region location (connection_in self.now) }
     {

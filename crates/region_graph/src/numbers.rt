@@ -22,7 +22,7 @@ pub type Provided = NumberList<MOST_PROVIDED>;
 
 impl<const MOST: usize> NumberList<MOST> {
     // What a list hands in as a value of its own.
-    pub fn from_slice(list: &[u32]) -> NumberList<MOST>
+    pub(crate) fn from_slice(list: &[u32]) -> NumberList<MOST>
         requires { length list.now ≤ MOST }
         ensures { result ≡ store_list MOST list.now }
     {
@@ -34,7 +34,7 @@ impl<const MOST: usize> NumberList<MOST> {
         }
     }
 
-    pub fn as_slice(&self) -> &[u32]
+    pub(crate) fn as_slice(&self) -> &[u32]
         requires { ListStored self.now }
         ensures { result.now ≡ list_of self.now }
     {

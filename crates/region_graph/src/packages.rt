@@ -55,14 +55,15 @@ pub enum PartList<T> {
 }
 
 impl<'a> PackageList<'a> {
-    pub fn count(self) -> usize
+    pub(crate) fn count(self) -> usize
         ensures { result ≡ length (package_list self.entry) }
     {
         self.numbers.len().min(self.versions.len())
     }
 
-    // Whether they strictly ascend by number, then version.
-    pub fn ascends(self) -> bool
+    // Whether they strictly ascend by number, then version. It goes by index, as each test below: of a chain over zipped columns the proof did
+    // not close.
+    pub(crate) fn ascends(self) -> bool
         ensures { result ≡ ascends package_before (package_list self.entry) }
     {
         for i in 1..self.count() {
@@ -75,7 +76,7 @@ impl<'a> PackageList<'a> {
     }
 
     // Whether they have a package.
-    pub fn has(self, number: u32, version: u16) -> bool
+    pub(crate) fn has(self, number: u32, version: u16) -> bool
         ensures { result ≡ exists (is_package number version) (package_list self.entry) }
     {
         for i in 0..self.count() {
@@ -88,7 +89,7 @@ impl<'a> PackageList<'a> {
 }
 
 impl<'a> EntryList<'a> {
-    pub fn count(self) -> usize
+    pub(crate) fn count(self) -> usize
         ensures { result ≡ length (entry_list self.entry) }
     {
         self.numbers
@@ -98,14 +99,14 @@ impl<'a> EntryList<'a> {
     }
 
     // Whether they strictly ascend by number.
-    pub fn ascends(self) -> bool
+    pub(crate) fn ascends(self) -> bool
         ensures { result ≡ ascends entry_before (entry_list self.entry) }
     {
         ascending(&self.numbers[..self.count()])
     }
 
     // Whether no lowest version exceeds its highest.
-    pub fn ordered(self) -> bool
+    pub(crate) fn ordered(self) -> bool
         ensures { result ≡ every ordered (entry_list self.entry) }
     {
         for i in 0..self.count() {
@@ -117,7 +118,7 @@ impl<'a> EntryList<'a> {
     }
 
     // Whether one of them passes a package.
-    pub fn passes(self, number: u32, version: u16) -> bool
+    pub(crate) fn passes(self, number: u32, version: u16) -> bool
         ensures { result ≡ exists (entry_passes number version) (entry_list self.entry) }
     {
         for i in 0..self.count() {
@@ -131,7 +132,7 @@ impl<'a> EntryList<'a> {
 
 impl<'a> PartList<EntryList<'a>> {
     // Whether it is within its count.
-    pub fn within(self) -> bool
+    pub(crate) fn within(self) -> bool
         ensures { result ≡ part_within (entry_part self.entry) }
     {
         match self {
@@ -140,7 +141,7 @@ impl<'a> PartList<EntryList<'a>> {
         }
     }
 
-    pub fn ascends(self) -> bool
+    pub(crate) fn ascends(self) -> bool
         ensures { result ≡ of_listed (ascends entry_before) (entry_part self.entry) }
     {
         match self {
@@ -150,7 +151,7 @@ impl<'a> PartList<EntryList<'a>> {
     }
 
     // Whether no entry's lowest version exceeds its highest.
-    pub fn ordered(self) -> bool
+    pub(crate) fn ordered(self) -> bool
         ensures { result ≡ of_listed (every ordered) (entry_part self.entry) }
     {
         match self {
@@ -160,7 +161,7 @@ impl<'a> PartList<EntryList<'a>> {
     }
 
     // Whether it passes a package.
-    pub fn passes(self, number: u32, version: u16) -> bool
+    pub(crate) fn passes(self, number: u32, version: u16) -> bool
         ensures { result ≡ of_listed (exists (entry_passes number version)) (entry_part self.entry) }
     {
         match self {
@@ -172,7 +173,7 @@ impl<'a> PartList<EntryList<'a>> {
 
 impl Packages {
     // What lists hand in as a value of its own.
-    pub fn from_list(list: PackageList<'_>) -> Packages
+    pub(crate) fn from_list(list: PackageList<'_>) -> Packages
         requires { length (package_list list) ≤ most_provided }
         ensures { result ≡ store_packages (package_list list.entry) }
     {
@@ -188,7 +189,7 @@ impl Packages {
         }
     }
 
-    pub fn as_list(&self) -> PackageList<'_>
+    pub(crate) fn as_list(&self) -> PackageList<'_>
         requires { PackagesStored self.now }
         ensures { package_list result ≡ packages_of self.now }
     {
@@ -201,7 +202,7 @@ impl Packages {
 
 impl Entries {
     // What lists hand in as a value of its own.
-    pub fn from_list(list: EntryList<'_>) -> Entries
+    pub(crate) fn from_list(list: EntryList<'_>) -> Entries
         requires { length (entry_list list) ≤ most_listed }
         ensures { result ≡ store_entries (entry_list list.entry) }
     {
@@ -221,7 +222,7 @@ impl Entries {
     }
 
     // A package part that is everything.
-    pub fn everything() -> Entries
+    pub(crate) fn everything() -> Entries
         ensures { result ≡ store_package_part Part.everything }
     {
         Entries {
@@ -232,7 +233,7 @@ impl Entries {
         }
     }
 
-    pub fn from_part(part: PartList<EntryList<'_>>) -> Entries
+    pub(crate) fn from_part(part: PartList<EntryList<'_>>) -> Entries
         requires { part_within (entry_part part) ≡ true }
         ensures { result ≡ store_package_part (entry_part part.entry) }
     {
@@ -242,7 +243,7 @@ impl Entries {
         }
     }
 
-    pub fn as_part(&self) -> PartList<EntryList<'_>>
+    pub(crate) fn as_part(&self) -> PartList<EntryList<'_>>
         requires { PackagePartStored self.now }
         ensures { entry_part result ≡ package_part_in self.now }
     {
@@ -253,7 +254,7 @@ impl Entries {
         }
     }
 
-    pub fn as_list(&self) -> EntryList<'_>
+    pub(crate) fn as_list(&self) -> EntryList<'_>
         requires { EntriesStored self.now }
         ensures { entry_list result ≡ entries_of self.now }
     {

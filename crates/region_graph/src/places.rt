@@ -3,7 +3,8 @@ ghost use Rattle.std.specs.Prelude.{◌≡◌, ◌≤◌, ◌<◌, Bool, length}
 ghost use Rattle.std.specs.Fn.{FnReturnsAt, ComputesKey};
 ghost use Rattle.region_graph.specs.Places.{Tests, Retained, Inserted};
 
-// Keeps those of the first `count` places that pass, in their order. Each place that they leave takes `blank`. Says how many are kept.
+// Keeps those of the first `count` places that pass, in their order. Each place that they leave takes `blank`, by a loop: `fill` clones, and
+// of clones of any T nothing is known. Says how many are kept.
 pub fn retain<T: Copy, F: Fn(&T) -> bool>(
     items: &mut [T],
     count: usize,

@@ -16,7 +16,7 @@ use Rattle.region_graph.specs.Size.{regions}
 use Rattle.region_graph.specs.Lists.{pick}
 use Rattle.region_graph.specs.Sets.{singleton}
 use Rattle.region_graph.proofs.Bits.{bit_one, in_lt, low_in}
-use Rattle.region_routes.specs.Search.{In, SetOfRegions, Conn, Layer, Layered, At, Searched}
+use Rattle.region_routes.specs.Search.{In, Conn, Layer, Layered, At, Searched}
 use Rattle.region_routes.proofs.SetLaws.{not_in_empty, in_dec, or_in, in_or, diff_in, in_diff, in_one, in_pos, ones_pos, grows}
 
 -- a set of regions fits a word
@@ -152,11 +152,6 @@ pub record SearchState (pred : List ℕ) (holders : ℕ) (sets : List ℕ) (k re
   pub layered : Layered (Conn pred) (In holders) (At sets) k
   pub into : (i n : ℕ) → i ≤ k → At sets i n → In reached n
   pub from : (n : ℕ) → In reached n → (i : ℕ) × (i ≤ k) × (At sets i n)
-
--- the last layer has regions only
-pub last_regions : {pred : List ℕ} {holders : ℕ} {sets : List ℕ} {k reached prev : ℕ} → SearchState pred holders sets k reached prev → SetOfRegions prev
-last_regions {k = k} {reached = reached} st n h =
-    in_lt regions reached n st.small (st.into k n (le_refl k) (subst (λ (x : ℕ). In x n) (sym st.here) h))
 
 -- layer 0 is the holders
 pub search_start : {pred : List ℕ} {holders : ℕ} {sets : List ℕ} → holders < 2 ^ regions → length sets ≡ regions → get_or sets 0 0 ≡ holders

@@ -109,7 +109,6 @@ module _ {pred sets : List ℕ} {deep region : ℕ} (wa : Walkable pred sets dee
       pub leading : Leading pred (get_or sets (d - 1) 0) r
       leading = record {
         inside = in_low;
-        small = λ n h. wa.small (d - 1) n (omega (arith, w.sum)) h;
         some = wa.layered.back (d - 1) r (omega (arith, w.sum)) now_at;
       }
 

@@ -14,10 +14,6 @@ use Rattle.region_routes.specs.declared.search.Ends.{Ends}
 abbrev pub In : ℕ → ℕ → Type 0
 In x n = bit x n ≡ 1
 
--- the members of x are regions
-abbrev pub SetOfRegions : ℕ → Type 0
-SetOfRegions x = (n : ℕ) → In x n → n < regions
-
 -- an iterator whose state shows the members that are left takes the lowest of them
 abbrev pub TakesLowest : {S : Type 0} → (S → ℕ) → S → Option ℕ → S → Type 0
 TakesLowest left s r t =
@@ -75,7 +71,6 @@ pub record InLayer (sets : List ℕ) (deep region layer : ℕ) : Type 0 where
 -- from region r a connection leads into the set x, and s is the smallest region of x to which one leads
 pub record Leading (pred : List ℕ) (x r : ℕ) : Type 0 where
   pub inside : r < regions
-  pub small : SetOfRegions x
   pub some : (n : ℕ) × (Conn pred r n) × (In x n)
 
 pub record Next (pred : List ℕ) (x r s : ℕ) : Type 0 where

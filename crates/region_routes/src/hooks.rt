@@ -7,10 +7,10 @@ ghost use Rattle.region_graph.specs.Model.{Model};
 ghost use Rattle.region_graph.specs.Record.{Valid, meaning};
 ghost use Rattle.region_routes.specs.Chosen.{sees};
 ghost use Rattle.region_routes.specs.Hooks.{kind_number, item, Kept, kept, kept_answer, kept_outcome, find_outcome, event_outcome, is_installed};
-ghost use Rattle.region_routes.specs.Tables.{NumberTables, most_entries, everything_number, «step_in», predecessors_by, «place_at», «all_placed», stands_in};
+ghost use Rattle.region_routes.specs.Tables.{NumberTables, «place_at», «all_placed», stands_in};
 
 use crate::Kind;
-use crate::search::{regions_seeing, regions_seeing_by};
+use crate::search::{KindTables, regions_seeing};
 use crate::tables::{Chains, EVERYTHING_NUMBER, FEW, Table};
 use region_graph::Graph;
 use region_graph::refusals::Refusal;
@@ -46,18 +46,18 @@ fn keep_many(graph: &Graph, kind: Kind, region: u32, candidates: &[u32], out: &m
     passing.put_passages(graph, kind);
     let passing = Chains::of(passing.entries());
     let always = passing.predecessors(EVERYTHING_NUMBER, [0; REGIONS]);
+    let tables = KindTables {
+        offered,
+        passing,
+        always,
+    };
     keep_where(
         candidates,
         out,
         |number|
-            requires { (always ≡ predecessors_by (step_in passing.table.now everything_number)) × (region < regions) }
-            ensures { (m : Model) (kind : ℕ) → NumberTables m kind offered.entry.table.now passing.entry.table.now → result ≡ sees m (item kind number 0) region }
-        {
-            has(
-                regions_seeing_by(&offered, &passing, always, number),
-                region,
-            )
-        },
+            requires { region < regions }
+            ensures { (m : Model) (kind : ℕ) → NumberTables m kind tables.entry.offered.table.now tables.entry.passing.table.now → result ≡ sees m (item kind number 0) region }
+        { has(tables.regions_seeing(number), region) },
     )
 }
 

@@ -9,7 +9,7 @@ ghost use Rattle.region_graph.specs.Sets.{set_of};
 ghost use Rattle.region_routes.specs.Chosen.{sees};
 ghost use Rattle.region_routes.specs.Hooks.{item};
 ghost use Rattle.region_routes.specs.Tables.{NumberTables, everything_number, «step_in», predecessors_by};
-ghost use Rattle.region_routes.specs.Search.{RegionSets, SetOfRegions, TakesLowest, Layer, Searched, At, InLayer, end_set};
+ghost use Rattle.region_routes.specs.Search.{RegionSets, TakesLowest, Layer, Searched, At, InLayer, end_set};
 
 use crate::tables::Chains;
 use region_graph::region_set::{difference, has, lowest, singleton, without_lowest};
@@ -61,7 +61,7 @@ impl Layers {
 
 // One layer: the regions that are not reached yet and have a connection into the layer before.
 fn layer(pred: &[u64; REGIONS], last: u64, reached: u64) -> u64
-    requires { RegionSets pred.now × SetOfRegions last }
+    requires { RegionSets pred.now }
     ensures { Layer pred.now last reached result }
 {
     let mut next = 0;
@@ -140,21 +140,26 @@ pub fn regions_seeing(graph: &Graph, item: Item) -> u64
     search_for(graph, item, Ends::Holders).layers.reached
 }
 
-// The regions that see an item of a kind by number, by the chained tables of the kind and the predecessors that the entries for all numbers give.
-pub fn regions_seeing_by(
-    offered: &Chains<'_>,
-    passing: &Chains<'_>,
-    always: [u64; REGIONS],
-    number: u32,
-) -> u64
-    requires { always ≡ predecessors_by (step_in passing.now.table.now everything_number) }
-    ensures { (m : Model) (kind : ℕ) → NumberTables m kind offered.now.table.now passing.now.table.now → result ≡ set_of (sees m (item kind number 0)) }
-{
-    let sought = u64::from(number);
-    let held = offered.holders(sought);
-    if held == 0 {
-        return 0;
+// The tables of a kind by number with their chains, and the predecessors that the entries for all numbers give.
+#[derive(Drop)]
+pub struct KindTables<'a> {
+    pub offered: Chains<'a>,
+    pub passing: Chains<'a>,
+    pub always: [u64; REGIONS],
+    ghost always_value: { always ≡ predecessors_by (step_in passing.table.now everything_number) },
+}
+
+impl<'a> KindTables<'a> {
+    // The regions that see the item of a number.
+    pub fn regions_seeing(&self, number: u32) -> u64
+        ensures { (m : Model) (kind : ℕ) → NumberTables m kind self.now.offered.table.now self.now.passing.table.now → result ≡ set_of (sees m (item kind number 0)) }
+    {
+        let sought = u64::from(number);
+        let held = self.offered.holders(sought);
+        if held == 0 {
+            return 0;
+        }
+        let pred = self.passing.predecessors(sought, self.always);
+        search(&pred, held).reached
     }
-    let pred = passing.predecessors(sought, always);
-    search(&pred, held).reached
 }

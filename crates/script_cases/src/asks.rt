@@ -4,70 +4,71 @@
 //   image
 //   query LOCATION KIND ITEM VERSION
 // LENGTH is how many bytes the buffer has. The query is of the file that stands.
-ghost use Rattle.region_graph.specs.Record.{Valid};
-
 use crate::buffers::{ROOM, bytes};
-use region_archive::{Written, archive_query};
-use region_graph::Graph;
-use region_routes::Routed;
-use script_text::{Hex, value, version};
-use std::alloc::Global;
-use std::io;
+use crate::session::Session;
+use region_archive::{HIDDEN, SEEN, archive_query};
+use script_text::{Answer, Hex, value, version};
 use std::io::Write;
+use std::{fmt, io};
 
-pub fn route<W: Write>(out: &mut W, alloc: Global, g: Graph, line: &[u8]) -> io::Result<()>
-    requires { Valid g }
-{
-    let mut room = bytes(alloc, value(line, 5) as usize)?;
-    let answer = region_routes::route(
-        g,
-        value(line, 1),
-        value(line, 2),
-        value(line, 3),
-        version(line, 4),
-        &mut room,
-    );
-    let room = Hex(&room);
-    match answer {
-        Routed::Hidden => writeln!(out, "0 hidden {room}"),
-        Routed::Count(count) => writeln!(out, "0 {count} {room}"),
-        Routed::Refused(number) => writeln!(out, "{number} - {room}"),
-    }
-}
+// How many regions a route has, or `hidden` where there is none.
+#[derive(Clone, Copy)]
+struct Length(Option<usize>);
 
-pub fn write<W: Write>(out: &mut W, alloc: Global, g: Graph, line: &[u8]) -> io::Result<()>
-    requires { Valid g }
-{
-    let mut room = bytes(alloc, value(line, 1) as usize)?;
-    let answer = region_archive::write(g, &mut room);
-    let room = Hex(&room);
-    match answer {
-        Written::Bytes(length) => writeln!(out, "0 {length} {room}"),
-        Written::Refused(number) => writeln!(out, "{number} - {room}"),
-    }
-}
-
-// The image alone: what is written to a buffer that takes every image.
-pub fn image<W: Write>(out: &mut W, alloc: Global, g: Graph) -> io::Result<()>
-    requires { Valid g }
-{
-    let mut room = bytes(alloc, ROOM)?;
-    match region_archive::write(g, &mut room) {
-        Written::Bytes(length) => {
-            room.truncate(length);
-            writeln!(out, "{}", Hex(&room))
+impl fmt::Display for Length {
+    fn fmt<W: fmt::Write>(&self, f: &mut fmt::Formatter<W>) -> fmt::Result {
+        match self.0 {
+            Some(count) => write!(f, "{count}"),
+            None => f.write_str("hidden"),
         }
-        Written::Refused(number) => writeln!(out, "{number}"),
     }
 }
 
-pub fn query<W: Write>(out: &mut W, file: &[u8], line: &[u8]) -> io::Result<()> {
-    let number = archive_query(
-        file,
-        value(line, 1),
-        value(line, 2),
-        value(line, 3),
-        version(line, 4),
-    );
-    writeln!(out, "{number}")
+impl Session {
+    pub fn route<W: Write>(&self, out: &mut W, line: &[u8]) -> io::Result<()> {
+        let mut room = bytes(self.alloc, value(line, 5) as usize)?;
+        let answer = region_routes::route(
+            &self.graph,
+            value(line, 1),
+            value(line, 2),
+            value(line, 3),
+            version(line, 4),
+            &mut room,
+        );
+        writeln!(out, "{} {}", Answer(answer.map(Length)), Hex(&room))
+    }
+
+    pub fn write<W: Write>(&self, out: &mut W, line: &[u8]) -> io::Result<()> {
+        let mut room = bytes(self.alloc, value(line, 1) as usize)?;
+        let answer = region_archive::write(&self.graph, &mut room);
+        writeln!(out, "{} {}", Answer(answer), Hex(&room))
+    }
+
+    // The image alone: what is written to a buffer that takes every image.
+    pub fn image<W: Write>(&self, out: &mut W) -> io::Result<()> {
+        let mut room = bytes(self.alloc, ROOM)?;
+        match region_archive::write(&self.graph, &mut room) {
+            Ok(length) => {
+                room.truncate(length);
+                writeln!(out, "{}", Hex(&room))
+            }
+            Err(refusal) => writeln!(out, "{}", refusal.number()),
+        }
+    }
+
+    pub fn query<W: Write>(&self, out: &mut W, line: &[u8]) -> io::Result<()> {
+        let answer = archive_query(
+            &self.files.file,
+            value(line, 1),
+            value(line, 2),
+            value(line, 3),
+            version(line, 4),
+        );
+        let number = match answer {
+            Ok(true) => SEEN,
+            Ok(false) => HIDDEN,
+            Err(refusal) => refusal.number(),
+        };
+        writeln!(out, "{number}")
+    }
 }

@@ -8,7 +8,7 @@ mod buffers;
 mod calls;
 mod files;
 mod hooks;
-mod script;
+mod session;
 
 use std::io;
 use std::io::{BufWriter, Read, Write};
@@ -20,6 +20,6 @@ fn main(rt: HostRuntime) -> io::Result<()> {
     let mut script = Vec::new(rt.alloc());
     rt.reader().take(ROOM as u64).read_to_end(&mut script)?;
     let mut out = BufWriter::new(rt.alloc(), io::writer(&rt))?;
-    script::run(&mut out, rt.alloc(), script.as_slice())?;
+    session::run(&mut out, rt.alloc(), script.as_slice())?;
     out.flush()
 }

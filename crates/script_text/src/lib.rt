@@ -1,8 +1,10 @@
 // The text of scripts and of answers: lines with words, numbers, and bytes in hex.
 #![tactic(auto)]
 
+mod answers;
 mod hex;
 mod lines;
 
+pub use answers::Answer;
 pub use hex::{Hex, put_hex};
 pub use lines::{has_bytes, number, value, version, version_of, word};

@@ -1,6 +1,6 @@
-use Rattle.std.proofs.Common.{false, rules}
+use Rattle.std.proofs.Common.{false}
 use Rattle.region_routes.proofs.TableLaws.{preceding_none}
 use Rattle.region_routes.proofs.hooks.keep_many.Goals as goal
 
-pub keep_where-requires-clause-callable : goal.keep_where-requires-clause-callable
-keep_where-requires-clause-callable c = search (rules, c.predecessors-always.ensures (λ r s. false) preceding_none)
+pub invariant_of-tables : goal.invariant_of-tables
+invariant_of-tables c = record { always_value = c.predecessors-always.ensures (λ r s. false) preceding_none }

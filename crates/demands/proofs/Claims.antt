@@ -14,15 +14,13 @@ use Rattle.region_graph.specs.Model.{Model, Legal}
 use Rattle.region_graph.specs.Calls.{ask, first_no}
 use Rattle.region_graph.specs.Promise.{place_of}
 use Rattle.region_graph.specs.declared.Item.{Item}
-use Rattle.std.specs.Prelude.{Option as Maybe}
-use Rattle.std.specs.Prelude.{Some, None}
+use Rattle.std.specs.Prelude.{Option as Maybe, Some, None}
 use Rattle.region_routes.specs.Chosen.{chosen, sees}
-use Rattle.region_routes.specs.Hooks.{Outcome, routed, kept, judged, shown, shown_from, sees_from}
-use Rattle.region_routes.specs.Resolve.{Candidate, resolved}
+use Rattle.region_routes.specs.Hooks.{Outcome, routed, kept, judged, shown, shown_from, sees_from, Routed, Kept}
+use Rattle.region_routes.specs.declared.resolver.Candidate.{Candidate}
+use Rattle.region_routes.specs.Resolve.{resolved}
 use Rattle.demands.specs.Claim
 use Rattle.demands.specs.Claim.{Selected, Seen, RouteSays, says_hidden, says_route, KeptSays, InstalledWhere}
-use Rattle.region_routes.specs.Hooks.{Routed}
-use Rattle.region_routes.specs.Hooks.{Kept}
 use Rattle.region_routes.proofs.RouteLaws.{nonempty}
 use Rattle.region_routes.proofs.Choosing.{chosen_best, chosen_none, sees_route, route_sees}
 

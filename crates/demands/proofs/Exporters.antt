@@ -14,14 +14,14 @@ use Rattle.region_graph.specs.Calls.{at_location}
 use Rattle.region_graph.specs.Items.{crosses, provides}
 use Rattle.region_graph.specs.Promise.{place_of, provider_place}
 use Rattle.region_graph.specs.declared.Item.{Item}
-use Rattle.std.specs.Prelude.{Option}
-use Rattle.std.specs.Prelude.{Some, None}
+use Rattle.std.specs.Prelude.{Option, Some, None}
 use Rattle.region_graph.proofs.Lists.{and_fst, and_snd, false_true, all_map}
 use Rattle.region_graph.proofs.Ascending.{Rising, ascends_rising, strict_bundles, or_right, none_any}
 use Rattle.region_routes.specs.Route.{Route, last, next}
 use Rattle.region_routes.specs.Chosen.{PassesTo, HeldAt}
 use Rattle.region_routes.specs.Hooks.{item, kind_number}
-use Rattle.region_routes.specs.Resolve.{Candidate, package_of, reaches, offered_at, is_offered}
+use Rattle.region_routes.specs.declared.resolver.Candidate.{Candidate}
+use Rattle.region_routes.specs.Resolve.{package_of, reaches, offered_at, is_offered}
 use Rattle.region_routes.specs.declared.Kind.TheVariants as Kind
 use Rattle.region_routes.proofs.RouteLaws.{carry}
 use Rattle.region_routes.proofs.Choosing.{crosses_members, crosses_inside, found_route, route_found}

@@ -11,11 +11,10 @@ use Rattle.region_graph.specs.declared.Graph.{Graph}
 use Rattle.std.specs.Prelude.{Some}
 use Rattle.region_graph.proofs.Lists.{all_map}
 use Rattle.region_graph.proofs.Ascending.{ascends_rising, strict_bundles}
-use Rattle.region_routes.specs.Hooks.{Outcome, route_outcome, find_outcome, event_outcome}
-use Rattle.region_routes.specs.Resolve.{Candidate, resolve_outcome}
+use Rattle.region_routes.specs.Hooks.{Outcome, route_outcome, find_outcome, event_outcome, Routed, Kept}
+use Rattle.region_routes.specs.declared.resolver.Candidate.{Candidate}
+use Rattle.region_routes.specs.Resolve.{resolve_outcome}
 use Rattle.region_routes.specs.declared.Kind.{Kind}
-use Rattle.region_routes.specs.Hooks.{Routed}
-use Rattle.region_routes.specs.Hooks.{Kept}
 use Rattle.region_host.specs.CNumbers.{CAnswer, routed_value, kept_value}
 use Rattle.demands.specs.Interface.{RouteCalls, ListCalls, ResolveCalls}
 use Rattle.demands.specs.ByValue.{ValueRoute, ValueFind, ValueEvent, ValueResolve}

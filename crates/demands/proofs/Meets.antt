@@ -1,19 +1,18 @@
--- The calls of both interfaces meet the promises of the functions by value.
+-- The calls of both interfaces meet the promises of the crates' own calls.
 use mathlib.Core.Path.{◌≡◌}
 use mathlib.Core.List.{List}
 use Prim.Native.Nat.{ℕ}
+use Rattle.std.specs.Prelude.{Ok, Err}
 use Rattle.region_graph.specs.Calls.{Call}
 use Rattle.region_graph.specs.Record.{Valid, meaning}
 use Rattle.region_graph.specs.Promise.{Empty, Follows}
 use Rattle.region_graph.specs.declared.Graph.{Graph}
-use Rattle.region_routes.specs.Hooks.{Outcome, routed, routed_as, kept, kept_as, route_outcome, find_outcome, event_outcome}
-use Rattle.region_routes.specs.Resolve.{Candidate, resolve_outcome}
+use Rattle.region_routes.specs.Hooks.{Outcome, routed, routed_as, kept, kept_as, route_outcome, find_outcome, event_outcome, Routed, Kept}
+use Rattle.region_routes.specs.declared.resolver.Candidate.{Candidate}
+use Rattle.region_routes.specs.Resolve.{resolve_outcome}
 use Rattle.region_routes.specs.declared.Kind.{Kind}
-use Rattle.region_routes.specs.Hooks.{Routed}
-use Rattle.region_routes.specs.Hooks.{Kept}
 use Rattle.region_archive.specs.Image.{image}
-use Rattle.region_archive.specs.Promise.{ReadsOver, archived, written_as, write_questions, write_outcome, Queried}
-use Rattle.region_archive.specs.Promise.{Written}
+use Rattle.region_archive.specs.Promise.{ReadsOver, archived, written_as, write_questions, write_outcome, Queried, Written}
 use Rattle.region_host.specs.CNumbers.{CAnswer, answered, for_c, routed_value, routed_of, kept_value, kept_of, written_value, written_of}
 use Rattle.region_host.proofs.Outcomes.{read_off, route_whole, find_whole, event_whole, resolve_whole, image_whole}
 use Rattle.region_host.proofs.ReadBack.{routed_back, kept_back, written_back}
@@ -21,7 +20,7 @@ use Rattle.region_host.proofs.Given.{route_given, find_given, event_given, resol
 use Rattle.demands.specs.Interface.{Interface}
 use Rattle.demands.specs.ByValue as value
 use Rattle.demands.specs.Lent as lent
-use Rattle.demands.proofs.Inverse.{read_over_empty}
+use Rattle.demands.proofs.Inverse.{read_over_empty, refused_read}
 
 pub record Meets (c : Interface) : Type 0 where
   pub empties : {g : Graph} → c.empties g → Empty g
@@ -49,7 +48,8 @@ value_changes (value.by_connect κs was is r s f a p) = p
 value_changes (value.by_disconnect κs was is r s a p) = p
 
 value_reads : {s : List ℕ} {g h : Graph} {n : ℕ} → value.ValueRead s g n h → ReadsOver g s (record { graph = h; number = n })
-value_reads (value.by_read κs bytes g a e p) = read_over_empty e p
+value_reads (value.by_read κs bytes g (Ok h) e p) = read_over_empty e p
+value_reads (value.by_read κs bytes g (Err refusal) e p) = read_over_empty e (refused_read e p)
 value_reads (value.by_read_over κs was is bytes a p) = p
 
 value_writes : {g : Graph} {entry exit : List ℕ} {a : Written} → value.ValueWrite g entry a exit

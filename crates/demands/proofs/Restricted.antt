@@ -15,14 +15,14 @@ use Rattle.region_graph.specs.Calls.{at_location}
 use Rattle.region_graph.specs.Items.{holds, crosses, provides, passes}
 use Rattle.region_graph.specs.Promise.{place_of, provider_place}
 use Rattle.region_graph.specs.declared.Item.{Item}
-use Rattle.std.specs.Prelude.{Option as Maybe}
-use Rattle.std.specs.Prelude.{Some, None}
+use Rattle.std.specs.Prelude.{Option as Maybe, Some, None}
 use Rattle.region_graph.proofs.Lists.{false_true, and_fst, and_snd, keep_same, exists_keep, exists_one, all_map}
 use Rattle.region_graph.proofs.Ascending.{Rising, ascends_rising, strict_bundles}
 use Rattle.region_routes.specs.Route.{Route, last, next}
 use Rattle.region_routes.specs.Chosen.{first_of, put_before, guarded, exactly, from, found, chosen_by, chosen, PassesTo}
 use Rattle.region_routes.specs.Hooks.{item, kind_number, is_installed, all_installed, sees_from, route_outcome, find_outcome, event_outcome}
-use Rattle.region_routes.specs.Resolve.{Candidate, package_of, reaches, offered_at, is_offered, offered_from, places_for, resolve_outcome}
+use Rattle.region_routes.specs.declared.resolver.Candidate.{Candidate}
+use Rattle.region_routes.specs.Resolve.{package_of, reaches, offered_at, is_offered, offered_from, places_for, resolve_outcome}
 use Rattle.region_routes.specs.declared.Kind.{Kind}
 use Rattle.region_routes.proofs.Choosing as routes
 use Rattle.demands.specs.Isolation.{restricted, Closed, InstalledIn}

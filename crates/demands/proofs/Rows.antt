@@ -14,7 +14,8 @@ use Rattle.std.specs.Prelude.{Some}
 use Rattle.region_graph.proofs.Legal.{legal_nothing, legal_run, Words}
 use Rattle.region_routes.specs.Chosen.{chosen_by, chosen}
 use Rattle.region_routes.specs.Hooks.{item}
-use Rattle.region_routes.specs.Resolve.{Candidate, candidates, reaches, is_offered}
+use Rattle.region_routes.specs.declared.resolver.Candidate.{Candidate}
+use Rattle.region_routes.specs.Resolve.{candidates, reaches, is_offered}
 use Rattle.demands.specs.JointTable.{Says, RowHolds, rows, resolves, routes, hides}
 use Rattle.demands.specs.JointTable.{graph_g, packages_of_30, cycle, diamond, two_exporters, editions, about_editions}
 use Rattle.region_routes.proofs.Choosing.{chosen_best, chosen_none}

@@ -18,21 +18,18 @@ use Rattle.region_graph.specs.Record.{Valid, meaning}
 use Rattle.region_graph.specs.Promise.{place_of, Follows}
 use Rattle.region_graph.specs.declared.Graph.{Graph}
 use Rattle.region_graph.specs.declared.Item.{Item}
-use Rattle.std.specs.Prelude.{Option}
-use Rattle.std.specs.Prelude.{Some, None}
+use Rattle.std.specs.Prelude.{Option, Some, None}
 use Rattle.region_graph.proofs.Lists.{pick_yes, pick_no, false_true}
 use Rattle.region_graph.proofs.Legal.{all_yes}
 use Rattle.region_graph.proofs.Storing.{meaning_injective}
 use Rattle.region_routes.specs.Chosen.{sees}
 use Rattle.region_routes.specs.Hooks.{Outcome, item, kind_number, written, routed, kept, judged, shown_from, kept_outcome, is_installed, sees_from}
-use Rattle.region_routes.specs.Hooks.{route_questions, route_outcome, find_questions, find_outcome, event_questions, event_outcome}
-use Rattle.region_routes.specs.Resolve.{Candidate, is_offered, offered_from, places_for, resolved, resolve_questions, resolve_outcome}
-use Rattle.region_routes.specs.Hooks.{Routed}
-use Rattle.region_routes.specs.Hooks.{Kept}
+use Rattle.region_routes.specs.Hooks.{route_questions, route_outcome, find_questions, find_outcome, event_questions, event_outcome, Routed, Kept}
+use Rattle.region_routes.specs.declared.resolver.Candidate.{Candidate}
+use Rattle.region_routes.specs.Resolve.{is_offered, offered_from, places_for, resolved, resolve_questions, resolve_outcome}
 use Rattle.region_archive.specs.Image.{latest, image, image_in, older_version}
 use Rattle.region_archive.specs.File.{read_questions, read_model}
-use Rattle.region_archive.specs.Promise.{archived, write_questions, seen_number, hidden_number, query_questions}
-use Rattle.region_archive.specs.Promise.{Written}
+use Rattle.region_archive.specs.Promise.{archived, write_questions, seen_number, hidden_number, query_questions, Written}
 use Rattle.region_archive.proofs.OneImage as images
 use Rattle.region_archive.proofs.Versions.{in_cases, older_in}
 use Rattle.region_archive.proofs.Meaning.{model_legal}

@@ -1,5 +1,5 @@
 -- The calls of the crates themselves, by the contracts that the check proved of them.
-use Rattle.std.specs.Prelude.{Bool, List, [], ◌∷◌, ℕ, Option, Result}
+use Rattle.std.specs.Prelude.{Bool, List, [], ◌∷◌, ℕ, Option, Result, Ok, Err}
 use contract.Lifetimes.{Lfts}
 use Rattle.std.specs.Borrow.{Bor, MutBor}
 use Rattle.region_graph.specs.Refusals.{answer_number}
@@ -16,7 +16,8 @@ use Rattle.region_graph.proofs.Graph.install.Reads as install
 use Rattle.region_graph.proofs.Graph.uninstall.Reads as uninstall
 use Rattle.region_graph.proofs.Graph.connect.Reads as connect
 use Rattle.region_graph.proofs.Graph.disconnect.Reads as disconnect
-use Rattle.region_routes.specs.Resolve.{Candidate, candidates}
+use Rattle.region_routes.specs.declared.resolver.Candidate.{Candidate}
+use Rattle.region_routes.specs.Resolve.{candidates}
 use Rattle.region_routes.specs.declared.Kind.{Kind}
 use Rattle.region_routes.specs.Hooks.{Routed, Kept, routed_answer, kept_answer}
 use Rattle.region_routes.proofs.route.Reads as route
@@ -25,7 +26,7 @@ use Rattle.region_routes.proofs.service_find.Reads as service_find
 use Rattle.region_routes.proofs.bundle_event.Reads as bundle_event
 use Rattle.region_routes.proofs.service_event.Reads as service_event
 use Rattle.region_routes.proofs.resolve.Reads as resolve
-use Rattle.region_archive.specs.Promise.{Written, written_answer, query_number, read_changed}
+use Rattle.region_archive.specs.Promise.{Written, written_answer, query_number}
 use Rattle.region_archive.proofs.read.Reads as read
 use Rattle.region_archive.proofs.read_over.Reads as read_over
 use Rattle.region_archive.proofs.write.Reads as write
@@ -38,22 +39,27 @@ pub data ValueChange : Graph → Call → ℕ → Graph → Type 0 where
       → ValueChange was.now (Call.add_region r) (answer_number a) is.now
   by_remove_region : (κs : Lfts 1) (was is : MutBor Graph) (r : ℕ) (a : Result Unit Refusal)
       → remove_region.Learnt κs (was, (r, tt)) a (is, (r, tt)) → ValueChange was.now (Call.remove_region r) (answer_number a) is.now
-  by_install : (κs : Lfts 4) (was is : MutBor Graph) (r l : ℕ) (b : BundleLists) (a : Result Unit Refusal)
+  by_install : (κs : Lfts 2) (was is : MutBor Graph) (r l : ℕ) (b : BundleLists) (a : Result Unit Refusal)
       → install.Learnt κs (was, (r, (l, (b, tt)))) a (is, (r, (l, (b, tt))))
       → ValueChange was.now (Call.install (handed_bundle r l b)) (answer_number a) is.now
   by_uninstall : (κs : Lfts 1) (was is : MutBor Graph) (l : ℕ) (a : Result Unit Refusal) → uninstall.Learnt κs (was, (l, tt)) a (is, (l, tt))
       → ValueChange was.now (Call.uninstall l) (answer_number a) is.now
-  by_connect : (κs : Lfts 6) (was is : MutBor Graph) (r s : ℕ) (f : FilterLists) (a : Result Unit Refusal)
+  by_connect : (κs : Lfts 2) (was is : MutBor Graph) (r s : ℕ) (f : FilterLists) (a : Result Unit Refusal)
       → connect.Learnt κs (was, (r, (s, (f, tt)))) a (is, (r, (s, (f, tt))))
       → ValueChange was.now (Call.connect (handed_connection r s f)) (answer_number a) is.now
   by_disconnect : (κs : Lfts 1) (was is : MutBor Graph) (r s : ℕ) (a : Result Unit Refusal)
       → disconnect.Learnt κs (was, (r, (s, tt))) a (is, (r, (s, tt))) → ValueChange was.now (Call.disconnect r s) (answer_number a) is.now
 
--- `read` hands back a record, the empty one where it refuses; `read_over` leaves one changed or as it was
+-- the record that a read hands back; where it refuses it is the empty one
+abbrev pub read_graph : Graph → Result Graph Refusal → Graph
+read_graph empty (Ok g) = g
+read_graph empty (Err refusal) = empty
+
+-- `read` hands back a record, `read_over` leaves the one that it was lent changed or as it was
 pub data ValueRead : List ℕ → Graph → ℕ → Graph → Type 0 where
   by_read : (κs : Lfts 1) (bytes : Bor (List ℕ)) (g : Graph) (a : Result Graph Refusal) → empty.Learnt tt tt g tt
       → read.Learnt κs (bytes, tt) a (bytes, tt)
-      → ValueRead bytes.now g (answer_number a) (read_changed a).graph
+      → ValueRead bytes.now g (answer_number a) (read_graph g a)
   by_read_over : (κs : Lfts 2) (was is : MutBor Graph) (bytes : Bor (List ℕ)) (a : Result Unit Refusal)
       → read_over.Learnt κs (was, (bytes, tt)) a (is, (bytes, tt))
       → ValueRead bytes.now was.now (answer_number a) is.now

@@ -1,20 +1,16 @@
 -- Demand 3's words on the queries: what the route call, the finds, the events and resolve must say of the routes of a model.
-use Rattle.std.specs.Prelude.{◌≡◌, Bool, true, ◌&&◌, List, [], ◌∷◌, ℕ, suc, length}
+use Rattle.std.specs.Prelude.{◌≡◌, Bool, true, ◌&&◌, List, [], ◌∷◌, ℕ, suc, length, Some}
 use Rattle.region_graph.specs.Lists.{exists}
 use Rattle.region_graph.specs.Model.{Model}
 use Rattle.region_graph.specs.Calls.{at_location}
 use Rattle.region_graph.specs.Items.{provides}
 use Rattle.region_graph.specs.Promise.{place_of}
 use Rattle.region_graph.specs.declared.Item.{Item}
-use Rattle.std.specs.Prelude.{Some}
 use Rattle.region_routes.specs.Route.{Route}
 use Rattle.region_routes.specs.Chosen.{PassesTo, HeldAt, RouteFor, NoRouteFor, BestFor}
-use Rattle.region_routes.specs.Hooks.{written}
-use Rattle.region_routes.specs.Resolve.{Candidate, parts, package_of, written_each}
-use Rattle.region_routes.specs.Hooks.{Routed}
-use Rattle.region_routes.specs.declared.Routed.TheVariants.{Hidden, Count}
-use Rattle.region_routes.specs.Hooks.{Kept}
-use Rattle.region_routes.specs.declared.Kept.TheVariants.{Wrote}
+use Rattle.region_routes.specs.Hooks.{written, Routed, Hidden, Count, Kept, Wrote}
+use Rattle.region_routes.specs.declared.resolver.Candidate.{Candidate}
+use Rattle.region_routes.specs.Resolve.{parts, package_of, written_each}
 use Rattle.region_archive.specs.Promise.{seen_number, hidden_number}
 
 -- ys are exactly those of xs of which P holds, in the order given, repetitions kept

@@ -1,5 +1,5 @@
 -- The three demands, of any interface.
-use Rattle.std.specs.Prelude.{◌≡◌, true, ◌⊎◌, List, ℕ, ◌≤◌, length, take, get_or}
+use Rattle.std.specs.Prelude.{◌≡◌, true, ◌⊎◌, List, ℕ, ◌≤◌, length, take, get_or, Some}
 use Rattle.region_graph.specs.Size.{regions}
 use Rattle.region_graph.specs.Refusals.{not_refused, broken_layout, range_reversed}
 use Rattle.region_graph.specs.Model.{Model}
@@ -9,16 +9,14 @@ use Rattle.region_graph.specs.Record.{Valid, meaning}
 use Rattle.region_graph.specs.Promise.{place_of}
 use Rattle.region_graph.specs.declared.Graph.{Graph}
 use Rattle.region_graph.specs.declared.Item.{Item}
-use Rattle.std.specs.Prelude.{Some}
 use Rattle.region_routes.specs.Hooks.{routed_as, kept_as, item, kind_number, written, all_installed, route_questions, find_questions, event_questions}
-use Rattle.region_routes.specs.Resolve.{Candidate, places_for, resolve_questions}
+use Rattle.region_routes.specs.declared.resolver.Candidate.{Candidate}
+use Rattle.region_routes.specs.Resolve.{places_for, resolve_questions}
 use Rattle.region_routes.specs.declared.Kind.{Kind}
-use Rattle.region_routes.specs.Hooks.{Routed}
-use Rattle.region_routes.specs.Hooks.{Kept}
+use Rattle.region_routes.specs.Hooks.{Routed, Kept}
 use Rattle.region_archive.specs.Image.{latest, image, image_in, in_version, unversioned, older_image}
 use Rattle.region_archive.specs.File.{FileMeaning, read_questions, read_model}
-use Rattle.region_archive.specs.Promise.{written_as, write_questions, query_questions}
-use Rattle.region_archive.specs.Promise.{Written}
+use Rattle.region_archive.specs.Promise.{written_as, write_questions, query_questions, Written}
 use Rattle.demands.specs.Claim.{Seen, Offered, RouteSays, KeptSays, written_parts, InstalledWhere, QuerySays}
 use Rattle.demands.specs.Net.{NetRegions, ExporterNetRegions}
 use Rattle.demands.specs.Interface.{Interface, Started}

@@ -5,10 +5,9 @@ use Rattle.region_graph.specs.Refusals.{not_refused}
 use Rattle.region_graph.specs.Model.{Model, nothing}
 use Rattle.region_graph.specs.Calls.{Call}
 use Rattle.region_graph.specs.declared.Graph.{Graph}
-use Rattle.region_routes.specs.Resolve.{Candidate}
+use Rattle.region_routes.specs.declared.resolver.Candidate.{Candidate}
 use Rattle.region_routes.specs.declared.Kind.{Kind}
-use Rattle.region_routes.specs.Hooks.{Routed}
-use Rattle.region_routes.specs.Hooks.{Kept}
+use Rattle.region_routes.specs.Hooks.{Routed, Kept}
 use Rattle.region_archive.specs.File.{FileMeaning, read_model}
 use Rattle.region_archive.specs.Promise.{Written}
 

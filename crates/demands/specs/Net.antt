@@ -1,13 +1,13 @@
 -- 001, section 7: the equation of the net regions, for one item at a time, and its least solution. `E r s` says that a connection from r to s
 -- passes the item, `H r` that r has it of its own.
-use Rattle.std.specs.Prelude.{◌≡◌, true, ◌⊎◌, List, ℕ}
+use Rattle.std.specs.Prelude.{◌≡◌, true, ◌⊎◌, List, ℕ, Some}
 use Rattle.region_graph.specs.Lists.{member}
 use Rattle.region_graph.specs.Model.{Model}
 use Rattle.region_graph.specs.Promise.{place_of}
 use Rattle.region_graph.specs.declared.Item.{Item}
-use Rattle.std.specs.Prelude.{Some}
 use Rattle.region_routes.specs.Chosen.{PassesTo, HeldAt}
-use Rattle.region_routes.specs.Resolve.{Candidate, package_of}
+use Rattle.region_routes.specs.declared.resolver.Candidate.{Candidate}
+use Rattle.region_routes.specs.Resolve.{package_of}
 use Rattle.demands.specs.Claim.{exports}
 
 -- the item is in r's own region, or in the net region, filtered, of a region that r is connected to

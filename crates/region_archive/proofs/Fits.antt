@@ -15,7 +15,6 @@ use Rattle.region_graph.specs.Model.{Package, PackageEntry, packages, entries, B
 use Rattle.region_graph.specs.Lists.{pick}
 use Rattle.region_graph.specs.Flat.{package_code, entry_code, map_part}
 use Rattle.region_graph.specs.Record.{places, store_packages, packages_of, store_entries, entries_of, store_package_part, package_part_in}
-use Rattle.region_graph.specs.Record.{list_of, store_list}
 use Rattle.region_graph.specs.Record.{number_places, numbers_of, store_numbers, store_provided, provided_of}
 use Rattle.region_graph.specs.Record.{store_part, part_in, store_bundle, store_connection}
 use Rattle.region_graph.specs.Places.{Short, ShortPart, ShortBundle, ShortConnection}
@@ -44,11 +43,11 @@ places_fit most xs h =
     record { count = h; size = filled_length f }
 
 pub numbers_fit : (xs : List ℕ) → Short most_listed xs → NumbersFit (store_numbers xs)
-unfolding store_list
+unfolding store_numbers
 numbers_fit xs h = places_fit most_listed xs h
 
 pub provided_fit : (xs : List ℕ) → Short most_provided xs → ProvidedFits (store_provided xs)
-unfolding store_list
+unfolding store_provided
 provided_fit xs h = places_fit most_provided xs h
 
 -- a list that fits is not longer than its places, and its count is the length of its part of them
@@ -208,7 +207,7 @@ module _ (n : Provided) (h : ProvidedFits n) {r : Codes} (e : r ≡ as_codes n.c
   provided_fits = coded_fits n.count n.items (λ i. omega (arith, h.count, h.size)) (omega (arith, h.size)) e
 
   pub provided_part : part_of r ≡ Part.listed (provided_of n)
-  unfolding list_of
+  unfolding provided_of
   provided_part = coded_list n.count n.items (λ i. omega (arith, h.count, h.size)) (omega (arith, h.size)) e (λ i. omega (arith, h.count))
 
 module _ (n : Numbers) (h : PartFits n.count n.items) {r : Codes} (e : r ≡ as_codes n.count n.items) where
@@ -216,12 +215,12 @@ module _ (n : Numbers) (h : PartFits n.count n.items) {r : Codes} (e : r ≡ as_
   numbers_fits = coded_fits n.count n.items (λ i. omega (arith, h.count i, h.size)) (omega (arith, h.size)) e
 
   pub numbers_part : part_of r ≡ part_in n
-  unfolding list_of
+  unfolding numbers_of
   numbers_part = coded_part n.count n.items (λ i. omega (arith, h.count i, h.size)) (omega (arith, h.size)) e
 
 -- a list has not the sign
 pub list_in : (n : Numbers) → NumbersFit n → part_in n ≡ Part.listed (numbers_of n)
-unfolding list_of
+unfolding numbers_of
 list_in n h = part_listed n.count n.items (λ e. omega (arith, h.count))
 
 -- and so do a part, a bundle and a connection of short lists

@@ -18,14 +18,13 @@ use Rattle.region_graph.specs.Model.{Sorted, SortedPart, Legal, LegalBundle, Leg
 use Rattle.region_graph.specs.Model.{Word, Version, PackageFits, EntryFits, LegalEntry, entry_before}
 use Rattle.region_graph.specs.Calls.{Call, number, accepted}
 use Rattle.region_graph.specs.Record.{number_places, Stored, Valid, store, meaning, no_bundle, no_connection}
-use Rattle.region_graph.specs.Record.{Numbers, Provided, store_list, list_of, store_numbers, numbers_of, store_provided, provided_of, store_part, part_in}
+use Rattle.region_graph.specs.Record.{Numbers, Provided, store_numbers, numbers_of, store_provided, provided_of, store_part, part_in}
 use Rattle.region_graph.specs.Record.{store_packages, packages_of, store_entries, entries_of, store_package_part, package_part_in}
 use Rattle.region_graph.specs.Record.{store_bundle, bundle_in, store_bundles, bundles_of}
 use Rattle.region_graph.specs.Record.{store_connection, connection_in, store_connections, connections_of}
 use Rattle.region_graph.specs.Places.{put_into, ShortPart, ShortBundle, ShortConnection}
-use Rattle.region_graph.specs.Places.{ListStored, NumbersStored, ProvidedStored, PackagesStored, EntriesStored, PartStored, PackagePartStored}
+use Rattle.region_graph.specs.Places.{NumbersStored, ProvidedStored, PackagesStored, EntriesStored, PartStored, PackagePartStored}
 use Rattle.region_graph.specs.Places.{BundleStored, BundlesStored, ConnectionStored, ConnectionsStored}
-use Rattle.region_graph.specs.declared.numbers.NumberList.{NumberList}
 use Rattle.region_graph.specs.declared.packages.Packages.{Packages}
 use Rattle.region_graph.specs.declared.packages.Entries.{Entries}
 use Rattle.region_graph.specs.declared.bundles.StoredBundle.{StoredBundle}
@@ -59,15 +58,13 @@ map_back f g (x ∷ xs) h = λ i. h.0 i ∷ map_back f g xs h.1 i
 pub places_back : (size : ℕ) (xs : List ℕ) → take (length xs) (number_places size xs) ≡ xs
 places_back size xs = took (λ x. x) 0 (size - length xs) xs ∙ map_id xs
 
-pub list_back : (most : ℕ) (xs : List ℕ) → list_of (store_list most xs) ≡ xs
-unfolding list_of store_list
-list_back most xs = places_back most xs
-
 pub numbers_back : (xs : List ℕ) → numbers_of (store_numbers xs) ≡ xs
-numbers_back xs = list_back most_listed xs
+unfolding numbers_of store_numbers
+numbers_back xs = places_back most_listed xs
 
 pub provided_back : (xs : List ℕ) → provided_of (store_provided xs) ≡ xs
-provided_back xs = list_back most_provided xs
+unfolding provided_of store_provided
+provided_back xs = places_back most_provided xs
 
 pub packages_back : (ps : List Package) → packages_of (store_packages ps) ≡ ps
 unfolding packages_of store_packages
@@ -88,7 +85,7 @@ pub no_sign : {n : ℕ} → n ≤ most_listed → eqb n everything_sign ≡ fals
 no_sign {n} h = ne_eqb n everything_sign (λ e. omega arith)
 
 pub part_back : (p : Part ℕ) → ShortPart p → part_in (store_part p) ≡ p
-unfolding store_list
+unfolding store_numbers
 part_back (Part.listed xs) h = rw (no_sign h) (ap Part.listed (numbers_back xs))
 part_back Part.everything h = refl
 
@@ -143,16 +140,13 @@ module _ {A B : Type 0} (put : A → B) (out : B → A) (Good : A → Type 0) (b
       record { stored = e ∙ ap put (sym f); good = subst Good (sym f) h }
 
 -- the arrays of a stored record hold the lists that they mean
-pub list_filled : {most : ℕ} (n : NumberList most) → ListStored n → Filled (λ x. x) 0 most n.items n.count (list_of n)
-unfolding store_list
-list_filled {most} n s =
-    record { shape = ap (λ (m : NumberList most). m.items) s.stored; counted = ap (λ (m : NumberList most). m.count) s.stored; room = s.good }
-
 pub numbers_filled : (n : Numbers) → NumbersStored n → Filled (λ x. x) 0 most_listed n.items n.count (numbers_of n)
-numbers_filled n s = list_filled n s
+unfolding store_numbers
+numbers_filled n s = record { shape = ap (λ (m : Numbers). m.items) s.stored; counted = ap (λ (m : Numbers). m.count) s.stored; room = s.good }
 
 pub provided_filled : (n : Provided) → ProvidedStored n → Filled (λ x. x) 0 most_provided n.items n.count (provided_of n)
-provided_filled n s = list_filled n s
+unfolding store_provided
+provided_filled n s = record { shape = ap (λ (m : Provided). m.items) s.stored; counted = ap (λ (m : Provided). m.count) s.stored; room = s.good }
 
 -- each column of packages, and of entries
 module _ (p : Packages) (s : PackagesStored p) where
@@ -255,18 +249,15 @@ pub filled_put : {size : ℕ} {items xs : List ℕ} → items ≡ put_into (repl
 filled_put {size} {items} {xs} e h = record { shape = rw (e, map_id, drop_replicate {A = ℕ} 0 size (length xs) h); counted = refl; room = h }
 
 -- and an array that holds a list is what stores it
-pub filled_list : {most : ℕ} {items : List ℕ} {count : ℕ} {xs : List ℕ} → Filled (λ x. x) 0 most items count xs
-    → ◌≡◌ {A = NumberList most} (record { count = count; items = items }) (store_list most xs)
-unfolding store_list
-filled_list h = λ i. record { count = h.counted i; items = h.shape i }
-
 pub filled_numbers : {items : List ℕ} {count : ℕ} {xs : List ℕ} → Filled (λ x. x) 0 most_listed items count xs
     → ◌≡◌ {A = Numbers} (record { count = count; items = items }) (store_numbers xs)
-filled_numbers h = filled_list h
+unfolding store_numbers
+filled_numbers h = λ i. record { count = h.counted i; items = h.shape i }
 
 pub filled_provided : {items : List ℕ} {count : ℕ} {xs : List ℕ} → Filled (λ x. x) 0 most_provided items count xs
     → ◌≡◌ {A = Provided} (record { count = count; items = items }) (store_provided xs)
-filled_provided h = filled_list h
+unfolding store_provided
+filled_provided h = λ i. record { count = h.counted i; items = h.shape i }
 
 pub no_packages : ◌≡◌ {A = Packages} (record { count = 0; numbers = replicate most_provided 0; versions = replicate most_provided 0 }) (store_packages [])
 unfolding store_packages
@@ -407,9 +398,13 @@ front_all : {A : Type 0} (P : ℕ → Type 0) (f : A → ℕ) (xs : List A) (res
 front_all P f [] rest h = tt
 front_all P f (x ∷ xs) rest h = (h 0, front_all P f xs rest (λ i. h (suc i)))
 
-pub list_words : {most : ℕ} {n : NumberList most} (xs : List ℕ) → n ≡ store_list most xs → ((i : ℕ) → Word (get_or n.items i 0)) → All Word xs
-unfolding store_list
-list_words {most} xs e h = front_all Word (λ x. x) xs (replicate (most - length xs) 0) (rw e at h)
+pub numbers_words : {n : Numbers} (xs : List ℕ) → n ≡ store_numbers xs → ((i : ℕ) → Word (get_or n.items i 0)) → All Word xs
+unfolding store_numbers
+numbers_words xs e h = front_all Word (λ x. x) xs (replicate (most_listed - length xs) 0) (rw e at h)
+
+pub provided_words : {n : Provided} (xs : List ℕ) → n ≡ store_provided xs → ((i : ℕ) → Word (get_or n.items i 0)) → All Word xs
+unfolding store_provided
+provided_words xs e h = front_all Word (λ x. x) xs (replicate (most_provided - length xs) 0) (rw e at h)
 
 pub packages_words : {p : Packages} (ps : List Package) → p ≡ store_packages ps → ((i : ℕ) → Word (get_or p.numbers i 0))
     → ((i : ℕ) → Version (get_or p.versions i 0)) → All PackageFits ps
@@ -423,7 +418,7 @@ packages_words ps e h k =
     both (q ∷ qs) f g = (record { number = f.0; version = g.0 }, both qs f.1 g.1)
 
 pub part_words : {n : Numbers} (p : Part ℕ) → n ≡ store_part p → ((i : ℕ) → Word (get_or n.items i 0)) → PartAll Word p
-part_words (Part.listed xs) e h = list_words xs e h
+part_words (Part.listed xs) e h = numbers_words xs e h
 part_words Part.everything e h = tt
 
 pub package_part_words : {n : Entries} (p : Part PackageEntry) → n ≡ store_package_part p → ((i : ℕ) → Word (get_or n.numbers i 0))

@@ -4,11 +4,10 @@ use Rattle.std.specs.List.Sorted.{IsPartitionedBy, IsPartitionPoint}
 use Rattle.region_graph.specs.Size.{most_bundles, most_connections, most_listed, most_provided}
 use Rattle.region_graph.specs.Lists.{All}
 use Rattle.region_graph.specs.Model.{Bundle, Part, Connection}
-use Rattle.region_graph.specs.Record.{Stored, Numbers, Provided, store_list, list_of, store_part, part_in}
+use Rattle.region_graph.specs.Record.{Stored, Numbers, Provided, store_numbers, numbers_of, store_provided, provided_of, store_part, part_in}
 use Rattle.region_graph.specs.Record.{store_packages, packages_of, store_entries, entries_of, store_package_part, package_part_in}
 use Rattle.region_graph.specs.Record.{store_bundle, bundle_in, store_bundles, bundles_of}
 use Rattle.region_graph.specs.Record.{store_connection, connection_in, store_connections, connections_of}
-use Rattle.region_graph.specs.declared.numbers.NumberList.{NumberList}
 use Rattle.region_graph.specs.declared.packages.Packages.{Packages}
 use Rattle.region_graph.specs.declared.packages.Entries.{Entries}
 use Rattle.region_graph.specs.declared.bundles.StoredBundle.{StoredBundle}
@@ -42,14 +41,11 @@ pub record AtMost {A : Type 0} (most : ℕ) (Good : A → Type 0) (xs : List A) 
   pub few : length xs ≤ most
   pub each : All Good xs
 
-abbrev pub ListStored : {most : ℕ} → NumberList most → Type 0
-ListStored {most} n = Stored (store_list most) list_of (Short most) n
-
 abbrev pub NumbersStored : Numbers → Type 0
-NumbersStored n = ListStored n
+NumbersStored n = Stored store_numbers numbers_of (Short most_listed) n
 
 abbrev pub ProvidedStored : Provided → Type 0
-ProvidedStored n = ListStored n
+ProvidedStored n = Stored store_provided provided_of (Short most_provided) n
 
 abbrev pub PackagesStored : Packages → Type 0
 PackagesStored p = Stored store_packages packages_of (Short most_provided) p

@@ -5,7 +5,8 @@ use Rattle.region_graph.specs.Lists.{pick, member}
 use Rattle.region_graph.specs.Sets.{set_of, members}
 use Rattle.region_graph.specs.Model.{Model, Package, PackageEntry, packages, entries, Bundle, Part, Connection, Legal}
 use Rattle.region_graph.specs.declared.Graph.{Graph}
-use Rattle.region_graph.specs.declared.numbers.NumberList.{NumberList}
+pub use Rattle.region_graph.specs.declared.numbers.Numbers.{Numbers}
+pub use Rattle.region_graph.specs.declared.numbers.Provided.{Provided}
 use Rattle.region_graph.specs.declared.packages.Packages.{Packages}
 use Rattle.region_graph.specs.declared.packages.Entries.{Entries}
 use Rattle.region_graph.specs.declared.bundles.StoredBundle.{StoredBundle}
@@ -21,21 +22,11 @@ places store none size xs = map store xs ++ replicate (size - length xs) none
 abbrev pub number_places : ℕ → List ℕ → List ℕ
 number_places size xs = places (λ x. x) 0 size xs
 
-unfoldable pub store_list : (most : ℕ) → List ℕ → NumberList most
-store_list most xs = record { count = length xs; items = number_places most xs }
+unfoldable pub store_numbers : List ℕ → Numbers
+store_numbers xs = record { count = length xs; items = number_places most_listed xs }
 
--- the numbers of a part of a filter, and the services of a bundle
-abbrev pub Numbers : Type 0
-Numbers = NumberList most_listed
-
-abbrev pub Provided : Type 0
-Provided = NumberList most_provided
-
-abbrev pub store_numbers : List ℕ → Numbers
-store_numbers xs = store_list most_listed xs
-
-abbrev pub store_provided : List ℕ → Provided
-store_provided xs = store_list most_provided xs
+unfoldable pub store_provided : List ℕ → Provided
+store_provided xs = record { count = length xs; items = number_places most_provided xs }
 
 -- packages and entries in columns
 unfoldable pub store_packages : List Package → Packages
@@ -102,14 +93,11 @@ store m =
     }
 
 -- what is stored
-unfoldable pub list_of : {most : ℕ} → NumberList most → List ℕ
-list_of n = take n.count n.items
+unfoldable pub numbers_of : Numbers → List ℕ
+numbers_of n = take n.count n.items
 
-abbrev pub numbers_of : Numbers → List ℕ
-numbers_of n = list_of n
-
-abbrev pub provided_of : Provided → List ℕ
-provided_of n = list_of n
+unfoldable pub provided_of : Provided → List ℕ
+provided_of n = take n.count n.items
 
 unfoldable pub packages_of : Packages → List Package
 packages_of p = packages (take p.count p.numbers) (take p.count p.versions)

@@ -19,7 +19,7 @@ use bundles::Bundles;
 pub use bundles::{BundleLists, StoredBundle};
 use connections::Connections;
 pub use connections::{FilterLists, StoredConnection};
-pub use numbers::{NumberList, Numbers, Provided, has_number};
+pub use numbers::{Numbers, Provided, has_number};
 pub use packages::{Entries, EntryList, PackageList, Packages, PartList, has_package};
 
 // R as a set, B and F in ascending order in the first places of their arrays. C lends one as bytes of any content, to be made the empty

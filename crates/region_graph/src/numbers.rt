@@ -2,41 +2,67 @@
 ghost use Rattle.std.specs.Prelude.{◌≡◌, ◌≤◌, ltb, length};
 ghost use Rattle.region_graph.specs.Size.{most_listed, most_provided};
 ghost use Rattle.region_graph.specs.Lists.{ascends, member};
-ghost use Rattle.region_graph.specs.Record.{store_list, list_of, store_numbers, store_provided};
-ghost use Rattle.region_graph.specs.Places.{ListStored};
+ghost use Rattle.region_graph.specs.Record.{store_numbers, numbers_of, store_provided, provided_of};
+ghost use Rattle.region_graph.specs.Places.{NumbersStored, ProvidedStored};
 
 use crate::size::{MOST_LISTED, MOST_PROVIDED};
 
-// At most MOST numbers: `count` of them, in the first places.
+// At most so many numbers: `count` of them, in the first places. A type and another one with fewer places: the C interface takes no struct with
+// a parameter.
 #[repr(C)]
 #[derive(Clone, Copy)]
-pub struct NumberList<const MOST: usize> {
+pub struct Numbers {
     pub count: usize,
-    pub items: [u32; MOST],
+    pub items: [u32; MOST_LISTED],
 }
 
-pub type Numbers = NumberList<MOST_LISTED>;
-
 // What a bundle brings.
-pub type Provided = NumberList<MOST_PROVIDED>;
+#[repr(C)]
+#[derive(Clone, Copy)]
+pub struct Provided {
+    pub count: usize,
+    pub items: [u32; MOST_PROVIDED],
+}
 
-impl<const MOST: usize> NumberList<MOST> {
+impl Numbers {
     // What a list hands in as a value of its own.
-    pub(crate) fn from_slice(list: &[u32]) -> NumberList<MOST>
-        requires { length list.now ≤ MOST }
-        ensures { result ≡ store_list MOST list.now }
+    pub(crate) fn from_slice(list: &[u32]) -> Numbers
+        requires { length list.now ≤ most_listed }
+        ensures { result ≡ store_numbers list.now }
     {
-        let mut items = [0u32; MOST];
+        let mut items = [0u32; MOST_LISTED];
         items[..list.len()].copy_from_slice(list);
-        NumberList {
+        Numbers {
             count: list.len(),
             items,
         }
     }
 
     pub(crate) fn as_slice(&self) -> &[u32]
-        requires { ListStored self.now }
-        ensures { result.now ≡ list_of self.now }
+        requires { NumbersStored self.now }
+        ensures { result.now ≡ numbers_of self.now }
+    {
+        &self.items[..self.count]
+    }
+}
+
+impl Provided {
+    // What a list hands in as a value of its own.
+    pub(crate) fn from_slice(list: &[u32]) -> Provided
+        requires { length list.now ≤ most_provided }
+        ensures { result ≡ store_provided list.now }
+    {
+        let mut items = [0u32; MOST_PROVIDED];
+        items[..list.len()].copy_from_slice(list);
+        Provided {
+            count: list.len(),
+            items,
+        }
+    }
+
+    pub(crate) fn as_slice(&self) -> &[u32]
+        requires { ProvidedStored self.now }
+        ensures { result.now ≡ provided_of self.now }
     {
         &self.items[..self.count]
     }

@@ -12,7 +12,7 @@ mod tables;
 
 pub use hooks::{bundle_event, bundle_find, service_event, service_find};
 use region_graph::Item;
-pub use resolver::resolve;
+pub use resolver::{Candidate, resolve};
 pub use routes::route;
 pub use search::regions_seeing;
 

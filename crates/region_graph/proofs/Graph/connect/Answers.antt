@@ -11,7 +11,7 @@ use Rattle.region_graph.specs.Handed.{handed_connection}
 use Rattle.region_graph.specs.declared.connections.StoredConnection.{StoredConnection}
 use Rattle.region_graph.proofs.Legal.{first_step, second_step, connectable, part_short}
 use Rattle.region_graph.proofs.Storing.{stored_as, connection_back, regions_stored, bundles_stored, connections_stored, stored_graph}
-use Rattle.region_graph.proofs.Storing.{list_words, part_words, package_part_words, refusal_numbered, refused, accepts}
+use Rattle.region_graph.proofs.Storing.{numbers_words, part_words, package_part_words, refusal_numbered, refused, accepts}
 use Rattle.region_graph.proofs.Graph.connect.Goals as goal
 
 -- the number of the two steps is the call's
@@ -69,7 +69,7 @@ returns c =
     let n = asked_on (meaning g) x c.in_ok-ask_ends.ensures refl c.in_ok-ask_connection.ensures in
     let t = c.new-connection.type_inv in
     accepts g (Call.connect x) c.requires (
-      list_words x.filter.bundles (ap (λ (z : StoredConnection). z.bundles) c.new-connection.ensures) (λ i. search rules),
+      numbers_words x.filter.bundles (ap (λ (z : StoredConnection). z.bundles) c.new-connection.ensures) (λ i. search rules),
       package_part_words x.filter.packages (ap (λ (z : StoredConnection). z.packages) c.new-connection.ensures)
           (λ i. search rules) (λ i. search (rules, t)) (λ i. search (rules, t)),
       part_words x.filter.services (ap (λ (z : StoredConnection). z.services) c.new-connection.ensures) (λ i. search rules),

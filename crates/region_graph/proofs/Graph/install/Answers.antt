@@ -12,7 +12,7 @@ use Rattle.region_graph.specs.declared.packages.Packages.{Packages}
 use Rattle.region_graph.specs.declared.bundles.StoredBundle.{StoredBundle}
 use Rattle.region_graph.proofs.Legal.{first_step, second_step, installable}
 use Rattle.region_graph.proofs.Storing.{stored_as, bundle_back, regions_stored, bundles_stored, connections_stored, stored_graph}
-use Rattle.region_graph.proofs.Storing.{packages_words, list_words, refusal_numbered, refused, accepts}
+use Rattle.region_graph.proofs.Storing.{packages_words, provided_words, refusal_numbered, refused, accepts}
 use Rattle.region_graph.proofs.Graph.install.Goals as goal
 
 -- the number of the two steps is the call's
@@ -70,7 +70,7 @@ returns c =
     accepts g (Call.install b) c.requires (
       c.ranges.location.fits,
       packages_words b.packages c.from_list.ensures (λ i. search rules) (λ i. search rules),
-      list_words b.services c.from_slice.ensures (λ i. search rules),
+      provided_words b.services c.from_slice.ensures (λ i. search rules),
     )
     (asked_on (meaning g) b c.in_ok-ask_provided.ensures refl c.in_ok-ask_bundle.ensures)
     (stored_graph (accepted (meaning g) (Call.install b)) (regions_stored g c.requires)

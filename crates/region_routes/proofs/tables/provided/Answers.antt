@@ -1,6 +1,6 @@
 use native.Mathlib.Omega.{arith}
 use mathlib.Core.Path.{refl}
-use Rattle.region_graph.specs.Record.{list_of}
+use Rattle.region_graph.specs.Record.{provided_of}
 use Rattle.region_graph.proofs.Arrays.{filled_taken}
 use Rattle.region_graph.proofs.Storing.{packages_stored, services_stored, numbers_column, provided_filled}
 use Rattle.region_routes.proofs.tables.provided.Goals as goal
@@ -19,5 +19,5 @@ pub returns-in-Package : goal.returns-in-Package
 returns-in-Package c = rw c.in-Package.is (filled_taken (numbers_column c.args.b.now.packages (packages_stored c.args.b.now c.requires)))
 
 pub returns-in-Service : goal.returns-in-Service
-unfolding list_of
+unfolding provided_of
 returns-in-Service c = rw c.in-Service.is refl

@@ -1,6 +1,6 @@
 use native.Mathlib.Omega.{arith}
 use lib.ListN.{length-map, take}
-use Rattle.region_graph.specs.Record.{list_of, part_in, package_part_in}
+use Rattle.region_graph.specs.Record.{numbers_of, part_in, package_part_in}
 use Rattle.region_graph.proofs.Arrays.{filled_within}
 use Rattle.region_graph.proofs.Storing.{named_stored, package_part_stored, service_part_stored, numbers_filled}
 use Rattle.region_graph.proofs.Storing.{listed_stored, listed_entries_stored, entry_numbers_column}
@@ -14,14 +14,14 @@ shared_ref_as_front-put c =
     omega (arith, f.counted, f.room)
 
 pub put-requires : goal.put-requires
-unfolding list_of
+unfolding numbers_of
 put-requires c =
     let b = c.args.c.now in
     let r = rw c.in-Bundle.is at c.requires.room in
     omega (arith, r, length-map (take b.bundles.count b.bundles.items) (λ n. packed n (ends b.source b.target)))
 
 pub returns-in-Bundle : goal.returns-in-Bundle
-unfolding list_of
+unfolding numbers_of
 returns-in-Bundle c = rw c.in-Bundle.is c.put.ensures
 
 -- the numbers of a package part are those of its entries
@@ -47,12 +47,12 @@ put_part-requires-in-Service-clause-counted c =
     λ e. filled_within (numbers_filled p (listed_stored p (service_part_stored c.args.c.now c.requires.stored) e))
 
 pub put_part-requires-in-Service-clause-room : goal.put_part-requires-in-Service-clause-room
-unfolding list_of
+unfolding numbers_of
 put_part-requires-in-Service-clause-room c =
     let b = c.args.c.now in
     let r = rw c.in-Service.is at c.requires.room in
     omega (arith, r, length-map (passed (part_in b.services)) (λ n. packed n (ends b.source b.target)))
 
 pub returns-in-Service : goal.returns-in-Service
-unfolding list_of
+unfolding numbers_of
 returns-in-Service c = rw c.in-Service.is c.put_part-in-Service.ensures

@@ -1,0 +1,6 @@
+use Rattle.std.proofs.Common.{refl}
+use Rattle.region_graph.proofs.Storing.{filled_provided, filled_put}
+use Rattle.region_graph.proofs.numbers.Provided.from_slice.Goals as goal
+
+pub returns : goal.returns
+returns c = rw c.copy_from_slice.ensures.after (filled_provided (filled_put refl c.requires))

@@ -1,10 +1,9 @@
 // The connections as arrows. What a filter passes stands in a small box on the arrow: the label of an arrow may be crossed by another
 // arrow, a box is not.
-ghost use Rattle.region_graph.specs.Record.{Valid};
-
+use crate::picture::Picture;
 use crate::text::{Colour, Kind, List, Names, first};
 use region_graph::size::EVERYTHING;
-use region_graph::{Entries, Graph, Numbers, StoredConnection};
+use region_graph::{Entries, Numbers, StoredConnection};
 use std::io;
 use std::io::Write;
 
@@ -18,14 +17,8 @@ fn show_part<W: Write>(out: &mut W, part: &Numbers, names: Names, kind: Kind) ->
     if part.count == EVERYTHING {
         return show_all(out, kind);
     }
-    let list = List {
-        kind,
-        margin: "",
-        numbers: first(&part.items, part.count),
-        lowest: &[],
-        highest: &[],
-    };
-    list.show(out, names)
+    let numbers = first(&part.items, part.count);
+    List::of_numbers(kind, "", numbers).show(out, names)
 }
 
 // The package part.
@@ -77,13 +70,12 @@ fn show_arrow<W: Write>(out: &mut W, c: &StoredConnection) -> io::Result<()> {
     writeln!(out, "  \"{source}-{target}\" -> {target} [{colour}];")
 }
 
-pub fn show_connections<W: Write>(out: &mut W, graph: Graph, names: Names) -> io::Result<()>
-    requires { Valid graph }
-{
-    let places = graph.connection_places();
-    for c in places.iter().take(graph.connection_count()) {
-        show_label(out, c, names)?;
-        show_arrow(out, c)?;
+impl Picture<'_> {
+    pub fn show_connections<W: Write>(&self, out: &mut W) -> io::Result<()> {
+        for c in self.graph.connections() {
+            show_label(out, c, self.names)?;
+            show_arrow(out, c)?;
+        }
+        Ok(())
     }
-    Ok(())
 }

@@ -12,9 +12,9 @@ mod regions;
 mod text;
 
 use name_sheet::locate;
-use picture::show_picture;
+use picture::Picture;
 use region_archive::read;
-use region_graph::refusals::{BROKEN_SHEET, NOT_REFUSED, Refusal};
+use region_graph::refusals::Refusal;
 use std::env::{Env, FillError};
 use std::fs::File;
 use std::io;
@@ -31,20 +31,25 @@ const ROOM: usize = 262144;
 // Room for a path. One that has no room is the path of no file.
 const PATH: usize = 4096;
 
-fn show_refusal<W: Write>(out: &mut W, number: u32) -> io::Result<()> {
+fn show_refusal<W: Write>(out: &mut W, refusal: Refusal) -> io::Result<()> {
+    let number = refusal.number();
     writeln!(out, "refused {number}")
 }
 
 // The picture, or a refusal. A lookup of any number tells whether the sheet is broken.
 fn answer<W: Write>(out: &mut W, file: &[u8], sheet: &[u8]) -> io::Result<()> {
-    let archive = read(file);
-    if archive.number != NOT_REFUSED {
-        return show_refusal(out, archive.number);
-    }
+    let graph = match read(file) {
+        Ok(graph) => graph,
+        Err(refusal) => return show_refusal(out, refusal),
+    };
     if matches!(locate(sheet, 0, 0), Err(Refusal::BrokenSheet)) {
-        return show_refusal(out, BROKEN_SHEET);
+        return show_refusal(out, Refusal::BrokenSheet);
     }
-    show_picture(out, archive.graph, Names { sheet })
+    let picture = Picture {
+        graph: &graph,
+        names: Names { sheet },
+    };
+    picture.show(out)
 }
 
 // What is said where the sheet cannot be opened.

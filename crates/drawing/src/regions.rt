@@ -1,10 +1,9 @@
 // The regions as boxes, each with its bundles and what these bring.
-ghost use Rattle.region_graph.specs.Record.{Valid};
-
+use crate::picture::Picture;
 use crate::text::{Colour, Kind, List, Names, first};
+use region_graph::StoredBundle;
 use region_graph::region_set::has;
 use region_graph::size::REGIONS;
-use region_graph::{Graph, StoredBundle};
 use std::io;
 use std::io::Write;
 
@@ -23,14 +22,8 @@ fn show_bundle<W: Write>(out: &mut W, b: &StoredBundle, names: Names) -> io::Res
         highest: &[],
     };
     packages.show(out, names)?;
-    let services = List {
-        kind: Kind::Service,
-        margin: "- ",
-        numbers: first(&b.services.items, b.services.count),
-        lowest: &[],
-        highest: &[],
-    };
-    services.show(out, names)
+    let services = first(&b.services.items, b.services.count);
+    List::of_numbers(Kind::Service, "- ", services).show(out, names)
 }
 
 // What is to be said after the bundles of a region that has so many.
@@ -45,32 +38,29 @@ fn show_rest<W: Write>(out: &mut W, count: usize) -> io::Result<()> {
     Ok(())
 }
 
-fn show_region<W: Write>(out: &mut W, graph: Graph, names: Names, region: u32) -> io::Result<()>
-    requires { Valid graph }
-{
-    let colour = Colour(region);
-    write!(out, "  {region} [{colour}, label=\"region ")?;
-    names.show(out, Kind::Region, region)?;
-    out.write_all(b"\\l\\l")?;
-    let places = graph.bundle_places();
-    let count = graph.bundle_count();
-    let bundles = places.iter().take(count).filter(|b| b.region == region);
-    for b in bundles.take(MOST_SHOWN) {
-        show_bundle(out, b, names)?;
-    }
-    let bundles = places.iter().take(count).filter(|b| b.region == region);
-    show_rest(out, bundles.count())?;
-    out.write_all(b"\"];\n")
-}
-
-pub fn show_regions<W: Write>(out: &mut W, graph: Graph, names: Names) -> io::Result<()>
-    requires { Valid graph }
-{
-    let set = graph.region_set();
-    for region in 0..REGIONS as u32 {
-        if has(set, region) {
-            show_region(out, graph, names, region)?;
+impl Picture<'_> {
+    fn show_region<W: Write>(&self, out: &mut W, region: u32) -> io::Result<()> {
+        let colour = Colour(region);
+        write!(out, "  {region} [{colour}, label=\"region ")?;
+        self.names.show(out, Kind::Region, region)?;
+        out.write_all(b"\\l\\l")?;
+        let bundles = self.graph.bundles();
+        let here = bundles.iter().filter(|b| b.region == region);
+        for b in here.take(MOST_SHOWN) {
+            show_bundle(out, b, self.names)?;
         }
+        let here = bundles.iter().filter(|b| b.region == region);
+        show_rest(out, here.count())?;
+        out.write_all(b"\"];\n")
     }
-    Ok(())
+
+    pub fn show_regions<W: Write>(&self, out: &mut W) -> io::Result<()> {
+        let set = self.graph.region_set();
+        for region in 0..REGIONS as u32 {
+            if has(set, region) {
+                self.show_region(out, region)?;
+            }
+        }
+        Ok(())
+    }
 }

@@ -116,7 +116,18 @@ pub struct List<'a> {
     pub highest: &'a [u16],
 }
 
-impl List<'_> {
+impl<'a> List<'a> {
+    // Items that have no versions.
+    pub fn of_numbers(kind: Kind, margin: &'a str, numbers: &'a [u32]) -> List<'a> {
+        List {
+            kind,
+            margin,
+            numbers,
+            lowest: &[],
+            highest: &[],
+        }
+    }
+
     fn versions(&self, place: usize) -> Versions {
         match (self.lowest.get(place), self.highest.get(place)) {
             (Some(lowest), Some(highest)) => Versions::Between(*lowest, *highest),

@@ -18,8 +18,8 @@ use Rattle.region_graph.specs.Record.{places, store_packages, packages_of, store
 use Rattle.region_graph.specs.Record.{number_places, numbers_of, store_numbers, store_provided, provided_of}
 use Rattle.region_graph.specs.Record.{store_part, part_in, store_bundle, store_connection}
 use Rattle.region_graph.specs.Places.{Short, ShortPart, ShortBundle, ShortConnection}
-use Rattle.region_graph.specs.Record.{Numbers}
-use Rattle.region_graph.specs.Record.{Provided}
+use Rattle.region_graph.specs.declared.numbers.Numbers.{Numbers}
+use Rattle.region_graph.specs.declared.numbers.Provided.{Provided}
 use Rattle.region_graph.specs.declared.packages.Packages.{Packages}
 use Rattle.region_graph.specs.declared.packages.Entries.{Entries}
 use Rattle.region_graph.proofs.Lists.{concat_length}

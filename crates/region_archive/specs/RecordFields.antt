@@ -6,8 +6,8 @@ use Rattle.region_graph.specs.Lists.{All, member, pick}
 use Rattle.region_graph.specs.Model.{Model, Bundle, Part, Connection, Sorted, LegalBundle, LegalConnection, bundle_before, connection_before}
 use Rattle.region_graph.specs.Flat.{Fields, fields_of_bundle, fields_of_connection, FlatPart, FlatFields, bundle_width, connection_width}
 use Rattle.region_graph.specs.Record.{number_places}
-use Rattle.region_graph.specs.Record.{Numbers}
-use Rattle.region_graph.specs.Record.{Provided}
+use Rattle.region_graph.specs.declared.numbers.Numbers.{Numbers}
+use Rattle.region_graph.specs.declared.numbers.Provided.{Provided}
 use Rattle.region_graph.specs.declared.packages.Packages.{Packages}
 use Rattle.region_graph.specs.declared.packages.Entries.{Entries}
 use Rattle.region_graph.specs.declared.bundles.StoredBundle.{StoredBundle}

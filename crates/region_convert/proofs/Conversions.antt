@@ -1,6 +1,6 @@
 -- What a conversion answers: 15 where its versions are not those of the file, then what a read refuses, then what the writer says.
 use mathlib.Core.Path.{◌≡◌, refl, sym, ap, ◌∙◌}
-use mathlib.Core.Bool.{Bool, true, false, ◌&&◌}
+use mathlib.Core.Bool.{Bool, true, ◌&&◌}
 use mathlib.Core.List.{List, ◌++◌}
 use Prim.Native.Nat.{ℕ, ◌≤◌}
 use native.Mathlib.Omega.{arith}
@@ -44,9 +44,6 @@ module _ (low high : ℕ) (s : List ℕ) (e : opens low high s ≡ true) where
 
 -- a file of a version that is not admitted, and one that a read judges
 module _ (low high : ℕ) (s : List ℕ) where
-  pub not_opened : opens low high s ≡ false → GivenBetween low high s (Err Refusal.NotAnArchive)
-  not_opened n f = rw n refl
-
   module _ (e : opens low high s ≡ true) (l : oldest ≤ low) (h : high ≤ latest) where
     asked_alike : (f : FileMeaning s) → read_number f ≡ first_no (questions_between low high f)
     asked_alike f = rw (e, opens_more low high s e l h) refl

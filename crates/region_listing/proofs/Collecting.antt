@@ -8,7 +8,7 @@ use native.Mathlib.Omega.{arith}
 use borrow.Author.Tests.{eqb-true}
 use lib.Dec.{eqb}
 use lib.ListN.{length, get_or, take, set, replicate, length-append, length-map, length-set, replicate-append-replicate}
-use lib.Seq.{take-suc, take_all, take-suc-set, take-length, length-take-le, get_or-take}
+use lib.Seq.{take-suc, take-suc-set, take-length, length-take-le, get_or-take}
 use Rattle.region_graph.specs.Size.{most_bundles, most_provided}
 use Rattle.region_graph.specs.Lists.{All, pick, exists, concat_map}
 use Rattle.region_graph.specs.Model.{Package, packages, Bundle}
@@ -269,11 +269,6 @@ module _ {g : Graph} (v : Valid g) {items : List StoredBundle} (s : items ≡ ma
         (ap (λ (xs : List Package). joined_all xs (packages_of p)) h.those ∙ ap (joined_all (held k (take i (meaning g).bundles))) brought
         ∙ sym (held_next k (meaning g).bundles i (omega (arith, bundles_long))))
         r
-
-  -- there is no further bundle
-  pub collecting_end : {i : ℕ} → length items ≤ i → {c : Collection} → Collected c (held k (take i (meaning g).bundles)) → Collected c (held k (meaning g).bundles)
-  collecting_end {i} l {c} h =
-      subst (λ (bs : List Bundle). Collected c (held k bs)) (take_all i (meaning g).bundles (omega (arith, bundles_long))) h
 
 -- the different packages of a list are those that it has
 same_equal : (p x : Package) → same_pair p x ≡ true → p ≡ x

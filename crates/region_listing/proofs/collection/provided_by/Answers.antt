@@ -1,18 +1,13 @@
 use mathlib.Core.Path.{refl}
 use native.Mathlib.Omega.{arith}
 use Rattle.region_graph.specs.Record.{packages_of, store_packages}
-use Rattle.region_graph.proofs.Storing.{packages_stored, services_stored, provided_filled}
+use Rattle.region_graph.proofs.Storing.{services_stored, provided_filled}
 use Rattle.region_listing.proofs.Collecting.{cleared_stored}
 use Rattle.region_listing.proofs.collection.provided_by.Goals as goal
 
 pub returns-in-Bundle : goal.returns-in-Bundle
 unfolding packages_of store_packages
 returns-in-Bundle c = rw c.in-Bundle.is (record { stored = refl; good = omega arith }, refl)
-
-pub returns-in-Package : goal.returns-in-Package
-returns-in-Package c =
-    let s = c in
-    rw c.in-Package.is (packages_stored s.args.b.now s.requires, refl)
 
 pub returns-in-Service : goal.returns-in-Service
 returns-in-Service c =

@@ -1,7 +1,6 @@
 use native.Mathlib.Omega.{arith}
-use borrow.Author.Rules.{rules}
 use Rattle.region_routes.proofs.SearchLoops.{above_none, Taken, taken}
-use Rattle.region_listing.proofs.Counting.{adding_start, adding_room, adding_more, adding_end}
+use Rattle.region_listing.proofs.Counting.{adding_room, adding_more, adding_end}
 use Rattle.region_listing.proofs.counts.count_members.Goals as goal
 use Rattle.region_listing.proofs.counts.count_members.Goals.{After-without_lowest-left}
 
@@ -10,9 +9,6 @@ turn : (c : After-without_lowest-left) → Taken c.loop-left.left c.lowest-n.res
 turn c =
     let a = c.loop-left.invariant.1 in
     taken a.word (above_none _ c.loop-left-test.true) c.lowest-n.ensures c.without_lowest-left.ensures
-
-pub loop-left-init : goal.loop-left-init
-loop-left-init c = (c.requires, adding_start c.requires (search rules))
 
 pub overflow_add-counts : goal.overflow_add-counts
 overflow_add-counts c =
@@ -26,9 +22,3 @@ loop-left-preserved c = (c.loop-left.invariant.0, adding_more c.loop-left.invari
 
 pub returns : goal.returns
 returns c = adding_end c.loop-left-test.false c.loop-left.invariant.1
-
-pub lowest-n-requires : goal.lowest-n-requires
-lowest-n-requires c = tt
-
-pub without_lowest-left-requires : goal.without_lowest-left-requires
-without_lowest-left-requires c = tt

@@ -1,11 +1,9 @@
-use mathlib.Core.Path.{sym, subst}
+use mathlib.Core.Path.{subst}
 use mathlib.Core.List.{List}
-use Prim.Native.Nat.{ℕ, ◌<◌, ◌^◌}
+use Prim.Native.Nat.{ℕ}
 use native.Mathlib.Omega.{arith}
-use Rattle.region_graph.specs.Size.{regions}
 use Rattle.region_graph.specs.Model.{Package}
 use Rattle.region_graph.specs.Record.{meaning}
-use Rattle.region_graph.proofs.Bits.{set_below_lt}
 use Rattle.region_routes.specs.Hooks.{kind_number}
 use Rattle.region_listing.specs.Counts.{items_in}
 use Rattle.region_listing.proofs.Collecting.{collected_length, collected_own, collected_at}

@@ -1,15 +1,7 @@
 use mathlib.Core.Path.{ap, ◌∙◌}
-use Prim.Native.Nat.{ℕ}
-use native.Mathlib.Omega.{arith}
-use lib.ListN.{length, length-replicate}
-use Rattle.region_listing.specs.Listing.{longest_text, store_text}
+use Rattle.region_listing.specs.Listing.{store_text}
 use Rattle.region_listing.proofs.ListingLaws.{text_stored, refused_text, accepted_text}
 use Rattle.region_listing.proofs.listing.list_archive.Goals as goal
-
-pub put_listing-length-requires : goal.put_listing-length-requires
-put_listing-length-requires c =
-    let read = rw c.in-Ok.is at c.read-archive.ensures in
-    record { valid = read.valid; longest_text_in_bounds = omega (arith, ap length c.blank-text.ensures, length-replicate {A = ℕ} longest_text 0) }
 
 pub returns-in-Ok : goal.returns-in-Ok
 returns-in-Ok c =

@@ -1,15 +1,11 @@
 use mathlib.Core.Path.{◌≡◌, sym, subst}
-use mathlib.Core.List.{List}
 use native.Mathlib.Omega.{arith}
 use Prim.Native.Nat.{◌+◌}
-use lib.ListN.{length, take}
-use lib.Seq.{take_all}
-use Rattle.region_graph.specs.Model.{Package}
+use lib.ListN.{length}
 use Rattle.region_graph.specs.Record.{packages_of}
 use Rattle.region_graph.specs.Places.{PackagesStored}
 use Rattle.region_graph.proofs.Storing.{numbers_column}
-use Rattle.region_listing.specs.Listing.{joined_all}
-use Rattle.region_listing.specs.Counts.{items_in, Collected}
+use Rattle.region_listing.specs.Counts.{items_in}
 use Rattle.region_listing.specs.declared.collection.Collection.{Collection}
 use Rattle.region_listing.proofs.Collecting.{stored_at}
 use Rattle.region_listing.proofs.Collecting.{Joining, joining_room, joining_left, joining_took}
@@ -46,10 +42,3 @@ loop-i-preserved c =
     the-invariant d =
         (c.args.list.now.count ≡ length (packages_of c.args.list.now)) × PackagesStored c.args.list.now
         × Joining (items_in c.args.self.now) (packages_of c.args.list.now) d.numbers d.versions d.count (c.loop-i.i + 1)
-
-pub returns : goal.returns
-returns c =
-    let l = c.loop-i in
-    let s = c.args in
-    let e : take l.i (packages_of s.list.now) ≡ packages_of s.list.now = take_all l.i (packages_of s.list.now) (omega (arith, l.invariant.0)) in
-    subst (λ (ps : List Package). Collected l.self (joined_all (items_in s.self.now) ps)) e l.invariant.2.those

@@ -14,15 +14,13 @@ use Rattle.region_graph.specs.Model.{Model, Legal}
 use Rattle.region_graph.specs.Calls.{ask, first_no}
 use Rattle.region_graph.specs.Promise.{place_of}
 use Rattle.region_graph.specs.declared.Item.{Item}
-use Rattle.region_graph.specs.declared.Place.{Place}
-use Rattle.region_graph.specs.declared.Place.TheVariants.{Within, Nowhere}
+use Rattle.std.specs.Prelude.{Option as Maybe, Some, None}
 use Rattle.region_routes.specs.Chosen.{chosen, sees}
-use Rattle.region_routes.specs.Hooks.{Outcome, routed, kept, judged, shown, shown_from, sees_from}
-use Rattle.region_routes.specs.Resolve.{Candidate, resolved}
+use Rattle.region_routes.specs.Hooks.{Outcome, routed, kept, judged, shown, shown_from, sees_from, Routed, Kept}
+use Rattle.region_routes.specs.declared.resolver.Candidate.{Candidate}
+use Rattle.region_routes.specs.Resolve.{resolved}
 use Rattle.demands.specs.Claim
 use Rattle.demands.specs.Claim.{Selected, Seen, RouteSays, says_hidden, says_route, KeptSays, InstalledWhere}
-use Rattle.region_routes.specs.declared.Routed.{Routed}
-use Rattle.region_routes.specs.declared.Kept.{Kept}
 use Rattle.region_routes.proofs.RouteLaws.{nonempty}
 use Rattle.region_routes.proofs.Choosing.{chosen_best, chosen_none, sees_route, route_sees}
 
@@ -47,9 +45,9 @@ module _ (m : Model) (h : Legal m) where
   pub listener_sees : (i : Item) (l : ℕ) → sees_from m i (place_of m.bundles l) ≡ true → InstalledWhere m l (Seen m i)
   listener_sees i l e = go (place_of m.bundles l) refl e
     where
-      go : (p : Place) → place_of m.bundles l ≡ p → sees_from m i p ≡ true → InstalledWhere m l (Seen m i)
-      go (Within r) q k = (r, q, sees_seen i r k)
-      go Nowhere q k = let z : ◌≡◌ {A = ℕ} 0 1 = ap (λ (t : Bool). pick t 1 0) k in absurd (omega arith)
+      go : (p : Maybe ℕ) → place_of m.bundles l ≡ p → sees_from m i p ≡ true → InstalledWhere m l (Seen m i)
+      go (Some r) q k = (r, q, sees_seen i r k)
+      go None q k = let z : ◌≡◌ {A = ℕ} 0 1 = ap (λ (t : Bool). pick t 1 0) k in absurd (omega arith)
 
   pub sees_listener : (i : Item) (l : ℕ) → InstalledWhere m l (Seen m i) → sees_from m i (place_of m.bundles l) ≡ true
   sees_listener i l s = rw s.1 (seen_sees i s.0 s.2)
@@ -107,13 +105,13 @@ judged_number refused n o entry e = go (eqb n not_refused) refl
     go true q = e ∙ sym (eqb-true n not_refused q)
     go false q = refl
 
-pub shown_number : (m : Model) (i : Item) (p : Place) (entry : List ℕ) → (shown_from m i p entry).returned.number ≡ not_refused
-shown_number m i (Within r) entry = go (chosen m i r)
+pub shown_number : (m : Model) (i : Item) (p : Maybe ℕ) (entry : List ℕ) → (shown_from m i p entry).returned.number ≡ not_refused
+shown_number m i (Some r) entry = go (chosen m i r)
   where
     go : (o : Option (List ℕ)) → (shown o entry).returned.number ≡ not_refused
     go none = refl
     go (some p) = refl
-shown_number m i Nowhere entry = refl
+shown_number m i None entry = refl
 
 -- the outcome of resolve by the answers to its two questions and by what is kept
 abbrev pub resolve_judged : Bool → Bool → List Candidate → List (List ℕ) → Outcome Kept (List (List ℕ))

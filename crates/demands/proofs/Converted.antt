@@ -17,8 +17,7 @@ use Rattle.region_graph.proofs.Legal.{all_yes, second_step}
 use Rattle.region_routes.specs.Hooks.{Outcome, written}
 use Rattle.region_archive.specs.Image.{latest, image, image_in, in_version, unversioned, older_version, older_image}
 use Rattle.region_archive.specs.File.{FileMeaning, means, means_none, is_image, read_model, oldest, front_questions}
-use Rattle.region_archive.specs.Promise.{written_as, archived, image_outcome, place_questions, write_questions, older_questions}
-use Rattle.region_archive.specs.declared.Written.{Written}
+use Rattle.region_archive.specs.Promise.{written_as, archived, image_outcome, place_questions, write_questions, older_questions, Written}
 use Rattle.region_archive.proofs.Versions.{older_between, in_cases, older_in}
 use Rattle.region_archive.proofs.OneImage.{first_version, one_image, front_passed}
 use Rattle.region_archive.proofs.Images.{older_refused}

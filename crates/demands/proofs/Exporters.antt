@@ -14,14 +14,14 @@ use Rattle.region_graph.specs.Calls.{at_location}
 use Rattle.region_graph.specs.Items.{crosses, provides}
 use Rattle.region_graph.specs.Promise.{place_of, provider_place}
 use Rattle.region_graph.specs.declared.Item.{Item}
-use Rattle.region_graph.specs.declared.Place.{Place}
-use Rattle.region_graph.specs.declared.Place.TheVariants.{Within, Nowhere}
+use Rattle.std.specs.Prelude.{Option, Some, None}
 use Rattle.region_graph.proofs.Lists.{and_fst, and_snd, false_true, all_map}
 use Rattle.region_graph.proofs.Ascending.{Rising, ascends_rising, strict_bundles, or_right, none_any}
 use Rattle.region_routes.specs.Route.{Route, last, next}
 use Rattle.region_routes.specs.Chosen.{PassesTo, HeldAt}
 use Rattle.region_routes.specs.Hooks.{item, kind_number}
-use Rattle.region_routes.specs.Resolve.{Candidate, package_of, reaches, offered_at, is_offered}
+use Rattle.region_routes.specs.declared.resolver.Candidate.{Candidate}
+use Rattle.region_routes.specs.Resolve.{package_of, reaches, offered_at, is_offered}
 use Rattle.region_routes.specs.declared.Kind.TheVariants as Kind
 use Rattle.region_routes.proofs.RouteLaws.{carry}
 use Rattle.region_routes.proofs.Choosing.{crosses_members, crosses_inside, found_route, route_found}
@@ -43,16 +43,16 @@ module _ (l : ℕ) (i : Item) where
 
   -- the bundle there provides the item, so its region holds it
   pub record Provided (t : ℕ) (bs : List Bundle) : Type 0 where
-    pub stands : place_of bs l ≡ Within t
+    pub stands : place_of bs l ≡ Some t
     pub has_it : exists there bs ≡ true
     pub held : exists (λ b. eqb b.region t && provides i b) bs ≡ true
 
-  pub provider_tells : (t : ℕ) (bs : List Bundle) → provider_place bs l i ≡ Within t → Provided t bs
+  pub provider_tells : (t : ℕ) (bs : List Bundle) → provider_place bs l i ≡ Some t → Provided t bs
   provider_tells t [] e = let z : ◌≡◌ {A = ℕ} 0 1 = cc in absurd (omega arith)
   provider_tells t (b ∷ bs) e = go (at_location l b) refl (provides i b) refl (provider_tells t bs) e
     where
-      go : (u : Bool) → at_location l b ≡ u → (v : Bool) → provides i b ≡ v → (provider_place bs l i ≡ Within t → Provided t bs)
-          → pick u (pick v (Within b.region) Nowhere) (provider_place bs l i) ≡ Within t → Provided t (b ∷ bs)
+      go : (u : Bool) → at_location l b ≡ u → (v : Bool) → provides i b ≡ v → (provider_place bs l i ≡ Some t → Provided t bs)
+          → pick u (pick v (Some b.region) None) (provider_place bs l i) ≡ Some t → Provided t (b ∷ bs)
       go true a true p later k =
           let s : b.region ≡ t = cc in
           record { stands = rw (a, s); has_it = rw (a, p); held = rw (eq-eqb b.region t s, p) }
@@ -62,14 +62,14 @@ module _ (l : ℕ) (i : Item) where
           record { stands = rw a w.stands; has_it = rw a w.has_it; held = or_right (eqb b.region t && provides i b) w.held }
 
   -- a bundle there that provides it is the one that is found, since locations ascend
-  pub tells_provider : (t : ℕ) (bs : List Bundle) → Rising bundle_before bs → place_of bs l ≡ Within t → exists there bs ≡ true
-      → provider_place bs l i ≡ Within t
+  pub tells_provider : (t : ℕ) (bs : List Bundle) → Rising bundle_before bs → place_of bs l ≡ Some t → exists there bs ≡ true
+      → provider_place bs l i ≡ Some t
   tells_provider t [] r e x = e
   tells_provider t (b ∷ bs) r e x = go (at_location l b) refl (tells_provider t bs r.1) e x
     where
-      go : (u : Bool) → at_location l b ≡ u → (place_of bs l ≡ Within t → exists there bs ≡ true → provider_place bs l i ≡ Within t)
-          → pick u (Within b.region) (place_of bs l) ≡ Within t → ((u && provides i b) || exists there bs) ≡ true
-          → pick u (pick (provides i b) (Within b.region) Nowhere) (provider_place bs l i) ≡ Within t
+      go : (u : Bool) → at_location l b ≡ u → (place_of bs l ≡ Some t → exists there bs ≡ true → provider_place bs l i ≡ Some t)
+          → pick u (Some b.region) (place_of bs l) ≡ Some t → ((u && provides i b) || exists there bs) ≡ true
+          → pick u (pick (provides i b) (Some b.region) None) (provider_place bs l i) ≡ Some t
       go true a later k y =
           let no_other : exists there bs ≡ false = none_any there bs
           (all_map (λ d. at_location l d ≡ false) (λ d. there d ≡ false) (λ d h. ap (λ (u : Bool). u && provides i d) h) bs
@@ -81,7 +81,7 @@ module _ (l : ℕ) (i : Item) where
 -- a region that holds an item holds it by a bundle that stands there
 record Holder (p : Bundle → Bool) (t : ℕ) (bs : List Bundle) : Type 0 where
   location : ℕ
-  stands : place_of bs location ≡ Within t
+  stands : place_of bs location ≡ Some t
   has_it : exists (λ b. at_location location b && p b) bs ≡ true
   above : (k : ℕ) → All (λ d. k < d.location) bs → k < location
 
@@ -129,7 +129,7 @@ module _ (m : Model) (l : Legal m) where
     inside a b = crosses_inside m P a b l
 
     -- the region of an exporter that has the package is the one that is computed
-    exported_provider : {t : ℕ} → ExportedIn m c t → provider_place m.bundles c.exporter P ≡ Within t
+    exported_provider : {t : ℕ} → ExportedIn m c t → provider_place m.bundles c.exporter P ≡ Some t
     exported_provider {t} h = tells_provider c.exporter P t m.bundles rising h.0 h.1
 
     -- and it holds the package
@@ -141,9 +141,9 @@ module _ (m : Model) (l : Legal m) where
     unfolding reaches
     test_offered r e = go (provider_place m.bundles c.exporter P) refl e
       where
-        go : (p : Place) → provider_place m.bundles c.exporter P ≡ p → offered_at m c r p ≡ true → Offered m c r
-        go Nowhere q k = false_true k
-        go (Within t) q k =
+        go : (p : Option ℕ) → provider_place m.bundles c.exporter P ≡ p → offered_at m c r p ≡ true → Offered m c r
+        go None q k = false_true k
+        go (Some t) q k =
             let b = provider_tells c.exporter P t m.bundles q in
             let w = found_route (crosses m P) (eqb t) inside r k in
             record {
@@ -157,7 +157,7 @@ module _ (m : Model) (l : Legal m) where
     pub offered_test : (r : ℕ) → Offered m c r → is_offered m c r ≡ true
     unfolding reaches
     offered_test r o =
-        subst (λ (p : Place). offered_at m c r p ≡ true) (sym (exported_provider (o.stands, o.has_it)))
+        subst (λ (p : Option ℕ). offered_at m c r p ≡ true) (sym (exported_provider (o.stands, o.has_it)))
         (route_found (crosses m P) (eqb o.home) inside r o.path (carry (λ a b h. h) (λ n h. eq-eqb o.home n (omega (arith, h.1))) o.route))
 
     -- a candidate is offered where some route ends in the region from which it is exported

@@ -18,9 +18,7 @@ use Rattle.region_graph.proofs.Legal.{Words}
 use Rattle.region_routes.specs.Chosen.{chosen_by, chosen}
 use Rattle.region_archive.specs.Image.{latest, body_in, image_in, image, older_version, older_image, in_version}
 use Rattle.region_archive.specs.File.{FileMeaning, means, means_none}
-use Rattle.region_archive.specs.Promise.{seen_number, hidden_number}
-use Rattle.region_archive.specs.declared.Written.{Written}
-use Rattle.region_archive.specs.declared.Written.TheVariants as Written
+use Rattle.region_archive.specs.Promise.{seen_number, hidden_number, Written}
 use Rattle.region_archive.proofs.Versions.{older_in}
 use Rattle.region_archive.proofs.Meaning.{file_meaning}
 use Rattle.demands.specs.Interface.{Interface}

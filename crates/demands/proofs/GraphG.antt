@@ -10,7 +10,7 @@ use Rattle.region_graph.specs.Calls.{Call, run}
 use Rattle.region_routes.specs.Chosen.{chosen_by, chosen}
 use Rattle.text_lines.specs.Decimal.{decimal}
 use Rattle.region_archive.specs.Image.{image_in, image, older_version, older_image, unversioned}
-use Rattle.region_archive.specs.declared.Written.{Written}
+use Rattle.region_archive.specs.Promise.{Written}
 use Rattle.region_convert.specs.Conversion.{Forwards, Backs}
 use Rattle.region_listing.specs.Listing.{held, seen_from, header, listing_text, refused_word, refusal_text}
 use Rattle.demands.specs.RoundTrips.{Puts}

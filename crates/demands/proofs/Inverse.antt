@@ -7,13 +7,14 @@ use borrow.Author.Tests.{le-leb, eq-eqb, eqb-true, eqb-false}
 use lib.Dec.{eqb}
 use lib.ListN.{length, take, drop, get_or}
 use lib.Seq.{take_at}
-use Rattle.region_graph.specs.Refusals.{not_refused}
+use Rattle.std.specs.Prelude.{Err}
+use Rattle.region_graph.specs.Refusals.{not_refused, refusal_number}
 use Rattle.region_graph.specs.Lists.{pick}
 use Rattle.region_graph.specs.Model.{Model, Legal}
 use Rattle.region_graph.specs.Record.{Valid, meaning}
-use Rattle.region_graph.specs.Promise.{Empty}
+use Rattle.region_graph.specs.Promise.{Empty, Changed}
 use Rattle.region_graph.specs.declared.Graph.{Graph}
-use Rattle.region_graph.specs.declared.Changed.{Changed}
+use Rattle.region_graph.specs.declared.refusals.Refusal.{Refusal}
 use Rattle.region_graph.specs.Calls.{Question, first_no}
 use Rattle.region_graph.proofs.Lists.{false_true}
 use Rattle.region_graph.proofs.Legal.{all_yes}
@@ -21,8 +22,7 @@ use Rattle.region_graph.proofs.Storing.{meaning_injective}
 use Rattle.region_routes.specs.Hooks.{Outcome, written}
 use Rattle.region_archive.specs.Image.{image, image_in, in_version}
 use Rattle.region_archive.specs.File.{FileMeaning, means, means_none, read_questions, read_number, read_model}
-use Rattle.region_archive.specs.Promise.{archived, image_outcome, write_questions, write_outcome, Reads, ReadsOver}
-use Rattle.region_archive.specs.declared.Written.{Written}
+use Rattle.region_archive.specs.Promise.{archived, image_outcome, write_questions, write_outcome, Given, Reads, ReadsOver, Written}
 use Rattle.region_archive.proofs.FileReads.{accepted, refused_model}
 use Rattle.region_archive.proofs.OneImage.{first_version}
 use Rattle.region_archive.proofs.Meaning.{file_meaning}
@@ -36,7 +36,14 @@ none_refused : {s : List ℕ} (n : (v : ℕ) (m : Model) → Legal m → in_vers
     → read_number (means_none n) ≡ not_refused → ⊥
 none_refused n e = false_true (all_yes (read_questions (means_none n)) (refl, (refl, (refl, tt))) e).1.1.0
 
--- what a read gives by value is what a read over the empty record gives
+-- a refused read gives what the empty record means
+pub refused_read : {s : List ℕ} {g : Graph} {e : Refusal} → Empty g → Given s (Err e) → Reads s (record { graph = g; number = refusal_number e })
+refused_read h p = record {
+  valid = h.valid;
+  says = λ f. record { number = (p f).0; next = h.model ∙ (p f).1 };
+}
+
+-- what a read gives is what a read over the empty record gives
 pub read_over_empty : {s : List ℕ} {g : Graph} {r : Changed} → Empty g → Reads s r → ReadsOver g s r
 read_over_empty {s} {g} {r} e a = record {
   valid = a.valid;

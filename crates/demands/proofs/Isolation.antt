@@ -8,14 +8,13 @@ use Rattle.region_graph.specs.Model.{Model, Legal, bundle_before}
 use Rattle.region_graph.specs.Record.{meaning}
 use Rattle.region_graph.specs.Promise.{place_of}
 use Rattle.region_graph.specs.declared.Graph.{Graph}
-use Rattle.region_graph.specs.declared.Place.TheVariants.{Within}
+use Rattle.std.specs.Prelude.{Some}
 use Rattle.region_graph.proofs.Lists.{all_map}
 use Rattle.region_graph.proofs.Ascending.{ascends_rising, strict_bundles}
-use Rattle.region_routes.specs.Hooks.{Outcome, route_outcome, find_outcome, event_outcome}
-use Rattle.region_routes.specs.Resolve.{Candidate, resolve_outcome}
+use Rattle.region_routes.specs.Hooks.{Outcome, route_outcome, find_outcome, event_outcome, Routed, Kept}
+use Rattle.region_routes.specs.declared.resolver.Candidate.{Candidate}
+use Rattle.region_routes.specs.Resolve.{resolve_outcome}
 use Rattle.region_routes.specs.declared.Kind.{Kind}
-use Rattle.region_routes.specs.declared.Routed.{Routed}
-use Rattle.region_routes.specs.declared.Kept.{Kept}
 use Rattle.region_host.specs.CNumbers.{CAnswer, routed_value, kept_value}
 use Rattle.demands.specs.Interface.{RouteCalls, ListCalls, ResolveCalls}
 use Rattle.demands.specs.ByValue.{ValueRoute, ValueFind, ValueEvent, ValueResolve}
@@ -33,7 +32,7 @@ module _ (inside : ℕ → Bool) (m n : Model) (agree : Agree inside m n) (legal
   also_installed l w = (
     w.0,
     whole_place _ l w.0 n.bundles (ascends_rising bundle_before strict_bundles n.bundles also_legal.bundles_legal.ascend)
-        (subst (λ (x : Model). place_of x.bundles l ≡ Within w.0) agree.same (place_inside inside m agree.closed l w)),
+        (subst (λ (x : Model). place_of x.bundles l ≡ Some w.0) agree.same (place_inside inside m agree.closed l w)),
     w.2,
   )
 

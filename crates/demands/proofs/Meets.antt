@@ -1,19 +1,18 @@
--- The calls of both interfaces meet the promises of the functions by value.
+-- The calls of both interfaces meet the promises of the crates' own calls.
 use mathlib.Core.Path.{◌≡◌}
 use mathlib.Core.List.{List}
 use Prim.Native.Nat.{ℕ}
+use Rattle.std.specs.Prelude.{Ok, Err}
 use Rattle.region_graph.specs.Calls.{Call}
 use Rattle.region_graph.specs.Record.{Valid, meaning}
 use Rattle.region_graph.specs.Promise.{Empty, Follows}
 use Rattle.region_graph.specs.declared.Graph.{Graph}
-use Rattle.region_routes.specs.Hooks.{Outcome, routed, routed_as, kept, kept_as, route_outcome, find_outcome, event_outcome}
-use Rattle.region_routes.specs.Resolve.{Candidate, resolve_outcome}
+use Rattle.region_routes.specs.Hooks.{Outcome, routed, routed_as, kept, kept_as, route_outcome, find_outcome, event_outcome, Routed, Kept}
+use Rattle.region_routes.specs.declared.resolver.Candidate.{Candidate}
+use Rattle.region_routes.specs.Resolve.{resolve_outcome}
 use Rattle.region_routes.specs.declared.Kind.{Kind}
-use Rattle.region_routes.specs.declared.Routed.{Routed}
-use Rattle.region_routes.specs.declared.Kept.{Kept}
 use Rattle.region_archive.specs.Image.{image}
-use Rattle.region_archive.specs.Promise.{ReadsOver, archived, written_as, write_questions, write_outcome, Queried}
-use Rattle.region_archive.specs.declared.Written.{Written}
+use Rattle.region_archive.specs.Promise.{ReadsOver, archived, written_as, write_questions, write_outcome, Queried, Written}
 use Rattle.region_host.specs.CNumbers.{CAnswer, answered, for_c, routed_value, routed_of, kept_value, kept_of, written_value, written_of}
 use Rattle.region_host.proofs.Outcomes.{read_off, route_whole, find_whole, event_whole, resolve_whole, image_whole}
 use Rattle.region_host.proofs.ReadBack.{routed_back, kept_back, written_back}
@@ -21,7 +20,7 @@ use Rattle.region_host.proofs.Given.{route_given, find_given, event_given, resol
 use Rattle.demands.specs.Interface.{Interface}
 use Rattle.demands.specs.ByValue as value
 use Rattle.demands.specs.Lent as lent
-use Rattle.demands.proofs.Inverse.{read_over_empty}
+use Rattle.demands.proofs.Inverse.{read_over_empty, refused_read}
 
 pub record Meets (c : Interface) : Type 0 where
   pub empties : {g : Graph} → c.empties g → Empty g
@@ -39,43 +38,44 @@ pub record Meets (c : Interface) : Type 0 where
       → ◌≡◌ {A = Outcome Kept (List (List ℕ))} (kept a exits) (resolve_outcome (meaning g) l xs entries)
   pub asks : {s : List ℕ} {l kind number version v : ℕ} → c.asks s l kind number version v → Queried s l kind number version v
 
--- by value each contract is the promise itself
+-- of the crates' own calls each contract is the promise itself
 value_changes : {g h : Graph} {k : Call} {n : ℕ} → value.ValueChange g k n h → Follows g k (record { graph = h; number = n })
-value_changes (value.by_add_region r n h p) = p
-value_changes (value.by_remove_region r n h p) = p
-value_changes (value.by_install κs r l ps vs ss n h p) = p
-value_changes (value.by_uninstall l n h p) = p
-value_changes (value.by_connect κs r s bs p ps ls hs q ss n h w) = w
-value_changes (value.by_disconnect r s n h p) = p
+value_changes (value.by_add_region κs was is r a p) = p
+value_changes (value.by_remove_region κs was is r a p) = p
+value_changes (value.by_install κs was is r l b a p) = p
+value_changes (value.by_uninstall κs was is l a p) = p
+value_changes (value.by_connect κs was is r s f a p) = p
+value_changes (value.by_disconnect κs was is r s a p) = p
 
 value_reads : {s : List ℕ} {g h : Graph} {n : ℕ} → value.ValueRead s g n h → ReadsOver g s (record { graph = h; number = n })
-value_reads (value.by_read κs bytes g h n e a) = read_over_empty e a
-value_reads (value.by_read_over κs bytes g h n a) = a
+value_reads (value.by_read κs bytes g (Ok h) e p) = read_over_empty e p
+value_reads (value.by_read κs bytes g (Err refusal) e p) = read_over_empty e (refused_read e p)
+value_reads (value.by_read_over κs was is bytes a p) = p
 
 value_writes : {g : Graph} {entry exit : List ℕ} {a : Written} → value.ValueWrite g entry a exit
     → ◌≡◌ {A = Outcome Written (List ℕ)} (archived a exit) (write_outcome (meaning g) entry)
-value_writes (value.by_write κs was out a e) = e
+value_writes (value.by_write κs g was out a e) = e
 
 value_routes : {g : Graph} {l kind number version : ℕ} {entry exit : List ℕ} {a : Routed} → value.ValueRoute g l kind number version entry a exit
     → ◌≡◌ {A = Outcome Routed (List ℕ)} (routed a exit) (route_outcome (meaning g) l kind number version entry)
-value_routes (value.by_route κs was out a e) = e
+value_routes (value.by_route κs g l kind number version was out a e) = e
 
 value_finds : {g : Graph} {k : Kind} {l : ℕ} {xs entry exit : List ℕ} {a : Kept} → value.ValueFind g k l xs entry a exit
     → ◌≡◌ {A = Outcome Kept (List ℕ)} (kept a exit) (find_outcome (meaning g) k l xs entry)
-value_finds (value.by_bundle_find κs l xs was out a e) = e
-value_finds (value.by_service_find κs l xs was out a e) = e
+value_finds (value.by_bundle_find κs g l xs was out a e) = e
+value_finds (value.by_service_find κs g l xs was out a e) = e
 
 value_events : {g : Graph} {k : Kind} {number : ℕ} {xs entry exit : List ℕ} {a : Kept} → value.ValueEvent g k number xs entry a exit
     → ◌≡◌ {A = Outcome Kept (List ℕ)} (kept a exit) (event_outcome (meaning g) k xs number entry)
-value_events (value.by_bundle_event κs number xs was out a e) = e
-value_events (value.by_service_event κs number xs was out a e) = e
+value_events (value.by_bundle_event κs g number xs was out a e) = e
+value_events (value.by_service_event κs g number xs was out a e) = e
 
 value_resolves : {g : Graph} {l : ℕ} {xs : List Candidate} {entries exits : List (List ℕ)} {a : Kept} → value.ValueResolve g l xs entries a exits
     → ◌≡◌ {A = Outcome Kept (List (List ℕ))} (kept a exits) (resolve_outcome (meaning g) l xs entries)
-value_resolves (value.by_resolve κs l es ns vs was_e was_n was_v out_e out_n out_v a e) = e
+value_resolves (value.by_resolve κs g l es ns vs was_e was_n was_v out_e out_n out_v a e) = e
 
 value_asks : {s : List ℕ} {l kind number version v : ℕ} → value.ValueAsk s l kind number version v → Queried s l kind number version v
-value_asks (value.by_archive_query κs bytes l kind number version v q) = q
+value_asks (value.by_archive_query κs bytes l kind number version a q) = q
 
 pub meets_by_value : Meets value.by_value
 meets_by_value =

@@ -4,16 +4,18 @@ use mathlib.Core.Bool.{Bool, true, false}
 use mathlib.Core.List.{List, ◌∷◌, ◌++◌}
 use Prim.Native.Nat.{ℕ, ◌+◌, ◌-◌, ◌^◌, ◌≤◌, ◌<◌}
 use native.Mathlib.Omega.{arith}
-use borrow.Author.Tests.{eqb-true, eqb-false}
+use borrow.Author.Tests.{eqb-true, eqb-false, ne_eqb}
 use lib.Dec.{eqb}
 use lib.ListN.{length, drop, length-drop}
 use lib.Seq.{length-take-le}
-use Rattle.region_graph.specs.Refusals.{not_refused, no_entry}
+use Rattle.std.specs.Prelude.{Ok, Err}
+use Rattle.region_graph.specs.Refusals.{not_refused, no_entry, refusal_number}
 use Rattle.region_graph.specs.Lists.{pick, exists}
+use Rattle.region_graph.proofs.Lists.{pick_no}
+use Rattle.region_graph.proofs.Storing.{refusal_numbered}
 use Rattle.name_sheet.specs.Sheet.{Entry, LegalEntries, sheet}
 use Rattle.name_sheet.specs.File.{SheetMeaning, means, means_none, matches, lookup_number}
-use Rattle.name_sheet.specs.Promise.{located, between}
-use Rattle.name_sheet.specs.declared.Located.{Located}
+use Rattle.name_sheet.specs.Promise.{Located, located, between}
 use Rattle.name_sheet.proofs.OneSheet.{one_sheet}
 use Rattle.name_sheet.proofs.Meaning.{sheet_meaning, part_ordered, part_within, part_size, part_few, name_of, the_name, own_entry, own_name}
 use Rattle.region_host.specs.CNumbers.{negative, read_back}
@@ -79,7 +81,7 @@ given_names h = record {
 
 value_given : {s : List ℕ} {kind number : ℕ} {a : Lookup} → ValueLookup s kind number a → (f : SheetMeaning s) → a ≡ given_as (located f kind number)
 value_given (by_locate κs s kind number r p) f = ap given_as (p f)
-value_given (by_lookup κs s part was is kind number from p at) f =
+value_given (by_lookup κs s kind number from (Ok part) p at) f =
     let r = located f kind number in
     let q = p f in
     let size : length part.now ≡ r.to - r.from =
@@ -87,6 +89,11 @@ value_given (by_lookup κs s part was is kind number from p at) f =
     ∙ length-take-le (r.to - r.from) (drop r.from s.now) (omega (arith, length-drop r.from s.now, part_within f kind number)) in
     let start : from ≡ r.from = omega (arith, at, q.part.offset) in
     λ i. pick (eqb (q.refusal i) not_refused) (named (start i) (size i)) (unnamed (q.refusal i))
+value_given (by_lookup κs s kind number from (Err refusal) p at) f =
+    let r = located f kind number in
+    let q = p f in
+    sym (pick_no (named r.from (r.to - r.from)) (unnamed (refusal_number refusal)) (ne_eqb (refusal_number refusal) not_refused (refusal_numbered refusal)))
+    ∙ (λ i. pick (eqb (q.refusal i) not_refused) (named r.from (r.to - r.from)) (unnamed (q.refusal i)))
 
 pub names_by_value : NamesGiven ValueLookup
 names_by_value = given_names (record { gives = value_given })

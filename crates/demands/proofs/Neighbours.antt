@@ -15,9 +15,8 @@ use Rattle.region_graph.specs.declared.Graph.{Graph}
 use Rattle.region_graph.proofs.Legal.{Words}
 use Rattle.region_graph.proofs.Storing.{stores_valid, stores_means}
 use Rattle.region_routes.specs.Chosen.{chosen_by, chosen}
-use Rattle.region_routes.specs.Hooks.{kept, find_outcome}
+use Rattle.region_routes.specs.Hooks.{kept, find_outcome, Wrote}
 use Rattle.region_routes.specs.declared.Kind.{Kind}
-use Rattle.region_routes.specs.declared.Kept.TheVariants.{Wrote}
 use Rattle.demands.specs.Isolation.{restricted, Agree}
 use Rattle.demands.specs.JointTable.{bundle_of, passing, plain, ranges, graph_g}
 use Rattle.demands.proofs.Rows.{legal, words_g}

@@ -10,7 +10,7 @@ use Rattle.region_graph.specs.Model.{Model, Bundle, Legal, LegalBundle, nothing}
 use Rattle.region_graph.specs.Calls.{run, at_location}
 use Rattle.region_graph.specs.Promise.{place_of}
 use Rattle.region_graph.specs.declared.Item.{Item}
-use Rattle.region_graph.specs.declared.Place.TheVariants.{Within}
+use Rattle.std.specs.Prelude.{Some}
 use Rattle.region_graph.proofs.Lists.{false_true, member_all}
 use Rattle.region_routes.specs.Route.{Route, last, next}
 use Rattle.region_routes.specs.Chosen.{PassesTo, HeldAt, RouteFor}
@@ -71,14 +71,14 @@ pub seen_net : (m : Model) → Legal m → NetRegions m (Seen m)
 seen_net m l i = routes_net (λ r s e. (crosses_members m i r s l e).1)
 
 -- a bundle is installed in a region of the graph
-pub place_member : (m : Model) → Legal m → (l r : ℕ) → place_of m.bundles l ≡ Within r → member r m.regions ≡ true
+pub place_member : (m : Model) → Legal m → (l r : ℕ) → place_of m.bundles l ≡ Some r → member r m.regions ≡ true
 place_member m h l r = go m.bundles h.bundles_legal.each
   where
-    go : (bs : List Bundle) → All (LegalBundle m.regions) bs → place_of bs l ≡ Within r → member r m.regions ≡ true
+    go : (bs : List Bundle) → All (LegalBundle m.regions) bs → place_of bs l ≡ Some r → member r m.regions ≡ true
     go [] a e = let z : ◌≡◌ {A = ℕ} 0 1 = cc in absurd (omega arith)
     go (b ∷ bs) a e = step (at_location l b) (go bs a.1) e
       where
-        step : (t : Bool) → (place_of bs l ≡ Within r → member r m.regions ≡ true) → pick t (Within b.region) (place_of bs l) ≡ Within r
+        step : (t : Bool) → (place_of bs l ≡ Some r → member r m.regions ≡ true) → pick t (Some b.region) (place_of bs l) ≡ Some r
             → member r m.regions ≡ true
         step true f k = let q : b.region ≡ r = cc in subst (λ (x : ℕ). member x m.regions ≡ true) q a.0.region
         step false f k = f k

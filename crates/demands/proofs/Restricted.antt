@@ -15,14 +15,14 @@ use Rattle.region_graph.specs.Calls.{at_location}
 use Rattle.region_graph.specs.Items.{holds, crosses, provides, passes}
 use Rattle.region_graph.specs.Promise.{place_of, provider_place}
 use Rattle.region_graph.specs.declared.Item.{Item}
-use Rattle.region_graph.specs.declared.Place.{Place}
-use Rattle.region_graph.specs.declared.Place.TheVariants.{Within, Nowhere}
+use Rattle.std.specs.Prelude.{Option as Maybe, Some, None}
 use Rattle.region_graph.proofs.Lists.{false_true, and_fst, and_snd, keep_same, exists_keep, exists_one, all_map}
 use Rattle.region_graph.proofs.Ascending.{Rising, ascends_rising, strict_bundles}
 use Rattle.region_routes.specs.Route.{Route, last, next}
 use Rattle.region_routes.specs.Chosen.{first_of, put_before, guarded, exactly, from, found, chosen_by, chosen, PassesTo}
 use Rattle.region_routes.specs.Hooks.{item, kind_number, is_installed, all_installed, sees_from, route_outcome, find_outcome, event_outcome}
-use Rattle.region_routes.specs.Resolve.{Candidate, package_of, reaches, offered_at, is_offered, offered_from, places_for, resolve_outcome}
+use Rattle.region_routes.specs.declared.resolver.Candidate.{Candidate}
+use Rattle.region_routes.specs.Resolve.{package_of, reaches, offered_at, is_offered, offered_from, places_for, resolve_outcome}
 use Rattle.region_routes.specs.declared.Kind.{Kind}
 use Rattle.region_routes.proofs.Choosing as routes
 use Rattle.demands.specs.Isolation.{restricted, Closed, InstalledIn}
@@ -73,36 +73,36 @@ exists_inside {A} q p h xs = sym (exists_keep p q xs ∙ go xs)
 
 -- The place of a location: a bundle that is kept keeps its place, and where locations ascend it has no other in the whole list.
 
-kept_place : (q : Bundle → Bool) (l r : ℕ) (bs : List Bundle) → ((b : Bundle) → b.region ≡ r → q b ≡ true) → place_of bs l ≡ Within r
-    → place_of (keep q bs) l ≡ Within r
+kept_place : (q : Bundle → Bool) (l r : ℕ) (bs : List Bundle) → ((b : Bundle) → b.region ≡ r → q b ≡ true) → place_of bs l ≡ Some r
+    → place_of (keep q bs) l ≡ Some r
 kept_place q l r [] h e = e
 kept_place q l r (b ∷ bs) h e = go (at_location l b) refl (q b) refl (kept_place q l r bs h) e
   where
-    go : (t : Bool) → at_location l b ≡ t → (u : Bool) → q b ≡ u → (place_of bs l ≡ Within r → place_of (keep q bs) l ≡ Within r)
-        → pick t (Within b.region) (place_of bs l) ≡ Within r → place_of (pick u (b ∷ keep q bs) (keep q bs)) l ≡ Within r
+    go : (t : Bool) → at_location l b ≡ t → (u : Bool) → q b ≡ u → (place_of bs l ≡ Some r → place_of (keep q bs) l ≡ Some r)
+        → pick t (Some b.region) (place_of bs l) ≡ Some r → place_of (pick u (b ∷ keep q bs) (keep q bs)) l ≡ Some r
     go true f true k later e = rw f e
     go true f false k later e = let i : b.region ≡ r = cc in false_true (sym k ∙ h b i)
     go false f true k later e = rw f (later e)
     go false f false k later e = later e
 
-none_placed : (q : Bundle → Bool) (l : ℕ) (bs : List Bundle) → All (λ b. at_location l b ≡ false) bs → place_of (keep q bs) l ≡ Nowhere
+none_placed : (q : Bundle → Bool) (l : ℕ) (bs : List Bundle) → All (λ b. at_location l b ≡ false) bs → place_of (keep q bs) l ≡ None
 none_placed q l [] h = refl
 none_placed q l (b ∷ bs) h = go (q b) (none_placed q l bs h.1)
   where
-    go : (t : Bool) → place_of (keep q bs) l ≡ Nowhere → place_of (pick t (b ∷ keep q bs) (keep q bs)) l ≡ Nowhere
+    go : (t : Bool) → place_of (keep q bs) l ≡ None → place_of (pick t (b ∷ keep q bs) (keep q bs)) l ≡ None
     go true e = rw h.0 e
     go false e = e
 
-pub whole_place : (q : Bundle → Bool) (l r : ℕ) (bs : List Bundle) → Rising bundle_before bs → place_of (keep q bs) l ≡ Within r
-    → place_of bs l ≡ Within r
+pub whole_place : (q : Bundle → Bool) (l r : ℕ) (bs : List Bundle) → Rising bundle_before bs → place_of (keep q bs) l ≡ Some r
+    → place_of bs l ≡ Some r
 whole_place q l r [] h e = e
 whole_place q l r (b ∷ bs) h e = go (at_location l b) refl (q b) refl (whole_place q l r bs h.1) e
   where
-    later_none : at_location l b ≡ true → place_of (keep q bs) l ≡ Nowhere
+    later_none : at_location l b ≡ true → place_of (keep q bs) l ≡ None
     later_none f = none_placed q l bs (others_elsewhere l b bs h.0 f)
 
-    go : (t : Bool) → at_location l b ≡ t → (u : Bool) → q b ≡ u → (place_of (keep q bs) l ≡ Within r → place_of bs l ≡ Within r)
-        → place_of (pick u (b ∷ keep q bs) (keep q bs)) l ≡ Within r → pick t (Within b.region) (place_of bs l) ≡ Within r
+    go : (t : Bool) → at_location l b ≡ t → (u : Bool) → q b ≡ u → (place_of (keep q bs) l ≡ Some r → place_of bs l ≡ Some r)
+        → place_of (pick u (b ∷ keep q bs) (keep q bs)) l ≡ Some r → pick t (Some b.region) (place_of bs l) ≡ Some r
     go true f true k later e = rw f at e
     go true f false k later e = let n = later_none f in let z : ◌≡◌ {A = ℕ} 0 1 = cc in absurd (omega arith)
     go false f true k later e = later (rw f at e)
@@ -111,24 +111,24 @@ whole_place q l r (b ∷ bs) h e = go (at_location l b) refl (q b) refl (whole_p
 -- A bundle that provides an item: what is told of its place, and is the same of none and of the places of bundles that are left out, is told
 -- of the kept ones alone.
 
-unplaced : (l : ℕ) (i : Item) (bs : List Bundle) → place_of bs l ≡ Nowhere → provider_place bs l i ≡ Nowhere
+unplaced : (l : ℕ) (i : Item) (bs : List Bundle) → place_of bs l ≡ None → provider_place bs l i ≡ None
 unplaced l i bs e = go (provider_place bs l i) refl
   where
-    go : (p : Place) → provider_place bs l i ≡ p → p ≡ Nowhere
-    go Nowhere q = refl
-    go (Within t) q = let f = (provider_tells l i t bs q).stands in let z : ◌≡◌ {A = ℕ} 0 1 = cc in absurd (omega arith)
+    go : (p : Maybe ℕ) → provider_place bs l i ≡ p → p ≡ None
+    go None q = refl
+    go (Some t) q = let f = (provider_tells l i t bs q).stands in let z : ◌≡◌ {A = ℕ} 0 1 = cc in absurd (omega arith)
 
-provider_same : (f : Place → Bool) (q : Bundle → Bool) (l : ℕ) (i : Item) → ((b : Bundle) → q b ≡ false → f (Within b.region) ≡ f Nowhere)
+provider_same : (f : Maybe ℕ → Bool) (q : Bundle → Bool) (l : ℕ) (i : Item) → ((b : Bundle) → q b ≡ false → f (Some b.region) ≡ f None)
     → (bs : List Bundle) → Rising bundle_before bs → f (provider_place bs l i) ≡ f (provider_place (keep q bs) l i)
 provider_same f q l i h [] r = refl
 provider_same f q l i h (b ∷ bs) r = go (at_location l b) refl (q b) refl (provider_same f q l i h bs r.1)
   where
-    outside : (t : Bool) → q b ≡ false → f (pick t (Within b.region) Nowhere) ≡ f Nowhere
+    outside : (t : Bool) → q b ≡ false → f (pick t (Some b.region) None) ≡ f None
     outside true k = h b k
     outside false k = refl
 
     go : (t : Bool) → at_location l b ≡ t → (u : Bool) → q b ≡ u → f (provider_place bs l i) ≡ f (provider_place (keep q bs) l i)
-        → f (pick t (pick (provides i b) (Within b.region) Nowhere) (provider_place bs l i)) ≡ f (provider_place (pick u (b ∷ keep q bs) (keep q bs)) l i)
+        → f (pick t (pick (provides i b) (Some b.region) None) (provider_place bs l i)) ≡ f (provider_place (pick u (b ∷ keep q bs) (keep q bs)) l i)
     go true e true k later = rw e
     go true e false k later = outside (provides i b) k ∙ ap f (sym (unplaced l i (keep q bs) (none_placed q l bs (others_elsewhere l b bs r.0 e))))
     go false e true k later = rw e later
@@ -212,12 +212,12 @@ module _ (inside : ℕ → Bool) (m : Model) (closed : Closed inside m) where
         (ascends_rising bundle_before strict_bundles m.bundles legal.bundles_legal.ascend)
         ∙ go (provider_place only.bundles c.exporter (package_of c))
       where
-        go : (p : Place) → offered_at m c r p ≡ offered_at only c r p
-        go (Within t) = reaches_inside (package_of c) t r e
-        go Nowhere = refl
+        go : (p : Maybe ℕ) → offered_at m c r p ≡ offered_at only c r p
+        go (Some t) = reaches_inside (package_of c) t r e
+        go None = refl
 
   module _ (l : ℕ) (w : InstalledIn inside m l) where
-    pub place_inside : place_of only.bundles l ≡ Within w.0
+    pub place_inside : place_of only.bundles l ≡ Some w.0
     place_inside = kept_place _ l w.0 m.bundles (λ b q. rw q w.2) w.1
 
     installed_inside : is_installed (place_of m.bundles l) ≡ is_installed (place_of only.bundles l)

@@ -10,11 +10,12 @@ use Rattle.region_graph.specs.Model.{Legal, nothing}
 use Rattle.region_graph.specs.Calls.{Call, run}
 use Rattle.region_graph.specs.Promise.{place_of}
 use Rattle.region_graph.specs.declared.Item.{Item}
-use Rattle.region_graph.specs.declared.Place.TheVariants.{Within}
+use Rattle.std.specs.Prelude.{Some}
 use Rattle.region_graph.proofs.Legal.{legal_nothing, legal_run, Words}
 use Rattle.region_routes.specs.Chosen.{chosen_by, chosen}
 use Rattle.region_routes.specs.Hooks.{item}
-use Rattle.region_routes.specs.Resolve.{Candidate, candidates, reaches, is_offered}
+use Rattle.region_routes.specs.declared.resolver.Candidate.{Candidate}
+use Rattle.region_routes.specs.Resolve.{candidates, reaches, is_offered}
 use Rattle.demands.specs.JointTable.{Says, RowHolds, rows, resolves, routes, hides}
 use Rattle.demands.specs.JointTable.{graph_g, packages_of_30, cycle, diamond, two_exporters, editions, about_editions}
 use Rattle.region_routes.proofs.Choosing.{chosen_best, chosen_none}
@@ -26,15 +27,15 @@ module _ (cs : List Call) (w : All Words cs) where
   legal = legal_run nothing cs legal_nothing w
 
   -- a route that was computed, or that there is none
-  shows : (l r : ℕ) (i : Item) (p : List ℕ) (n : ℕ) → place_of (run nothing cs).bundles l ≡ Within r → chosen (run nothing cs) i r ≡ some p
+  shows : (l r : ℕ) (i : Item) (p : List ℕ) (n : ℕ) → place_of (run nothing cs).bundles l ≡ Some r → chosen (run nothing cs) i r ≡ some p
       → length p ≡ suc n → Says cs (routes l i p n)
   shows l r i p n e f k = (r, e, (chosen_best (run nothing cs) i r legal p f, k))
 
-  shows_none : (l r : ℕ) (i : Item) → place_of (run nothing cs).bundles l ≡ Within r → chosen (run nothing cs) i r ≡ none → Says cs (hides l i)
+  shows_none : (l r : ℕ) (i : Item) → place_of (run nothing cs).bundles l ≡ Some r → chosen (run nothing cs) i r ≡ none → Says cs (hides l i)
   shows_none l r i e f = (r, e, chosen_none (run nothing cs) i r legal f)
 
   -- what is offered, computed
-  keeps : (l r : ℕ) (xs : List Candidate) → place_of (run nothing cs).bundles l ≡ Within r
+  keeps : (l r : ℕ) (xs : List Candidate) → place_of (run nothing cs).bundles l ≡ Some r
       → Says cs (resolves l xs (keep (λ c. is_offered (run nothing cs) c r) xs))
   keeps l r xs e = (
     r,

@@ -18,21 +18,18 @@ use Rattle.region_graph.specs.Record.{Valid, meaning}
 use Rattle.region_graph.specs.Promise.{place_of, Follows}
 use Rattle.region_graph.specs.declared.Graph.{Graph}
 use Rattle.region_graph.specs.declared.Item.{Item}
-use Rattle.region_graph.specs.declared.Place.{Place}
-use Rattle.region_graph.specs.declared.Place.TheVariants.{Within, Nowhere}
+use Rattle.std.specs.Prelude.{Option, Some, None}
 use Rattle.region_graph.proofs.Lists.{pick_yes, pick_no, false_true}
 use Rattle.region_graph.proofs.Legal.{all_yes}
 use Rattle.region_graph.proofs.Storing.{meaning_injective}
 use Rattle.region_routes.specs.Chosen.{sees}
 use Rattle.region_routes.specs.Hooks.{Outcome, item, kind_number, written, routed, kept, judged, shown_from, kept_outcome, is_installed, sees_from}
-use Rattle.region_routes.specs.Hooks.{route_questions, route_outcome, find_questions, find_outcome, event_questions, event_outcome}
-use Rattle.region_routes.specs.Resolve.{Candidate, is_offered, offered_from, places_for, resolved, resolve_questions, resolve_outcome}
-use Rattle.region_routes.specs.declared.Routed.{Routed}
-use Rattle.region_routes.specs.declared.Kept.{Kept}
+use Rattle.region_routes.specs.Hooks.{route_questions, route_outcome, find_questions, find_outcome, event_questions, event_outcome, Routed, Kept}
+use Rattle.region_routes.specs.declared.resolver.Candidate.{Candidate}
+use Rattle.region_routes.specs.Resolve.{is_offered, offered_from, places_for, resolved, resolve_questions, resolve_outcome}
 use Rattle.region_archive.specs.Image.{latest, image, image_in, older_version}
 use Rattle.region_archive.specs.File.{read_questions, read_model}
-use Rattle.region_archive.specs.Promise.{archived, write_questions, seen_number, hidden_number, query_questions}
-use Rattle.region_archive.specs.declared.Written.{Written}
+use Rattle.region_archive.specs.Promise.{archived, write_questions, seen_number, hidden_number, query_questions, Written}
 use Rattle.region_archive.proofs.OneImage as images
 use Rattle.region_archive.proofs.Versions.{in_cases, older_in}
 use Rattle.region_archive.proofs.Meaning.{model_legal}
@@ -137,7 +134,7 @@ pub record Means (g : Graph) (m : Model) : Type 0 where
   pub model : meaning g ≡ m
 
 -- resolve where its questions are answered yes
-resolve_answered : (m : Model) (l r : ℕ) (xs : List Candidate) (entries : List (List ℕ)) → place_of m.bundles l ≡ Within r
+resolve_answered : (m : Model) (l r : ℕ) (xs : List Candidate) (entries : List (List ℕ)) → place_of m.bundles l ≡ Some r
     → places_for (length xs) entries ≡ true → resolve_outcome m l xs entries ≡ resolved (keep (λ x. is_offered m x r) xs) entries
 resolve_answered m l r xs entries p b = λ i. resolve_judged (is_installed (p i)) (b i) (keep (λ x. offered_from m x (p i)) xs) entries
 
@@ -259,9 +256,9 @@ archive_inverts t =
 -- ---- the archive query
 
 -- the place of a bundle that is installed
-placed : (p : Place) → is_installed p ≡ true → (r : ℕ) × (p ≡ Within r)
-placed (Within r) e = (r, refl)
-placed Nowhere e = false_true e
+placed : (p : Option ℕ) → is_installed p ≡ true → (r : ℕ) × (p ≡ Some r)
+placed (Some r) e = (r, refl)
+placed None e = false_true e
 
 seen_or_not : (m : Model) → Legal m → (i : Item) (r : ℕ) → QuerySays m i r (pick (sees m i r) seen_number hidden_number)
 seen_or_not m h i r = go (sees m i r) refl
@@ -278,7 +275,7 @@ queries_answer t =
           let q = placed (place_of m.bundles l) (all_yes (query_questions f l kind) (refl, (refl, (refl, (refl, (refl, tt))))) z).1.1.1.0 in
           let e : v ≡ pick (sees m (item kind number version) q.0) seen_number hidden_number =
           t.asks p f ∙ pick_yes _ _ (eq-eqb (first_no (query_questions f l kind)) not_refused z)
-          ∙ ap (λ (x : Place). pick (sees_from m (item kind number version) x) seen_number hidden_number) q.1 in
+          ∙ ap (λ (x : Option ℕ). pick (sees_from m (item kind number version) x) seen_number hidden_number) q.1 in
           (q.0, q.1, subst (QuerySays m (item kind number version) q.0) (sym e) (seen_or_not m (model_legal f) (item kind number version) q.0));
     }
 

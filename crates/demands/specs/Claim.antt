@@ -1,20 +1,16 @@
 -- Demand 3's words on the queries: what the route call, the finds, the events and resolve must say of the routes of a model.
-use Rattle.std.specs.Prelude.{◌≡◌, Bool, true, ◌&&◌, List, [], ◌∷◌, ℕ, suc, length}
+use Rattle.std.specs.Prelude.{◌≡◌, Bool, true, ◌&&◌, List, [], ◌∷◌, ℕ, suc, length, Some}
 use Rattle.region_graph.specs.Lists.{exists}
 use Rattle.region_graph.specs.Model.{Model}
 use Rattle.region_graph.specs.Calls.{at_location}
 use Rattle.region_graph.specs.Items.{provides}
 use Rattle.region_graph.specs.Promise.{place_of}
 use Rattle.region_graph.specs.declared.Item.{Item}
-use Rattle.region_graph.specs.declared.Place.TheVariants.{Within}
 use Rattle.region_routes.specs.Route.{Route}
 use Rattle.region_routes.specs.Chosen.{PassesTo, HeldAt, RouteFor, NoRouteFor, BestFor}
-use Rattle.region_routes.specs.Hooks.{written}
-use Rattle.region_routes.specs.Resolve.{Candidate, parts, package_of, written_each}
-use Rattle.region_routes.specs.declared.Routed.{Routed}
-use Rattle.region_routes.specs.declared.Routed.TheVariants.{Hidden, Count}
-use Rattle.region_routes.specs.declared.Kept.{Kept}
-use Rattle.region_routes.specs.declared.Kept.TheVariants.{Wrote}
+use Rattle.region_routes.specs.Hooks.{written, Routed, Hidden, Count, Kept, Wrote}
+use Rattle.region_routes.specs.declared.resolver.Candidate.{Candidate}
+use Rattle.region_routes.specs.Resolve.{parts, package_of, written_each}
 use Rattle.region_archive.specs.Promise.{seen_number, hidden_number}
 
 -- ys are exactly those of xs of which P holds, in the order given, repetitions kept
@@ -38,7 +34,7 @@ RouteTo m i t = Route (PassesTo m i) (λ s. HeldAt m i s × (s ≡ t))
 -- document 02, C-14: the exporter is installed, exports the package, and region r has a route for the package that ends in its region
 pub record Offered (m : Model) (c : Candidate) (r : ℕ) : Type 0 where
   pub home : ℕ
-  pub stands : place_of m.bundles c.exporter ≡ Within home
+  pub stands : place_of m.bundles c.exporter ≡ Some home
   pub has_it : exports m c ≡ true
   pub path : List ℕ
   pub route : RouteTo m (package_of c) home r path
@@ -61,7 +57,7 @@ written_parts cs entries = written_each (parts cs) entries
 
 -- P holds of the region in which the bundle at a location is installed
 abbrev pub InstalledWhere : Model → ℕ → (ℕ → Type 0) → Type 0
-InstalledWhere m l P = (r : ℕ) × (place_of m.bundles l ≡ Within r) × P r
+InstalledWhere m l P = (r : ℕ) × (place_of m.bundles l ≡ Some r) × P r
 
 -- an archive query returns 100 where there is a route from the bundle's region, and 101 where there is none
 pub data QuerySays (m : Model) (i : Item) (r : ℕ) : ℕ → Type 0 where

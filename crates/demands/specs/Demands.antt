@@ -1,5 +1,5 @@
 -- The three demands, of any interface.
-use Rattle.std.specs.Prelude.{◌≡◌, true, ◌⊎◌, List, ℕ, ◌≤◌, length, take, get_or}
+use Rattle.std.specs.Prelude.{◌≡◌, true, ◌⊎◌, List, ℕ, ◌≤◌, length, take, get_or, Some}
 use Rattle.region_graph.specs.Size.{regions}
 use Rattle.region_graph.specs.Refusals.{not_refused, broken_layout, range_reversed}
 use Rattle.region_graph.specs.Model.{Model}
@@ -9,16 +9,14 @@ use Rattle.region_graph.specs.Record.{Valid, meaning}
 use Rattle.region_graph.specs.Promise.{place_of}
 use Rattle.region_graph.specs.declared.Graph.{Graph}
 use Rattle.region_graph.specs.declared.Item.{Item}
-use Rattle.region_graph.specs.declared.Place.TheVariants.{Within}
 use Rattle.region_routes.specs.Hooks.{routed_as, kept_as, item, kind_number, written, all_installed, route_questions, find_questions, event_questions}
-use Rattle.region_routes.specs.Resolve.{Candidate, places_for, resolve_questions}
+use Rattle.region_routes.specs.declared.resolver.Candidate.{Candidate}
+use Rattle.region_routes.specs.Resolve.{places_for, resolve_questions}
 use Rattle.region_routes.specs.declared.Kind.{Kind}
-use Rattle.region_routes.specs.declared.Routed.{Routed}
-use Rattle.region_routes.specs.declared.Kept.{Kept}
+use Rattle.region_routes.specs.Hooks.{Routed, Kept}
 use Rattle.region_archive.specs.Image.{latest, image, image_in, in_version, unversioned, older_image}
 use Rattle.region_archive.specs.File.{FileMeaning, read_questions, read_model}
-use Rattle.region_archive.specs.Promise.{written_as, write_questions, query_questions}
-use Rattle.region_archive.specs.declared.Written.{Written}
+use Rattle.region_archive.specs.Promise.{written_as, write_questions, query_questions, Written}
 use Rattle.demands.specs.Claim.{Seen, Offered, RouteSays, KeptSays, written_parts, InstalledWhere, QuerySays}
 use Rattle.demands.specs.Net.{NetRegions, ExporterNetRegions}
 use Rattle.demands.specs.Interface.{Interface, Started}
@@ -55,13 +53,13 @@ pub record RefusedAsAsked (c : Interface) : Type 0 where
 -- region, and those of the listeners in the net region of whose region the item is. A candidate of resolve is its exporter's package.
 pub record HooksGiveNet (c : Interface) : Type 1 where
   pub finds : {g : Graph} {k : Kind} {l r : ℕ} {xs entry exit : List ℕ} {a : Kept} → Valid g → (net : Item → ℕ → Type 0) → NetRegions (meaning g) net
-      → place_of (meaning g).bundles l ≡ Within r → length xs ≤ length entry
+      → place_of (meaning g).bundles l ≡ Some r → length xs ≤ length entry
       → c.finds g k l xs entry a exit → KeptSays written (λ n. net (item (kind_number k) n 0) r) xs entry exit a
   pub events : {g : Graph} {k : Kind} {number : ℕ} {xs entry exit : List ℕ} {a : Kept} → Valid g → (net : Item → ℕ → Type 0)
       → NetRegions (meaning g) net → all_installed (meaning g) xs ≡ true → length xs ≤ length entry
       → c.events g k number xs entry a exit → KeptSays written (λ l. InstalledWhere (meaning g) l (net (item (kind_number k) number 0))) xs entry exit a
   pub resolves : {g : Graph} {l r : ℕ} {xs : List Candidate} {entries exits : List (List ℕ)} {a : Kept} → Valid g → (net : Candidate → ℕ → Type 0)
-      → ExporterNetRegions (meaning g) net → place_of (meaning g).bundles l ≡ Within r → places_for (length xs) entries ≡ true
+      → ExporterNetRegions (meaning g) net → place_of (meaning g).bundles l ≡ Some r → places_for (length xs) entries ≡ true
       → c.resolves g l xs entries a exits → KeptSays written_parts (λ x. net x r) xs entries exits a
 
 -- Demand 2, the archive, as C-15 of document 02 has it: writer and reader invert each other on version 3, each graph has one image, a file of
@@ -88,13 +86,13 @@ pub record ArchiveInverts (c : Interface) : Type 0 where
 -- Demand 3. The queries on the record g answer as the routes of the model m say: for every bundle and listener installed in m, every kind,
 -- item and candidate, with the output places that question 14 asks.
 pub record Answers (c : Interface) (g : Graph) (m : Model) : Type 0 where
-  pub routes : {l r kind number version : ℕ} {entry exit : List ℕ} {a : Routed} → place_of m.bundles l ≡ Within r → kind ≤ 2
+  pub routes : {l r kind number version : ℕ} {entry exit : List ℕ} {a : Routed} → place_of m.bundles l ≡ Some r → kind ≤ 2
       → regions ≤ length entry → c.routes g l kind number version entry a exit → RouteSays m (item kind number version) r entry exit a
-  pub finds : {k : Kind} {l r : ℕ} {xs entry exit : List ℕ} {a : Kept} → place_of m.bundles l ≡ Within r → length xs ≤ length entry
+  pub finds : {k : Kind} {l r : ℕ} {xs entry exit : List ℕ} {a : Kept} → place_of m.bundles l ≡ Some r → length xs ≤ length entry
       → c.finds g k l xs entry a exit → KeptSays written (λ n. Seen m (item (kind_number k) n 0) r) xs entry exit a
   pub events : {k : Kind} {number : ℕ} {xs entry exit : List ℕ} {a : Kept} → all_installed m xs ≡ true → length xs ≤ length entry
       → c.events g k number xs entry a exit → KeptSays written (λ l. InstalledWhere m l (Seen m (item (kind_number k) number 0))) xs entry exit a
-  pub resolves : {l r : ℕ} {xs : List Candidate} {entries exits : List (List ℕ)} {a : Kept} → place_of m.bundles l ≡ Within r
+  pub resolves : {l r : ℕ} {xs : List Candidate} {entries exits : List (List ℕ)} {a : Kept} → place_of m.bundles l ≡ Some r
       → places_for (length xs) entries ≡ true → c.resolves g l xs entries a exits → KeptSays written_parts (λ x. Offered m x r) xs entries exits a
 
 -- For every list of changing calls, refused ones included, from the empty record or an accepted archive, each with the record that the one

@@ -5,12 +5,11 @@ use Rattle.region_graph.specs.Refusals.{not_refused}
 use Rattle.region_graph.specs.Model.{Model, nothing}
 use Rattle.region_graph.specs.Calls.{Call}
 use Rattle.region_graph.specs.declared.Graph.{Graph}
-use Rattle.region_routes.specs.Resolve.{Candidate}
+use Rattle.region_routes.specs.declared.resolver.Candidate.{Candidate}
 use Rattle.region_routes.specs.declared.Kind.{Kind}
-use Rattle.region_routes.specs.declared.Routed.{Routed}
-use Rattle.region_routes.specs.declared.Kept.{Kept}
+use Rattle.region_routes.specs.Hooks.{Routed, Kept}
 use Rattle.region_archive.specs.File.{FileMeaning, read_model}
-use Rattle.region_archive.specs.declared.Written.{Written}
+use Rattle.region_archive.specs.Promise.{Written}
 
 -- a route call on a record, with location, kind, number and version of the item, then the buffer before, the answer and the buffer after
 abbrev pub RouteCalls : Type 0 → Type 1

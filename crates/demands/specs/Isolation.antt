@@ -4,7 +4,7 @@ use Rattle.region_graph.specs.Lists.{All, keep}
 use Rattle.region_graph.specs.Model.{Model}
 use Rattle.region_graph.specs.Record.{Valid, meaning}
 use Rattle.region_graph.specs.declared.Graph.{Graph}
-use Rattle.region_routes.specs.Resolve.{Candidate}
+use Rattle.region_routes.specs.declared.resolver.Candidate.{Candidate}
 use Rattle.region_routes.specs.declared.Kind.{Kind}
 use Rattle.demands.specs.Claim.{InstalledWhere}
 use Rattle.demands.specs.Interface.{RouteCalls, ListCalls, ResolveCalls}

@@ -7,7 +7,8 @@ use Rattle.region_graph.specs.Calls.{Call, run, numbers}
 use Rattle.region_graph.specs.declared.Item.{Item}
 use Rattle.region_routes.specs.Chosen.{NoRouteFor, BestFor}
 use Rattle.region_routes.specs.Hooks.{item}
-use Rattle.region_routes.specs.Resolve.{Candidate, candidates}
+use Rattle.region_routes.specs.declared.resolver.Candidate.{Candidate}
+use Rattle.region_routes.specs.Resolve.{candidates}
 use Rattle.demands.specs.Claim.{Selected, Offered, InstalledWhere}
 
 pub data Claim : Type 0 where

@@ -9,11 +9,11 @@ use Rattle.region_graph.specs.Promise.{new_bundle, new_connection}
 use Rattle.region_graph.specs.declared.Graph.{Graph}
 use Rattle.region_graph.specs.declared.bundles.StoredBundle.{StoredBundle}
 use Rattle.region_graph.specs.declared.connections.StoredConnection.{StoredConnection}
-use Rattle.region_routes.specs.Resolve.{Candidate, candidates}
+use Rattle.region_routes.specs.declared.resolver.Candidate.{Candidate}
+use Rattle.region_routes.specs.Resolve.{candidates}
 use Rattle.region_routes.specs.declared.Kind.{Kind}
-use Rattle.region_routes.specs.declared.Routed.{Routed}
-use Rattle.region_routes.specs.declared.Kept.{Kept}
-use Rattle.region_archive.specs.declared.Written.{Written}
+use Rattle.region_routes.specs.Hooks.{Routed, Kept}
+use Rattle.region_archive.specs.Promise.{Written}
 use Rattle.region_host.specs.CFlags.{passes_all}
 use Rattle.region_host.specs.CNumbers.{routed_of, kept_of, written_of, CountFits}
 use Rattle.region_host.proofs.region_empty_v5.Reads as empty

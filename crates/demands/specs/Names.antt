@@ -1,14 +1,15 @@
 -- Request C-11, of any way to look a name up: each entry's own name is found, and nothing else is.
-use Rattle.std.specs.Prelude.{◌≡◌, false, List, ◌∷◌, ◌++◌, ℕ, ◌+◌, ◌-◌, ◌^◌, ◌≤◌, eqb, length}
+use Rattle.std.specs.Prelude.{◌≡◌, false, List, ◌∷◌, ◌++◌, ℕ, ◌+◌, ◌-◌, ◌^◌, ◌≤◌, eqb, length, Result, Ok, Err, IfOk}
 use contract.Lifetimes.{Lfts}
 use Rattle.std.specs.Borrow.{Bor, MutBor}
-use Rattle.region_graph.specs.Refusals.{not_refused, broken_sheet, no_entry}
+use Rattle.std.specs.declared.ops.Range.{Range}
+use Rattle.region_graph.specs.Refusals.{not_refused, broken_sheet, no_entry, refusal_number}
+use Rattle.region_graph.specs.declared.refusals.Refusal.{Refusal}
 use Rattle.region_graph.specs.Lists.{pick, exists}
 use Rattle.region_graph.specs.Calls.{first_no}
 use Rattle.name_sheet.specs.Sheet.{Entry, LegalEntries, sheet}
 use Rattle.name_sheet.specs.File.{SheetMeaning, matches, lookup_questions}
-use Rattle.name_sheet.specs.Promise.{between}
-use Rattle.name_sheet.specs.declared.Located.{Located}
+use Rattle.name_sheet.specs.Promise.{Located, located_by, between}
 use Rattle.name_sheet.proofs.locate.Reads as locate
 use Rattle.name_sheet.proofs.lookup.Reads as lookup
 use Rattle.region_host.specs.CNumbers.{read_back}
@@ -50,12 +51,17 @@ pub record NamesGiven (looks : List ℕ → ℕ → ℕ → Lookup → Type 0) :
 abbrev pub given_as : Located → Lookup
 given_as r = pick (eqb r.refusal not_refused) (named r.from (r.to - r.from)) (unnamed r.refusal)
 
+-- a part that starts so many bytes behind the start of the sheet
+abbrev pub given_part : ℕ → Result (Bor (List ℕ)) Refusal → Lookup
+given_part from (Ok part) = named from (length part.now)
+given_part from (Err refusal) = unnamed (refusal_number refusal)
+
 pub data ValueLookup : List ℕ → ℕ → ℕ → Lookup → Type 0 where
-  by_locate : (κs : Lfts 1) (s : Bor (List ℕ)) (kind number : ℕ) (r : Located)
-      → locate.Learnt κs (s, (kind, (number, tt))) r (s, (kind, (number, tt))) → ValueLookup s.now kind number (given_as r)
-  by_lookup : (κs : Lfts 2) (s part : Bor (List ℕ)) (was is : MutBor ℕ) (kind number from : ℕ)
-      → lookup.Learnt κs (s, (kind, (number, (was, tt)))) part (s, (kind, (number, (is, tt)))) → part.ref_ptr.1 ≡ s.ref_ptr.1 + from
-      → ValueLookup s.now kind number (pick (eqb is.now not_refused) (named from (length part.now)) (unnamed is.now))
+  by_locate : (κs : Lfts 1) (s : Bor (List ℕ)) (kind number : ℕ) (r : Result (Range ℕ) Refusal)
+      → locate.Learnt κs (s, (kind, (number, tt))) r (s, (kind, (number, tt))) → ValueLookup s.now kind number (given_as (located_by r))
+  by_lookup : (κs : Lfts 1) (s : Bor (List ℕ)) (kind number from : ℕ) (r : Result (Bor (List ℕ)) Refusal)
+      → lookup.Learnt κs (s, (kind, (number, tt))) r (s, (kind, (number, tt))) → IfOk r (λ part. part.ref_ptr.1 ≡ s.ref_ptr.1 + from)
+      → ValueLookup s.now kind number (given_part from r)
 
 -- for C: what it reads in the number, with the start that was written
 pub data LentLookup : List ℕ → ℕ → ℕ → Lookup → Type 0 where

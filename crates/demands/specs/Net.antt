@@ -1,13 +1,13 @@
 -- 001, section 7: the equation of the net regions, for one item at a time, and its least solution. `E r s` says that a connection from r to s
 -- passes the item, `H r` that r has it of its own.
-use Rattle.std.specs.Prelude.{◌≡◌, true, ◌⊎◌, List, ℕ}
+use Rattle.std.specs.Prelude.{◌≡◌, true, ◌⊎◌, List, ℕ, Some}
 use Rattle.region_graph.specs.Lists.{member}
 use Rattle.region_graph.specs.Model.{Model}
 use Rattle.region_graph.specs.Promise.{place_of}
 use Rattle.region_graph.specs.declared.Item.{Item}
-use Rattle.region_graph.specs.declared.Place.TheVariants.{Within}
 use Rattle.region_routes.specs.Chosen.{PassesTo, HeldAt}
-use Rattle.region_routes.specs.Resolve.{Candidate, package_of}
+use Rattle.region_routes.specs.declared.resolver.Candidate.{Candidate}
+use Rattle.region_routes.specs.Resolve.{package_of}
 use Rattle.demands.specs.Claim.{exports}
 
 -- the item is in r's own region, or in the net region, filtered, of a region that r is connected to
@@ -30,7 +30,7 @@ NetRegions m net = (i : Item) → LeastSolution m.regions (PassesTo m i) (HeldAt
 
 -- section 1.5: r is the region containing the bundle that exports the candidate
 abbrev pub ExportedIn : Model → Candidate → ℕ → Type 0
-ExportedIn m c r = (place_of m.bundles c.exporter ≡ Within r) × (exports m c ≡ true)
+ExportedIn m c r = (place_of m.bundles c.exporter ≡ Some r) × (exports m c ≡ true)
 
 -- `net c r`: the candidate is in the net region of r; only the exporter's region has the package of its own
 abbrev pub ExporterNetRegions : Model → (Candidate → ℕ → Type 0) → Type 1

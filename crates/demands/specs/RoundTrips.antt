@@ -1,14 +1,14 @@
 -- Request C-16, of any way to convert archives: each conversion gives the bytes back that the other one was given.
-use Rattle.std.specs.Prelude.{◌≡◌, true, false, ◌⊎◌, List, ℕ, ◌≤◌, length, take, get_or}
+use Rattle.std.specs.Prelude.{◌≡◌, true, false, ◌⊎◌, List, ℕ, ◌≤◌, length, take, get_or, Result}
 use contract.Lifetimes.{Lfts}
 use Rattle.std.specs.Borrow.{Bor, MutBor}
 use Rattle.region_graph.specs.Refusals.{not_refused, broken_layout, has_versions}
 use Rattle.region_graph.specs.Calls.{Question, first_no}
+use Rattle.region_graph.specs.declared.refusals.Refusal.{Refusal}
 use Rattle.region_routes.specs.Hooks.{written}
 use Rattle.region_archive.specs.Image.{latest, unversioned}
 use Rattle.region_archive.specs.File.{FileMeaning, is_image, read_model}
-use Rattle.region_archive.specs.Promise.{written_as}
-use Rattle.region_archive.specs.declared.Written.{Written}
+use Rattle.region_archive.specs.Promise.{Written, written_answer, written_as}
 use Rattle.region_convert.specs.Conversion.{forward_questions, back_questions}
 use Rattle.region_convert.proofs.forward.Reads as forward
 use Rattle.region_convert.proofs.back.Reads as back
@@ -58,14 +58,14 @@ pub record RoundTrips (forwards backs : Converting) : Type 0 where
   pub no_older : {s t entry exit : List ℕ} → backs s entry (Written.Refused has_versions) exit → (f : FileMeaning s) (g : FileMeaning t)
       → is_image g ≡ true → read_model g ≡ read_model f → get_or t 0 0 ≡ latest
 
--- the functions by value
+-- the crate's own calls
 pub data ValueForward : List ℕ → List ℕ → Written → List ℕ → Type 0 where
-  by_forward : (κs : Lfts 2) (s : Bor (List ℕ)) (was out : MutBor (List ℕ)) (a : Written) → forward.Learnt κs (s, (was, tt)) a (s, (out, tt))
-      → ValueForward s.now was.now a out.now
+  by_forward : (κs : Lfts 2) (s : Bor (List ℕ)) (was out : MutBor (List ℕ)) (a : Result ℕ Refusal)
+      → forward.Learnt κs (s, (was, tt)) a (s, (out, tt)) → ValueForward s.now was.now (written_answer a) out.now
 
 pub data ValueBack : List ℕ → List ℕ → Written → List ℕ → Type 0 where
-  by_back : (κs : Lfts 2) (s : Bor (List ℕ)) (was out : MutBor (List ℕ)) (a : Written) → back.Learnt κs (s, (was, tt)) a (s, (out, tt))
-      → ValueBack s.now was.now a out.now
+  by_back : (κs : Lfts 2) (s : Bor (List ℕ)) (was out : MutBor (List ℕ)) (a : Result ℕ Refusal)
+      → back.Learnt κs (s, (was, tt)) a (s, (out, tt)) → ValueBack s.now was.now (written_answer a) out.now
 
 -- for C: what it reads in the number
 pub data LentForward : List ℕ → List ℕ → Written → List ℕ → Type 0 where

@@ -3,6 +3,7 @@ use mathlib.Core.Path.{◌≡◌, refl, ap}
 use mathlib.Core.Bool.{Bool, true, false}
 use mathlib.Core.List.{List, [], ◌∷◌}
 use mathlib.Core.Option.{Option, some, none}
+use Rattle.std.specs.Prelude.{Option as Maybe, Some, None}
 use native.Mathlib.Omega.{arith}
 use Prim.Native.Nat.{ℕ, zero, suc, ◌+◌, ◌<◌, ◌≤◌}
 use lib.Dec.{eqb}
@@ -16,20 +17,16 @@ use Rattle.region_graph.specs.Items.{holds, crosses}
 use Rattle.region_graph.specs.Calls.{Question, first_no}
 use Rattle.region_graph.specs.Promise.{place_of}
 use Rattle.region_graph.specs.declared.Item.{Item}
-use Rattle.region_graph.specs.declared.Place.{Place}
-use Rattle.region_graph.specs.declared.Place.TheVariants.{Within, Nowhere}
 use Rattle.region_graph.proofs.Lists.{keep_length}
 use Rattle.region_routes.specs.Chosen.{first_of, put_before, guarded, or_else, exactly, from, chosen_by, chosen}
-use Rattle.region_routes.specs.Hooks.{Outcome, kind_number, item, written, kept, judged, shown, shown_from, sees_from, route_questions, find_questions}
+use Rattle.region_routes.specs.Hooks.{Routed, Kept, Outcome, kind_number, item, written, kept, judged, shown, shown_from, sees_from, route_questions, find_questions}
 use Rattle.region_routes.specs.Hooks.{event_questions, route_outcome, find_outcome, event_outcome}
-use Rattle.region_routes.specs.Resolve.{Candidate, parts, offered_from, resolve_questions, written_each, resolve_outcome}
+use Rattle.region_routes.specs.declared.resolver.Candidate.{Candidate}
+use Rattle.region_routes.specs.Resolve.{parts, offered_from, resolve_questions, written_each, resolve_outcome}
 use Rattle.region_routes.specs.declared.Kind.{Kind}
-use Rattle.region_routes.specs.declared.Routed.TheVariants as Routed
-use Rattle.region_routes.specs.declared.Kept.TheVariants as Kept
 use Rattle.region_archive.specs.Image.{image, older_image}
 use Rattle.region_archive.specs.File.{FileMeaning, read_model}
-use Rattle.region_archive.specs.Promise.{archived, image_outcome, write_questions, write_outcome}
-use Rattle.region_archive.specs.declared.Written.TheVariants as Written
+use Rattle.region_archive.specs.Promise.{Written, archived, image_outcome, write_questions, write_outcome}
 use Rattle.region_archive.proofs.OneImage.{image_bound, older_bound}
 use Rattle.region_archive.proofs.Meaning.{model_legal}
 use Rattle.region_convert.specs.Conversion.{forward_questions, back_questions, forward_outcome, back_outcome}
@@ -111,9 +108,9 @@ shown_given : (o : Option (List ℕ)) (entry : List ℕ) → AtMostRegions o →
 shown_given none entry h = tt
 shown_given (some p) entry h = omega (arith, h)
 
-shown_from_given : (m : Model) (i : Item) (p : Place) (entry : List ℕ) → RoutedGiven (shown_from m i p entry).answer
-shown_from_given m i (Within r) entry = shown_given (chosen m i r) entry (chosen_short m i r)
-shown_from_given m i Nowhere entry = tt
+shown_from_given : (m : Model) (i : Item) (p : Maybe ℕ) (entry : List ℕ) → RoutedGiven (shown_from m i p entry).answer
+shown_from_given m i (Some r) entry = shown_given (chosen m i r) entry (chosen_short m i r)
+shown_from_given m i None entry = tt
 
 pub route_given : (m : Model) (l kind number version : ℕ) (entry : List ℕ) → RoutedGiven (route_outcome m l kind number version entry).answer
 route_given m l kind number version entry =

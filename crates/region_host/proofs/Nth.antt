@@ -2,7 +2,7 @@
 use mathlib.Core.Path.{◌≡◌, refl, ap, ◌∙◌}
 use native.Mathlib.Omega.{arith}
 use Prim.Native.Nat.{ℕ, zero, suc, ◌<◌, ◌≤◌}
-use mathlib.Core.List.{List, [], ◌∷◌}
+use mathlib.Core.List.{List, [], ◌∷◌, map}
 use lib.ListN.{length, get_or}
 use Rattle.region_host.specs.CNumbers.{CAnswer, answered}
 use Rattle.region_host.specs.Reading.{nth_for_c}
@@ -23,3 +23,9 @@ module _ {A S : Type 0} (store : A → S) where
   nth_past [] i entry h = refl
   nth_past (x ∷ xs) zero entry h = absurd (omega (arith, h))
   nth_past (x ∷ xs) (suc i) entry h = nth_past xs i entry (omega (arith, h))
+
+  -- of the stored forms of a list it is the stored form of the i-th
+  pub nth_stored : (xs : List A) (i : ℕ) (entry : S) → nth_for_c (λ s. s) (map store xs) i entry ≡ nth_for_c store xs i entry
+  nth_stored [] i entry = refl
+  nth_stored (x ∷ xs) zero entry = refl
+  nth_stored (x ∷ xs) (suc i) entry = nth_stored xs i entry

@@ -3,6 +3,7 @@ use mathlib.Core.Path.{◌≡◌, refl, ap, ◌∙◌}
 use mathlib.Core.Bool.{Bool, true, false}
 use mathlib.Core.List.{List, []}
 use mathlib.Core.Option.{Option, some, none}
+use Rattle.std.specs.Prelude.{Option as Maybe, Some, None}
 use Prim.Native.Nat.{ℕ}
 use lib.Dec.{eqb}
 use lib.ListN.{length}
@@ -12,17 +13,13 @@ use Rattle.region_graph.specs.Model.{Model}
 use Rattle.region_graph.specs.Calls.{Question, first_no}
 use Rattle.region_graph.specs.Promise.{place_of}
 use Rattle.region_graph.specs.declared.Item.{Item}
-use Rattle.region_graph.specs.declared.Place.{Place}
-use Rattle.region_graph.specs.declared.Place.TheVariants.{Within, Nowhere}
 use Rattle.region_routes.specs.Chosen.{chosen}
-use Rattle.region_routes.specs.Hooks.{Returned, Outcome, kind_number, item, written, routed_as, kept_as, route_questions, find_questions, event_questions}
+use Rattle.region_routes.specs.Hooks.{Routed, Kept, Returned, Outcome, kind_number, item, written, routed_as, kept_as, route_questions, find_questions, event_questions}
 use Rattle.region_routes.specs.Hooks.{kept, judged, shown, shown_from, route_outcome, sees_from, find_outcome, event_outcome}
-use Rattle.region_routes.specs.Resolve.{Candidate, parts, offered_from, resolve_questions, written_each, resolve_outcome}
+use Rattle.region_routes.specs.declared.resolver.Candidate.{Candidate}
+use Rattle.region_routes.specs.Resolve.{parts, offered_from, resolve_questions, written_each, resolve_outcome}
 use Rattle.region_routes.specs.declared.Kind.{Kind}
-use Rattle.region_routes.specs.declared.Routed.TheVariants as Routed
-use Rattle.region_routes.specs.declared.Kept.{Kept}
-use Rattle.region_archive.specs.Promise.{written_as, archived, image_outcome}
-use Rattle.region_archive.specs.declared.Written.TheVariants as Written
+use Rattle.region_archive.specs.Promise.{Written, written_as, archived, image_outcome}
 use Rattle.region_host.specs.CNumbers.{CAnswer, answered, for_c}
 
 module _ {A E : Type 0} where
@@ -58,9 +55,9 @@ shown_whole : (x : Option (List ℕ)) (entry : List ℕ) → Whole routed_as (sh
 shown_whole none entry = refl
 shown_whole (some p) entry = refl
 
-shown_from_whole : (m : Model) (i : Item) (p : Place) (entry : List ℕ) → Whole routed_as (shown_from m i p entry)
-shown_from_whole m i (Within r) entry = shown_whole (chosen m i r) entry
-shown_from_whole m i Nowhere entry = refl
+shown_from_whole : (m : Model) (i : Item) (p : Maybe ℕ) (entry : List ℕ) → Whole routed_as (shown_from m i p entry)
+shown_from_whole m i (Some r) entry = shown_whole (chosen m i r) entry
+shown_from_whole m i None entry = refl
 
 pub route_whole : (m : Model) (l kind number version : ℕ) (entry : List ℕ) → Whole routed_as (route_outcome m l kind number version entry)
 route_whole m l kind number version entry =

@@ -4,10 +4,8 @@ use native.Mathlib.Omega.{arith}
 use Prim.Native.Nat.{ℕ, zero, suc, ◌-◌, ◌^◌, ◌<◌, ◌≤◌}
 use borrow.Author.Tests.{lt-ltb, le-ltb, ne_eqb}
 use Rattle.region_graph.proofs.Lists.{pick_no}
-use Rattle.region_routes.specs.declared.Routed.{Routed}
-use Rattle.region_routes.specs.declared.Kept.{Kept}
-use Rattle.region_archive.specs.Promise.{hidden_number}
-use Rattle.region_archive.specs.declared.Written.{Written}
+use Rattle.region_routes.specs.Hooks.{Routed, Kept}
+use Rattle.region_archive.specs.Promise.{Written, hidden_number}
 use Rattle.region_host.specs.CNumbers.{negative, routed_value, kept_value, written_value, read_back, unseen, routed_of, kept_of, written_of, CountFits}
 
 -- the questions have numbers below that of "hidden"

@@ -3,8 +3,7 @@ use Rattle.std.specs.Prelude.{◌≡◌, List, ℕ, ◌-◌, eqb}
 use Rattle.region_graph.specs.Refusals.{not_refused}
 use Rattle.region_graph.specs.Lists.{pick}
 use Rattle.name_sheet.specs.File.{SheetMeaning}
-use Rattle.name_sheet.specs.Promise.{located}
-use Rattle.name_sheet.specs.declared.Located.{Located}
+use Rattle.name_sheet.specs.Promise.{Located, located}
 use Rattle.region_host.specs.CNumbers.{negative}
 
 -- the name's length, or a refusal's number below zero; and the lent start as the call leaves it

@@ -1,11 +1,8 @@
 -- What a query answers, as one number for C. C reads the 64 bits as a signed number: a count as it is, and a number of the papers below zero.
 use Rattle.std.specs.Prelude.{ℕ, zero, suc, ◌-◌, ◌^◌, ◌<◌, eqb, ltb}
 use Rattle.region_graph.specs.Lists.{pick}
-use Rattle.region_routes.specs.Hooks.{Outcome}
-use Rattle.region_routes.specs.declared.Routed.{Routed}
-use Rattle.region_routes.specs.declared.Kept.{Kept}
-use Rattle.region_archive.specs.Promise.{hidden_number}
-use Rattle.region_archive.specs.declared.Written.{Written}
+use Rattle.region_routes.specs.Hooks.{Outcome, Routed, Kept}
+use Rattle.region_archive.specs.Promise.{Written, hidden_number}
 
 -- a number below zero, in two's complement
 abbrev pub negative : ℕ → ℕ

@@ -1,56 +1,70 @@
-// What a query answers, as one number for C.
+// What a call answers, as one number for C.
 ghost use Rattle.std.specs.Prelude.{◌≡◌};
+ghost use Rattle.region_graph.specs.Refusals.{answer_number};
+ghost use Rattle.region_routes.specs.Hooks.{kept_answer, routed_answer};
+ghost use Rattle.region_archive.specs.Promise.{written_answer, query_number};
 ghost use Rattle.region_host.specs.CNumbers.{negative, routed_value, kept_value, written_value};
 ghost use Rattle.region_host.specs.Reading.{place_value};
 
-use region_archive::{HIDDEN, Written};
-use region_graph::Place;
-use region_graph::refusals::NOT_INSTALLED;
-use region_routes::{Kept, Routed};
+use region_archive::{HIDDEN, SEEN};
+use region_graph::refusals::Refusal;
+
+// The number of a changing call: 0, or that of its refusal.
+pub fn call_number(answer: Result<(), Refusal>) -> u32
+    ensures { result ≡ answer_number answer }
+{
+    match answer {
+        Ok(()) => 0,
+        Err(refusal) => refusal.number(),
+    }
+}
 
 // A number below zero, in two's complement.
 pub fn negative(number: u32) -> u64
     ensures { result ≡ negative number }
 {
-    if number == 0 {
-        return 0;
-    }
-    0xFFFFFFFFFFFFFFFF - (number as u64 - 1)
+    u64::from(number).wrapping_neg()
 }
 
-pub fn routed_value(answer: Routed) -> u64
-    ensures { result ≡ routed_value answer }
+// The count of connections of a route.
+pub fn routed_value(answer: Result<Option<usize>, Refusal>) -> u64
+    ensures { result ≡ routed_value (routed_answer answer) }
 {
     match answer {
-        Routed::Hidden => negative(HIDDEN),
-        Routed::Count(count) => count as u64,
-        Routed::Refused(number) => negative(number),
+        Ok(None) => negative(HIDDEN),
+        Ok(Some(count)) => count as u64,
+        Err(refusal) => negative(refusal.number()),
     }
 }
 
-pub fn kept_value(answer: Kept) -> u64
-    ensures { result ≡ kept_value answer }
+// The count of a hook, of a write or of a conversion.
+pub fn count_value(answer: Result<usize, Refusal>) -> u64
+    ensures hook { result ≡ kept_value (kept_answer answer) }
+    ensures writer { result ≡ written_value (written_answer answer) }
 {
     match answer {
-        Kept::Wrote(count) => count as u64,
-        Kept::Refused(number) => negative(number),
+        Ok(count) => count as u64,
+        Err(refusal) => negative(refusal.number()),
     }
 }
 
-pub fn written_value(answer: Written) -> u64
-    ensures { result ≡ written_value answer }
+// The region of a bundle, where there is one.
+pub fn place_value(region: Option<u32>) -> u64
+    ensures { result ≡ place_value region }
+{
+    match region {
+        Some(region) => u64::from(region),
+        None => negative(Refusal::NotInstalled.number()),
+    }
+}
+
+// Whether an item is seen in the graph of an archive.
+pub fn query_value(answer: Result<bool, Refusal>) -> u32
+    ensures { result ≡ query_number answer }
 {
     match answer {
-        Written::Bytes(count) => count as u64,
-        Written::Refused(number) => negative(number),
-    }
-}
-
-pub fn place_value(place: Place) -> u64
-    ensures { result ≡ place_value place }
-{
-    match place {
-        Place::Within(region) => region as u64,
-        Place::Nowhere => negative(NOT_INSTALLED),
+        Ok(true) => SEEN,
+        Ok(false) => HIDDEN,
+        Err(refusal) => refusal.number(),
     }
 }

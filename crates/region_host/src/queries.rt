@@ -1,5 +1,5 @@
-// The queries of the lent record. Each hands a copy of the record to a function `_by_value`, which asks the query of that name and
-// makes its answer one number for C. A name that ends in a version has the arguments that came with that version of the interface.
+// The queries of the lent record, and that of a lent archive, each answer made one number for C. A name that ends in a version has the
+// arguments that came with that version of the interface.
 ghost use Rattle.std.specs.Prelude.{◌≡◌, [], ◌∷◌, length};
 ghost use Rattle.region_graph.specs.Record.{Valid, meaning};
 ghost use Rattle.region_routes.specs.Hooks.{route_outcome, find_outcome, event_outcome};
@@ -9,25 +9,10 @@ ghost use Rattle.region_archive.specs.Image.{image};
 ghost use Rattle.region_archive.specs.Promise.{Queried, write_outcome};
 ghost use Rattle.region_host.specs.CNumbers.{answered, for_c, routed_value, kept_value, written_value};
 
-use crate::answers::{kept_value, routed_value, written_value};
-use region_archive::{image_length, write};
+use crate::answers::{count_value, query_value, routed_value};
+use region_archive::{archive_query, image_length, write};
 use region_graph::Graph;
 use region_routes::{bundle_event, bundle_find, resolve, route, service_event, service_find};
-
-fn route_by_value(
-    graph: Graph,
-    out: &mut [u8],
-    location: u32,
-    kind: u32,
-    item: u32,
-    version: u16,
-) -> u64
-    requires { Valid graph }
-    ensures { answered result out.new ≡ for_c routed_value (route_outcome (meaning graph) location kind item version out.old) }
-{
-    let answer = route(graph, location, kind, item, version, out);
-    routed_value(answer)
-}
 
 // The route that document 01 picks, and its count of connections.
 pub fn region_route_v4(
@@ -41,15 +26,7 @@ pub fn region_route_v4(
     requires { Valid graph.now }
     ensures { answered result out.new ≡ for_c routed_value (route_outcome (meaning graph.now) location kind item version out.old) }
 {
-    route_by_value(*graph, out, location, kind, item, version)
-}
-
-fn bundle_find_by_value(graph: Graph, out: &mut [u32], location: u32, candidates: &[u32]) -> u64
-    requires { Valid graph }
-    ensures { answered result out.new ≡ for_c kept_value (find_outcome (meaning graph) Kind.Bundle location candidates.now out.old) }
-{
-    let answer = bundle_find(graph, location, candidates, out);
-    kept_value(answer)
+    routed_value(route(graph, location, kind, item, version, out))
 }
 
 // The bundles among the candidates that a bundle sees.
@@ -57,33 +34,7 @@ pub fn region_bundle_find(graph: &Graph, out: &mut [u32], location: u32, candida
     requires { Valid graph.now }
     ensures { answered result out.new ≡ for_c kept_value (find_outcome (meaning graph.now) Kind.Bundle location candidates.now out.old) }
 {
-    bundle_find_by_value(*graph, out, location, candidates)
-}
-
-fn resolve_by_value(
-    graph: Graph,
-    out_exporters: &mut [u32],
-    out_packages: &mut [u32],
-    out_versions: &mut [u16],
-    location: u32,
-    exporters: &[u32],
-    packages: &[u32],
-    versions: &[u16],
-) -> u64
-    requires { Valid graph }
-    ensures { answered result (out_exporters.new ∷ out_packages.new ∷ out_versions.new ∷ []) ≡ for_c kept_value (resolve_outcome (meaning graph) location (candidates exporters.now packages.now versions.now) (out_exporters.old ∷ out_packages.old ∷ out_versions.old ∷ [])) }
-{
-    let answer = resolve(
-        graph,
-        location,
-        exporters,
-        packages,
-        versions,
-        out_exporters,
-        out_packages,
-        out_versions,
-    );
-    kept_value(answer)
+    count_value(bundle_find(graph, location, candidates, out))
 }
 
 // The candidates, exporters with packages, that a bundle is offered.
@@ -100,24 +51,16 @@ pub fn region_resolve_v4(
     requires { Valid graph.now }
     ensures { answered result (out_exporters.new ∷ out_packages.new ∷ out_versions.new ∷ []) ≡ for_c kept_value (resolve_outcome (meaning graph.now) location (candidates exporters.now packages.now versions.now) (out_exporters.old ∷ out_packages.old ∷ out_versions.old ∷ [])) }
 {
-    resolve_by_value(
-        *graph,
-        out_exporters,
-        out_packages,
-        out_versions,
+    count_value(resolve(
+        graph,
         location,
         exporters,
         packages,
         versions,
-    )
-}
-
-fn service_find_by_value(graph: Graph, out: &mut [u32], location: u32, candidates: &[u32]) -> u64
-    requires { Valid graph }
-    ensures { answered result out.new ≡ for_c kept_value (find_outcome (meaning graph) Kind.Service location candidates.now out.old) }
-{
-    let answer = service_find(graph, location, candidates, out);
-    kept_value(answer)
+        out_exporters,
+        out_packages,
+        out_versions,
+    ))
 }
 
 // The services among the candidates that a bundle sees.
@@ -125,15 +68,7 @@ pub fn region_service_find(graph: &Graph, out: &mut [u32], location: u32, candid
     requires { Valid graph.now }
     ensures { answered result out.new ≡ for_c kept_value (find_outcome (meaning graph.now) Kind.Service location candidates.now out.old) }
 {
-    service_find_by_value(*graph, out, location, candidates)
-}
-
-fn bundle_event_by_value(graph: Graph, out: &mut [u32], listeners: &[u32], bundle: u32) -> u64
-    requires { Valid graph }
-    ensures { answered result out.new ≡ for_c kept_value (event_outcome (meaning graph) Kind.Bundle listeners.now bundle out.old) }
-{
-    let answer = bundle_event(graph, listeners, bundle, out);
-    kept_value(answer)
+    count_value(service_find(graph, location, candidates, out))
 }
 
 // The listeners that see a bundle.
@@ -141,15 +76,7 @@ pub fn region_bundle_event(graph: &Graph, out: &mut [u32], listeners: &[u32], bu
     requires { Valid graph.now }
     ensures { answered result out.new ≡ for_c kept_value (event_outcome (meaning graph.now) Kind.Bundle listeners.now bundle out.old) }
 {
-    bundle_event_by_value(*graph, out, listeners, bundle)
-}
-
-fn service_event_by_value(graph: Graph, out: &mut [u32], listeners: &[u32], service: u32) -> u64
-    requires { Valid graph }
-    ensures { answered result out.new ≡ for_c kept_value (event_outcome (meaning graph) Kind.Service listeners.now service out.old) }
-{
-    let answer = service_event(graph, listeners, service, out);
-    kept_value(answer)
+    count_value(bundle_event(graph, listeners, bundle, out))
 }
 
 // The listeners that see a service.
@@ -157,15 +84,7 @@ pub fn region_service_event(graph: &Graph, out: &mut [u32], listeners: &[u32], s
     requires { Valid graph.now }
     ensures { answered result out.new ≡ for_c kept_value (event_outcome (meaning graph.now) Kind.Service listeners.now service out.old) }
 {
-    service_event_by_value(*graph, out, listeners, service)
-}
-
-fn write_by_value(graph: Graph, out: &mut [u8]) -> u64
-    requires { Valid graph }
-    ensures { answered result out.new ≡ for_c written_value (write_outcome (meaning graph) out.old) }
-{
-    let answer = write(graph, out);
-    written_value(answer)
+    count_value(service_event(graph, listeners, service, out))
 }
 
 // The image of the graph, and its length.
@@ -173,14 +92,7 @@ pub fn region_write(graph: &Graph, out: &mut [u8]) -> u64
     requires { Valid graph.now }
     ensures { answered result out.new ≡ for_c written_value (write_outcome (meaning graph.now) out.old) }
 {
-    write_by_value(*graph, out)
-}
-
-fn image_length_by_value(graph: Graph) -> u64
-    requires { Valid graph }
-    ensures { result ≡ length (image (meaning graph)) }
-{
-    image_length(graph) as u64
+    count_value(write(graph, out))
 }
 
 // How many bytes the image of the graph takes.
@@ -188,12 +100,12 @@ pub fn region_image_length(graph: &Graph) -> u64
     requires { Valid graph.now }
     ensures { result ≡ length (image (meaning graph.now)) }
 {
-    image_length_by_value(*graph)
+    image_length(graph) as u64
 }
 
-// Whether the bundle at a location sees an item in the graph of an archive: the query of `region_archive`, as it is.
+// Whether the bundle at a location sees an item in the graph of an archive.
 pub fn region_archive_query(bytes: &[u8], location: u32, kind: u32, item: u32, version: u16) -> u32
     ensures { Queried bytes.now location kind item version result }
 {
-    region_archive::archive_query(bytes, location, kind, item, version)
+    query_value(archive_query(bytes, location, kind, item, version))
 }

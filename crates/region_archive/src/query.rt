@@ -23,21 +23,21 @@ pub fn archive_query(
 ) -> Result<bool, Refusal>
     ensures { Queried bytes.now location kind item version (query_number result) }
 {
-    let archive = read(bytes);
-    let graph = match &archive {
-        Ok(graph) => graph,
-        Err(refusal) => return Err(*refusal),
-    };
-    let Some(region) = graph.region_of(location) else {
-        return Err(Refusal::NotInstalled);
-    };
-    if 2 < kind {
-        return Err(Refusal::NotAKind);
+    match &read(bytes) {
+        Ok(graph) => {
+            let Some(region) = graph.region_of(location) else {
+                return Err(Refusal::NotInstalled);
+            };
+            if 2 < kind {
+                return Err(Refusal::NotAKind);
+            }
+            let sought = Item {
+                kind,
+                number: item,
+                version,
+            };
+            Ok(has(regions_seeing(graph, sought), region))
+        }
+        Err(refusal) => Err(*refusal),
     }
-    let sought = Item {
-        kind,
-        number: item,
-        version,
-    };
-    Ok(has(regions_seeing(graph, sought), region))
 }

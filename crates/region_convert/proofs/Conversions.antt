@@ -5,7 +5,7 @@ use mathlib.Core.List.{List, ◌++◌}
 use Prim.Native.Nat.{ℕ, ◌≤◌}
 use native.Mathlib.Omega.{arith}
 use borrow.Author.Tests.{le-leb, leb-true, ne_eqb}
-use Rattle.std.specs.Prelude.{Result, Ok, Err}
+use Rattle.std.specs.Prelude.{Ok, Err}
 use lib.Dec.{leb}
 use lib.ListN.{length, get_or}
 use Rattle.region_graph.specs.Refusals.{not_refused, refusal_number}
@@ -23,7 +23,6 @@ use Rattle.region_archive.specs.File.{FileMeaning, read_model, read_number, olde
 use Rattle.region_archive.specs.Promise.{Written, written_answer, archived, image_outcome, Given}
 use Rattle.region_archive.proofs.FileReads.{opens_long, refusal_positive}
 use Rattle.region_convert.specs.Conversion.{questions_between}
-use Rattle.region_convert.specs.Between.{GivenBetween}
 
 -- a file that opens as one of the versions from `low` to `high` is of one of them, and opens as one of more
 module _ (low high : ℕ) (s : List ℕ) (e : opens low high s ≡ true) where
@@ -42,16 +41,9 @@ module _ (low high : ℕ) (s : List ℕ) (e : opens low high s ≡ true) where
         le-leb v latest (omega (arith, opens_between.1)),
       ) refl
 
--- a file of a version that is not admitted, and one that a read judges
-module _ (low high : ℕ) (s : List ℕ) where
-  module _ (e : opens low high s ≡ true) (l : oldest ≤ low) (h : high ≤ latest) where
-    asked_alike : (f : FileMeaning s) → read_number f ≡ first_no (questions_between low high f)
-    asked_alike f = rw (e, opens_more low high s e l h) refl
-
-    pub opened_read : (r : Result Graph Refusal) → Given s r → GivenBetween low high s r
-    opened_read (Ok g) read =
-        record { valid = read.valid; number = λ f. (read.says f).number ∙ asked_alike f; next = λ f. (read.says f).next }
-    opened_read (Err k) read = λ f. (read f).0 ∙ asked_alike f
+  -- a read of it asks what is asked
+  asked_alike : oldest ≤ low → high ≤ latest → (f : FileMeaning s) → read_number f ≡ first_no (questions_between low high f)
+  asked_alike l h f = rw (e, opens_more l h) refl
 
 -- Versions from `low` to `high`, and for each model the questions that follow those of the reader and the image that is written.
 module _ (low high : ℕ) (rest : Model → List Question) (image_of : Model → List ℕ) (entry : List ℕ) {s : List ℕ} where
@@ -72,15 +64,23 @@ module _ (low high : ℕ) (rest : Model → List Question) (image_of : Model →
       → image_outcome (rest (read_model f)) (image_of (read_model f)) entry ≡ outcome f
   then_asked f e = ap (answer_by f) (second_step (asked f) (rest (read_model f)) (refl, (refl, (refl, tt))) e refl refl)
 
-  -- what is refused, and what is written of a file that was read
-  pub not_read : (e : Refusal) → GivenBetween low high s (Err e) → (f : FileMeaning s) → archived (written_answer (Err e)) entry ≡ outcome f
-  not_read e read f =
+  -- a file of a version that is not admitted
+  pub not_asked : (e : Refusal) → ((f : FileMeaning s) → refusal_number e ≡ first_no (asked f)) → (f : FileMeaning s)
+      → archived (written_answer (Err e)) entry ≡ outcome f
+  not_asked e first f =
       let t = image_of (read_model f) in
       let n = refusal_number e in
       sym (ap (λ (x : Bool). pick x (archived (Written.Bytes (length t)) (written t entry)) (archived (Written.Refused n) entry))
       (ne_eqb n not_refused (refusal_positive e)))
-      ∙ ap (answer_by f) (first_step (asked f) (rest (read_model f)) (refl, (refl, (refl, tt))) (read f) (refusal_positive e))
+      ∙ ap (answer_by f) (first_step (asked f) (rest (read_model f)) (refl, (refl, (refl, tt))) (first f) (refusal_positive e))
 
-  pub then_written : {g : Graph} → GivenBetween low high s (Ok g) → {o : Outcome Written (List ℕ)}
-      → o ≡ image_outcome (rest (meaning g)) (image_of (meaning g)) entry → (f : FileMeaning s) → o ≡ outcome f
-  then_written read e f = e ∙ ap (λ (m : Model). image_outcome (rest m) (image_of m) entry) (read.next f) ∙ then_asked f (read.number f)
+  -- what is refused, and what is written, of a file of one that is
+  module _ (opened : opens low high s ≡ true) (l : oldest ≤ low) (h : high ≤ latest) where
+    pub not_read : (e : Refusal) → Given s (Err e) → (f : FileMeaning s) → archived (written_answer (Err e)) entry ≡ outcome f
+    not_read e read f = not_asked e (λ m. (read m).0 ∙ asked_alike low high s opened l h m) f
+
+    pub then_written : (g : Graph) → Given s (Ok g) → {o : Outcome Written (List ℕ)}
+        → o ≡ image_outcome (rest (meaning g)) (image_of (meaning g)) entry → (f : FileMeaning s) → o ≡ outcome f
+    then_written g read e f =
+        e ∙ ap (λ (m : Model). image_outcome (rest m) (image_of m) entry) (read.says f).next
+        ∙ then_asked f ((read.says f).number ∙ asked_alike low high s opened l h f)

@@ -37,8 +37,8 @@ none_refused : {s : List ℕ} (n : (v : ℕ) (m : Model) → Legal m → in_vers
 none_refused n e = false_true (all_yes (read_questions (means_none n)) (refl, (refl, (refl, tt))) e).1.1.0
 
 -- a refused read gives what the empty record means
-pub refused_read : {s : List ℕ} {g : Graph} {e : Refusal} → Empty g → Given s (Err e) → Reads s (record { graph = g; number = refusal_number e })
-refused_read h p = record {
+pub refused_read : {s : List ℕ} {g : Graph} (e : Refusal) → Empty g → Given s (Err e) → Reads s (record { graph = g; number = refusal_number e })
+refused_read e h p = record {
   valid = h.valid;
   says = λ f. record { number = (p f).0; next = h.model ∙ (p f).1 };
 }

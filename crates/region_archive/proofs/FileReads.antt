@@ -172,3 +172,10 @@ module _ {s : List ℕ} where
         let accept = eq-eqb (read_number f) not_refused (sym (r.says f).number) in
         record { number = (r.says f).number; next = (r.says f).next ∙ sym (ap (λ (b : Bool). pick b (read_model f) (meaning g)) accept) };
   }
+
+  -- an accepted read over a record gives what a read gives
+  pub read_anew : {g h : Graph} → ReadsOver g s (record { graph = h; number = not_refused }) → Given s (Ok h)
+  read_anew r = record {
+    valid = r.valid;
+    says = λ f. let n = (r.says f).number in record { number = n; next = rw (← n) at (r.says f).next };
+  }

@@ -1,10 +1,10 @@
 // The archive query.
 ghost use Rattle.region_archive.specs.Promise.{Queried, query_number};
 
-use crate::reading::read;
-use region_graph::Item;
+use crate::reading::read_over;
 use region_graph::refusals::Refusal;
 use region_graph::region_set::has;
+use region_graph::{Graph, Item};
 use region_routes::regions_seeing;
 
 // What the query answers for an item that is seen, and for one that is hidden.
@@ -12,8 +12,7 @@ pub const SEEN: u32 = 100;
 
 pub const HIDDEN: u32 = 101;
 
-// Whether the bundle at a location sees an item in the graph of an archive. The graph is read where the answer stands, so that the stack
-// holds it once.
+// Whether the bundle at a location sees an item in the graph of an archive.
 pub fn archive_query(
     bytes: &[u8],
     location: u32,
@@ -23,21 +22,18 @@ pub fn archive_query(
 ) -> Result<bool, Refusal>
     ensures { Queried bytes.now location kind item version (query_number result) }
 {
-    match &read(bytes) {
-        Ok(graph) => {
-            let Some(region) = graph.region_of(location) else {
-                return Err(Refusal::NotInstalled);
-            };
-            if 2 < kind {
-                return Err(Refusal::NotAKind);
-            }
-            let sought = Item {
-                kind,
-                number: item,
-                version,
-            };
-            Ok(has(regions_seeing(graph, sought), region))
-        }
-        Err(refusal) => Err(*refusal),
+    let mut graph = Graph::empty();
+    read_over(&mut graph, bytes)?;
+    let Some(region) = graph.region_of(location) else {
+        return Err(Refusal::NotInstalled);
+    };
+    if 2 < kind {
+        return Err(Refusal::NotAKind);
     }
+    let sought = Item {
+        kind,
+        number: item,
+        version,
+    };
+    Ok(has(regions_seeing(&graph, sought), region))
 }

@@ -37,9 +37,7 @@ fn front(bytes: &[u8]) -> Result<(), Refusal>
     }
 }
 
-// The graph whose image the bytes are. It is one function, and a call of its own, so that the stack holds the graph no more often than it
-// must.
-#[inline(never)]
+// The graph whose image the bytes are.
 pub fn read(bytes: &[u8]) -> Result<Graph, Refusal>
     ensures { Given bytes.now result }
 {
@@ -73,7 +71,9 @@ pub fn read(bytes: &[u8]) -> Result<Graph, Refusal>
     )
 }
 
-// Makes a graph the one whose image the bytes are; on a refusal it stays as it was.
+// Makes a graph the one whose image the bytes are; on a refusal it stays as it was. It is a call of its own, and those that need a graph for
+// a while lend it one: so the stack holds no more graphs than it must.
+#[inline(never)]
 pub fn read_over(graph: &mut Graph, bytes: &[u8]) -> Result<(), Refusal>
     requires { Valid graph.old }
     ensures { ReadsOver graph.old bytes.now (record { graph = graph.new; number = answer_number result }) }

@@ -5,7 +5,8 @@ ghost use Rattle.region_archive.specs.Promise.{written_answer};
 ghost use Rattle.region_convert.specs.Conversion.{Forwards, Backs};
 ghost use Rattle.region_convert.specs.Between.{AsksVersion};
 
-use region_archive::{LATEST, OLDEST, opens, read, write, write_older};
+use region_archive::{LATEST, OLDEST, opens, read_over, write, write_older};
+use region_graph::Graph;
 use region_graph::refusals::Refusal;
 
 // Whether bytes have the front of an archive, of a version from an oldest to a latest.
@@ -19,16 +20,14 @@ fn ask_version(bytes: &[u8], oldest: usize, latest: usize) -> Result<(), Refusal
     }
 }
 
-// The latest image of the graph that an older archive means, at the buffer's start. The graph is borrowed where `read` gives it, as in
-// `back`, so that the stack holds it once.
+// The latest image of the graph that an older archive means, at the buffer's start.
 pub fn forward(bytes: &[u8], out: &mut [u8]) -> Result<usize, Refusal>
     ensures { Forwards bytes.now out.old (written_answer result) out.new }
 {
     ask_version(bytes, OLDEST, LATEST - 1)?;
-    match &read(bytes) {
-        Ok(graph) => write(graph, out),
-        Err(refusal) => Err(*refusal),
-    }
+    let mut graph = Graph::empty();
+    read_over(&mut graph, bytes)?;
+    write(&graph, out)
 }
 
 // The older image of the graph that an archive of the latest version means, at the buffer's start.
@@ -36,8 +35,7 @@ pub fn back(bytes: &[u8], out: &mut [u8]) -> Result<usize, Refusal>
     ensures { Backs bytes.now out.old (written_answer result) out.new }
 {
     ask_version(bytes, LATEST, LATEST)?;
-    match &read(bytes) {
-        Ok(graph) => write_older(graph, out),
-        Err(refusal) => Err(*refusal),
-    }
+    let mut graph = Graph::empty();
+    read_over(&mut graph, bytes)?;
+    write_older(&graph, out)
 }

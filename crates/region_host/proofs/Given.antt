@@ -19,7 +19,8 @@ use Rattle.region_graph.specs.Promise.{place_of}
 use Rattle.region_graph.specs.declared.Item.{Item}
 use Rattle.region_graph.proofs.Lists.{keep_length}
 use Rattle.region_routes.specs.Chosen.{first_of, put_before, guarded, or_else, exactly, from, chosen_by, chosen}
-use Rattle.region_routes.specs.Hooks.{Routed, Kept, Outcome, kind_number, item, written, kept, judged, shown, shown_from, sees_from, route_questions, find_questions}
+use Rattle.region_routes.specs.Hooks.{Routed, Kept}
+use Rattle.region_routes.specs.Hooks.{Outcome, kind_number, item, written, kept, judged, shown, shown_from, sees_from, route_questions, find_questions}
 use Rattle.region_routes.specs.Hooks.{event_questions, route_outcome, find_outcome, event_outcome}
 use Rattle.region_routes.specs.declared.resolver.Candidate.{Candidate}
 use Rattle.region_routes.specs.Resolve.{parts, offered_from, resolve_questions, written_each, resolve_outcome}

@@ -14,7 +14,8 @@ use Rattle.region_graph.specs.Calls.{Question, first_no}
 use Rattle.region_graph.specs.Promise.{place_of}
 use Rattle.region_graph.specs.declared.Item.{Item}
 use Rattle.region_routes.specs.Chosen.{chosen}
-use Rattle.region_routes.specs.Hooks.{Routed, Kept, Returned, Outcome, kind_number, item, written, routed_as, kept_as, route_questions, find_questions, event_questions}
+use Rattle.region_routes.specs.Hooks.{Routed, Kept}
+use Rattle.region_routes.specs.Hooks.{Returned, Outcome, kind_number, item, written, routed_as, kept_as, route_questions, find_questions, event_questions}
 use Rattle.region_routes.specs.Hooks.{kept, judged, shown, shown_from, route_outcome, sees_from, find_outcome, event_outcome}
 use Rattle.region_routes.specs.declared.resolver.Candidate.{Candidate}
 use Rattle.region_routes.specs.Resolve.{parts, offered_from, resolve_questions, written_each, resolve_outcome}

@@ -11,7 +11,7 @@ pub fn region_name(sheet: &[u8], start: &mut usize, kind: u32, number: u32) -> u
     match locate(sheet, kind, number) {
         Ok(name) => {
             *start = name.start;
-            (name.end - name.start) as u64
+            name.len() as u64
         }
         Err(refusal) => negative(refusal.number()),
     }

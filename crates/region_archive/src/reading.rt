@@ -37,9 +37,12 @@ fn front(bytes: &[u8]) -> Result<(), Refusal>
     }
 }
 
-// The graph whose image the bytes are.
-pub fn read(bytes: &[u8]) -> Result<Graph, Refusal>
-    ensures { Given bytes.now result }
+// Makes a graph the one whose image the bytes are; on a refusal it stays as it was. It is one function and a call of its own, and those that
+// need a graph for a while lend it one: so the stack holds no more graphs than it must.
+#[inline(never)]
+pub fn read_over(graph: &mut Graph, bytes: &[u8]) -> Result<(), Refusal>
+    requires { Valid graph.old }
+    ensures { ReadsOver graph.old bytes.now (record { graph = graph.new; number = answer_number result }) }
 {
     front(bytes)?;
     let version = usize::from(bytes[0]);
@@ -64,25 +67,24 @@ pub fn read(bytes: &[u8]) -> Result<Graph, Refusal>
     if connections.next != bytes.len() {
         return Err(Refusal::BrokenLayout);
     }
-    Graph::of_flat(
+    match Graph::of_flat(
         &list[..regions.value.count],
         &bundle_rows[..bundles.value],
         &connection_rows[..connections.value],
-    )
-}
-
-// Makes a graph the one whose image the bytes are; on a refusal it stays as it was. It is a call of its own, and those that need a graph for
-// a while lend it one: so the stack holds no more graphs than it must.
-#[inline(never)]
-pub fn read_over(graph: &mut Graph, bytes: &[u8]) -> Result<(), Refusal>
-    requires { Valid graph.old }
-    ensures { ReadsOver graph.old bytes.now (record { graph = graph.new; number = answer_number result }) }
-{
-    match read(bytes) {
+    ) {
         Ok(archive) => {
             *graph = archive;
             Ok(())
         }
         Err(refusal) => Err(refusal),
     }
+}
+
+// The graph whose image the bytes are.
+pub fn read(bytes: &[u8]) -> Result<Graph, Refusal>
+    ensures { Given bytes.now result }
+{
+    let mut graph = Graph::empty();
+    read_over(&mut graph, bytes)?;
+    Ok(graph)
 }

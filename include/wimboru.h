@@ -193,8 +193,8 @@ enum {
     REGION_ROUTE_BYTES = 64,        /* the buffer that a route needs, however short the route is */
     REGION_LONGEST_IMAGE = 18392,   /* bytes; a buffer of this length takes the image of any graph */
     REGION_LONGEST_NAME = 40,       /* bytes of a name, which has at least 1 */
-    REGION_STACK_QUERY = 114688,    /* the stack that is enough for any query */
-    REGION_STACK_CHANGE = 40960,    /* for any changing call but region_read, and for region_name */
+    REGION_STACK_QUERY = 49152,     /* the stack that is enough for any query */
+    REGION_STACK_CHANGE = 16384,    /* for any changing call but region_read, and for region_name */
     REGION_STACK_ARCHIVE = 114688,  /* for region_read and the calls on an archive */
     REGION_STACK_BYTES = 114688,    /* for any call */
 };

@@ -18,7 +18,8 @@ fn front(sheet: &[u8]) -> bool
     version.value == VERSION && size.value as usize == sheet.len() - FRONT
 }
 
-// Goes through the entries up to the end, or to the first byte that breaks the layout.
+// Goes through the entries up to the end, or to the first byte that breaks the layout. The place moves by the length of each entry, which no
+// range counts.
 fn scan(sheet: &[u8], kind: u32, number: u32) -> Result<Range<usize>, Refusal>
     requires { StartsAsSheet sheet.now }
     ensures { Locates sheet.now kind number result }
@@ -41,7 +42,7 @@ fn scan(sheet: &[u8], kind: u32, number: u32) -> Result<Range<usize>, Refusal>
     found.ok_or(Refusal::NoEntry)
 }
 
-// Where the name of a kind and number stands in a sheet.
+// Where the name of a kind and number stands in a sheet. A kind is any number: one that is no kind's has no entry.
 pub fn locate(sheet: &[u8], kind: u32, number: u32) -> Result<Range<usize>, Refusal>
     ensures { Locates sheet.now kind number result }
 {

@@ -42,7 +42,7 @@ pub enum ListOf {
     BareEntries,
 }
 
-// The form of a list. Where what it has is a constant, so is the form.
+// The form of a list: a table. Where what it has is a constant, so is the form.
 pub fn list_form(list: ListOf) -> Form
     ensures { (result ≡ list_form list) × FormFits result }
 {

@@ -7,12 +7,13 @@ use region_graph::region_set::has;
 use region_graph::{Graph, Item};
 use region_routes::regions_seeing;
 
-// What the query answers for an item that is seen, and for one that is hidden.
+// The numbers for C of the answers that an item is seen, and that it is hidden.
 pub const SEEN: u32 = 100;
 
 pub const HIDDEN: u32 = 101;
 
-// Whether the bundle at a location sees an item in the graph of an archive.
+// Whether the bundle at a location sees an item in the graph of an archive. Any number is asked as a kind's, and refused after the bundle is
+// found: so it is no Kind.
 pub fn archive_query(
     bytes: &[u8],
     location: u32,

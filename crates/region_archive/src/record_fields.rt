@@ -10,7 +10,7 @@ use region_graph::flat::{BUNDLE_WIDTH, CONNECTION_WIDTH};
 use region_graph::size::{MOST_BUNDLES, MOST_CONNECTIONS, MOST_LISTED, MOST_PROVIDED};
 use region_graph::{StoredBundle, StoredConnection};
 
-// The sections of an archive of a version whose records have fields.
+// The sections of an archive of a version whose records have fields. What differs between them is a table, or two lines where it is asked.
 #[derive(Clone, Copy)]
 pub enum Section {
     Bundles(usize),

@@ -48,7 +48,7 @@ fn field_size(section: Section, field: usize, values: &FieldValues) -> usize
     }
 }
 
-// How many bytes the fields of a record take.
+// How many bytes the fields of a record take: a loop, whose invariant bounds the sum.
 fn fields_size(section: Section, values: &FieldValues) -> usize
     requires { ValuesFit values.now }
     ensures { (result ≡ length (fields_bytes section (fields_in values.now))) × (result ≤ fields_bound) }

@@ -54,7 +54,8 @@ fn codes_at(row: &[u64], at: usize, most: usize) -> Option<&[u64]>
     Some(&row[from..from + count])
 }
 
-// Puts what is left of each code without its lower bits into the first places; none where one has more than 32 bits.
+// Puts what is left of each code without its lower bits into the first places; none where one has more than 32 bits. The next function puts
+// what always fits, in places of another type.
 fn put_heads(places: &mut [u32], codes: &[u64], bits: u32) -> Option<()>
     requires codes_in_bounds { length codes.now ≤ length places.old }
     requires bits_bound { bits < 64 }
@@ -88,7 +89,7 @@ fn list_at(places: &mut [u32], row: &[u64], at: usize) -> Option<usize>
     ascending(&places[..count]).then_some(count)
 }
 
-// Puts the part at a place; one that is everything leaves the places as they are.
+// Puts the part at a place; one that is everything leaves the places as they are. The places are lent, while `package_part_at` gives a value.
 fn part_at(places: &mut [u32], row: &[u64], at: usize) -> Option<usize>
     requires places_in_bounds { at + (length places.old + 1) ≤ length row.now }
     requires places_len { length places.old ≡ most_listed }

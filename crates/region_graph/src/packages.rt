@@ -47,7 +47,7 @@ pub struct EntryList<'a> {
     pub highest: &'a [u16],
 }
 
-// A part of a filter that is handed in.
+// A part of a filter that is handed in. It is no Option: None would not say that it is everything.
 #[derive(Clone, Copy)]
 pub enum PartList<T> {
     Everything,

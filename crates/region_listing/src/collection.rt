@@ -20,7 +20,7 @@ pub struct Collection {
 }
 
 impl Collection {
-    // What a list has joins the collection, each unless it is there.
+    // What a list has joins the collection, each unless it is there. An item stands in two columns, so that it goes by place.
     fn join(&mut self, list: &Packages)
         requires collected { Collected self.old (items_in self.old) }
         requires packages_stored { PackagesStored list.now }

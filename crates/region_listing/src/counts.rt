@@ -22,7 +22,7 @@ fn count_members(counts: &mut [u32; REGIONS], set: u64)
     }
 }
 
-// How many different items of a kind each region sees.
+// How many different items of a kind each region sees. An item stands in two columns, so that it goes by place.
 pub fn seen(graph: &Graph, kind: Kind) -> [u32; REGIONS]
     requires { Valid graph.now }
     ensures { Counted (meaning graph.now) kind result }

@@ -19,9 +19,9 @@ pub use search::regions_seeing;
 // The kinds of items.
 #[derive(Clone, Copy, PartialEq, Eq, Debug)]
 pub enum Kind {
-    Bundle,
-    Package,
-    Service,
+    Bundle = 0,
+    Package = 1,
+    Service = 2,
 }
 
 impl Kind {
@@ -29,11 +29,7 @@ impl Kind {
     pub fn number(self) -> u32
         ensures { result ≡ kind_number self }
     {
-        match self {
-            Kind::Bundle => 0,
-            Kind::Package => 1,
-            Kind::Service => 2,
-        }
+        self as u32
     }
 
     // An item of a kind by its number; a package's has version 0.

@@ -71,7 +71,7 @@ fn layer(pred: &[u64; REGIONS], last: u64, reached: u64) -> u64
     difference(next, reached)
 }
 
-// All layers, from the holders back.
+// All layers, from the holders back. The loop ends in its middle, at the first empty layer.
 pub fn search(pred: &[u64; REGIONS], holders: u64) -> Layers
     requires { RegionSets pred.now × (holders < 2 ^ regions) }
     ensures { Searched pred.now holders result.sets result.deep result.reached }

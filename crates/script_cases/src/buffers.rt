@@ -27,7 +27,7 @@ pub fn places(alloc: Global, count: u32) -> Result<Vec<u32>, AllocError> {
     (FIRST..).take(PLACES.min(count as usize)).collect(alloc)
 }
 
-// The same of places for versions.
+// The same of places for versions: a range of another type and start.
 pub fn version_places(alloc: Global, count: u32) -> Result<Vec<u16>, AllocError> {
     (FIRST_VERSION..)
         .take(PLACES.min(count as usize))

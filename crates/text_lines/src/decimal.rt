@@ -37,7 +37,7 @@ pub fn put_decimal(buffer: &mut [u8], at: usize, number: u32) -> usize
     at + width
 }
 
-// Writes a number and the byte after it; hands back the place after that byte.
+// Writes a number and the byte after it, or nothing; hands back the place after that byte. Two calls could write the number alone.
 pub fn put_field(buffer: &mut [u8], at: usize, number: u32, end: u8) -> usize
     ensures { put result buffer.new ≡ put_outcome buffer.old at (decimal_field number end) }
 {

@@ -44,7 +44,7 @@ pub fn long_at(bytes: &[u8], at: usize, width: usize) -> Option<At<u64>>
     })
 }
 
-// The same for a number in 32 bits.
+// The same for a number in 32 bits, which the cast is proved to fit.
 pub fn number_at(bytes: &[u8], at: usize, width: usize) -> Option<At<u32>>
     ensures { NumberRead bytes.now at width result }
 {

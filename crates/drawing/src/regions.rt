@@ -55,7 +55,6 @@ impl Picture<'_> {
     }
 
     // Asks of each region number whether the set has it.
-    // Asks of each region number whether the set has it.
     pub fn show_regions<W: Write>(&self, out: &mut W) -> io::Result<()> {
         let set = self.graph.region_set();
         for region in 0..REGIONS as u32 {

@@ -15,7 +15,7 @@ const SCRIPT: u64 = 65536;
 // Room for the bytes of a sheet.
 const ROOM: usize = 4096;
 
-// Where the name of a kind and number starts in the sheet, and the name.
+// Where the name of a kind and number starts in the sheet, and the name. A script asks for any kind number.
 fn found(sheet: &[u8], kind: u32, number: u32) -> Result<(usize, &[u8]), Refusal> {
     Ok((
         locate(sheet, kind, number)?.start,
@@ -51,6 +51,7 @@ fn run<W: Write>(out: &mut W, alloc: Global, script: &[u8]) -> io::Result<()> {
     Ok(())
 }
 
+// As in each program of a script: a shared one would bring the heap into `script_text`.
 fn main(rt: HostRuntime) -> io::Result<()> {
     let mut script = Vec::new(rt.alloc());
     rt.reader().take(SCRIPT).read_to_end(&mut script)?;

@@ -48,7 +48,7 @@ pub fn count_at(bytes: &[u8], at: usize, most: usize) -> Option<At<usize>>
     })
 }
 
-// The low 32 bits of a number.
+// The low 32 bits of a number: they are taken first, since a cast that may lose bits is refused.
 pub fn low_word(number: u64) -> u32
     ensures { result ≡ number % 2 ^ 32 }
 {

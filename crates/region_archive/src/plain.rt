@@ -42,7 +42,7 @@ fn plain_connection(connection: &StoredConnection) -> bool
         || all_are(&entries.lowest[..count], LOWEST) && all_are(&entries.highest[..count], HIGHEST)
 }
 
-// Whether all bundles are such.
+// Whether all bundles are such. A line for bundles and one for connections, each with its test.
 fn plain_bundles(bundles: &[StoredBundle]) -> bool
     requires { All BundleFits bundles.now }
     ensures { result ≡ every (λ b. Image.plain_bundle (bundle_in b)) bundles.now }

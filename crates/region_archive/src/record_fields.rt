@@ -17,7 +17,7 @@ pub enum Section {
     Connections(usize),
 }
 
-// The codes of a list, or the sign for everything as the count.
+// The codes of a list, or the sign for everything as the count. There is no heap: it has places for the longest list.
 #[derive(Clone, Copy)]
 pub struct Codes {
     pub count: usize,

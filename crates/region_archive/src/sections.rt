@@ -189,7 +189,7 @@ fn length_at(bytes: &[u8], at: usize) -> Option<At<usize>>
     })
 }
 
-// The regions of an archive, as a set, and how many they are.
+// The regions of an archive, as a set, and how many they are: so many lent places have their numbers.
 #[derive(Clone, Copy)]
 pub struct Regions {
     pub set: u64,

@@ -30,7 +30,8 @@ pub fn forward(bytes: &[u8], out: &mut [u8]) -> Result<usize, Refusal>
     write(&graph, out)
 }
 
-// The older image of the graph that an archive of the latest version means, at the buffer's start.
+// The older image of the graph that an archive of the latest version means, at the buffer's start: the same with other versions and another
+// writer, which a function of both would have to be told.
 pub fn back(bytes: &[u8], out: &mut [u8]) -> Result<usize, Refusal>
     ensures { Backs bytes.now out.old (written_answer result) out.new }
 {

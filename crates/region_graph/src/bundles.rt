@@ -22,6 +22,8 @@ pub struct StoredBundle {
     pub services: Provided,
 }
 
+// A count and places, by the layout of the header for C. Connections have a type of their own: a struct with places of any type has no such
+// layout.
 #[repr(C)]
 #[derive(Clone, Copy)]
 pub struct Bundles {

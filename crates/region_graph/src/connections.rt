@@ -25,6 +25,7 @@ pub struct StoredConnection {
     pub services: Numbers,
 }
 
+// A count and places, by the layout of the header for C.
 #[repr(C)]
 #[derive(Clone, Copy)]
 pub struct Connections {
@@ -32,6 +33,7 @@ pub struct Connections {
     pub items: [StoredConnection; MOST_CONNECTIONS],
 }
 
+// The same of numbers as of entries: each is one match, and the test in it differs.
 impl<'a> PartList<&'a [u32]> {
     pub(crate) fn within(self) -> bool
         ensures { result ≡ part_within (number_part self.entry) }

@@ -41,7 +41,8 @@ fn region_within(number: u64, regions: u64) -> Option<u32>
         .filter(|&region| has(regions, region))
 }
 
-// The codes of the list at a place of the row, where it has at most so many.
+// The codes of the list at a place of the row, where it has at most so many. Each reader of a row asks for the room of its list there: a struct
+// of row and place would ask the same.
 fn codes_at(row: &[u64], at: usize, most: usize) -> Option<&[u64]>
     requires { at + (most + 1) ≤ length row.now }
     ensures { MatchOption result (most < get_or row.now at 0) (λ codes. CodesRead row.now at most codes.now) }
@@ -67,7 +68,8 @@ fn put_heads(places: &mut [u32], codes: &[u64], bits: u32) -> Option<()>
     Some(())
 }
 
-// Puts the 16 bits that stand above the lower bits of each code into the first places.
+// Puts the 16 bits that stand above the lower bits of each code into the first places. They are taken first, since a cast that may lose bits is
+// refused.
 fn put_tails(places: &mut [u16], codes: &[u64], bits: u32)
     requires codes_in_bounds { length codes.now ≤ length places.old }
     requires bits_bound { bits < 64 }

@@ -13,7 +13,7 @@ ghost use Rattle.region_graph.specs.Handed.{package_list, entry_list, entry_part
 use crate::numbers::ascending;
 use crate::size::{EVERYTHING, MOST_LISTED, MOST_PROVIDED};
 
-// What a bundle exports.
+// What a bundle exports, by the layout of the header for C.
 #[repr(C)]
 #[derive(Clone, Copy)]
 pub struct Packages {
@@ -22,7 +22,7 @@ pub struct Packages {
     pub versions: [u16; MOST_PROVIDED],
 }
 
-// A package part: its entries, or the count EVERYTHING and no entries.
+// A package part, by the layout of the header for C: its entries, or the count EVERYTHING and no entries.
 #[repr(C)]
 #[derive(Clone, Copy)]
 pub struct Entries {

@@ -21,7 +21,7 @@ pub fn singleton(region: u32) -> u64
     if is_region(region) { 1 << region } else { 0 }
 }
 
-// Whether a region is in a set.
+// Whether a region is in a set: whether its digit, as specs/Sets has it, is 1.
 pub fn has(set: u64, region: u32) -> bool
     ensures { result ≡ Sets.has set region }
 {

@@ -153,6 +153,7 @@ impl Graph {
         sets
     }
 
+    // Counts, and elements by index: two fields, a line each.
     pub fn bundle_count(&self) -> usize
         requires { Valid self.now }
         ensures { result ≡ length (meaning self.now).bundles }

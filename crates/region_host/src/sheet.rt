@@ -1,4 +1,4 @@
-// The name of a kind and number in a name sheet.
+// The name of a kind and number in a name sheet. C hands in any number as a kind's.
 ghost use Rattle.region_host.specs.CNames.{NamedForC};
 
 use crate::answers::negative;

@@ -40,7 +40,7 @@ impl Collection {
     }
 }
 
-// What a bundle brings to its region, of a kind.
+// What a bundle brings to its region, of a kind, which chooses a part of the record.
 fn provided_by(b: &StoredBundle, kind: Kind) -> Packages
     requires { BundleStored b.now }
     ensures { PackagesStored result × (packages_of result ≡ provided kind (bundle_in b.now)) }

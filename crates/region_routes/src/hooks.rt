@@ -151,7 +151,7 @@ fn event(
     Ok(written)
 }
 
-// The bundles among the candidates that a bundle sees.
+// The bundles among the candidates that a bundle sees. The hooks keep their names: each is one call with its kind.
 pub fn bundle_find(
     graph: &Graph,
     location: u32,

@@ -104,7 +104,7 @@ pub struct ItemSearch {
     pub layers: Layers,
 }
 
-// Where a route for an item may end: in each region that holds it, or in one region alone.
+// Where a route for an item may end: in each region that holds it, or in one region alone. Two cases, a line each where it is asked.
 #[derive(Clone, Copy)]
 pub enum Ends {
     Holders,

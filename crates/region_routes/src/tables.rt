@@ -51,7 +51,7 @@ fn number_in(entry: u64) -> u64
     entry / WIDTH
 }
 
-// The place that goes with the number of an entry.
+// The place that goes with the number of an entry. The casts here and below are proved to fit: `try_from` would add a branch that nothing takes.
 fn place_in(entry: u64) -> u32
     ensures { result ≡ Tables.place_in entry }
 {
@@ -72,7 +72,7 @@ fn is_between(version: u16, span: u64) -> bool
     (number_in(span)..=u64::from(place_in(span))).contains(&u64::from(version))
 }
 
-// The numbers that a stored bundle brings to its region.
+// The numbers that a stored bundle brings to its region: the kind chooses a part of the record, and no step.
 fn provided(b: &StoredBundle, kind: Kind) -> &[u32]
     requires { BundleStored b.now }
     ensures { result.now ≡ Tables.provided_numbers (kind_number kind) (bundle_in b.now) }
@@ -195,7 +195,7 @@ impl Table {
         }
     }
 
-    // Puts what a connection passes, with its two ends.
+    // Puts what a connection passes, with its two ends: the kind chooses a part of the filter, and no step.
     fn put_passage(&mut self, c: &StoredConnection, kind: Kind)
         requires stored { ConnectionStored c.now }
         requires inside { (c.now.source < regions) × (c.now.target < regions) }

@@ -13,7 +13,7 @@ fn digits(number: u32) -> usize
     number.max(1).ilog10() as usize + 1
 }
 
-// Writes the last digits of a number, the last one first.
+// Writes the last digits of a number, the last one first. A digit is taken before it is cast: a cast that may lose bits is refused.
 fn put_digits(buffer: &mut [u8], at: usize, width: usize, number: u32)
     requires { at + width ≤ length buffer.old }
     ensures { WrittenAt buffer.old buffer.new at (last_digits width number) (at + width) }

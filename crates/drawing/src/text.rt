@@ -105,8 +105,8 @@ impl fmt::Display for Versions {
     }
 }
 
-// A list of items of a kind, in the columns of the record, on lines with a margin. Where it has no highest versions, the lowest are those of packages; where it has
-// neither, the items have no versions.
+// A list of items of a kind, in the columns of the record, on lines with a margin. Where it has no highest versions, the lowest are those of
+// packages; where it has neither, the items have no versions.
 #[derive(Clone, Copy)]
 pub struct List<'a> {
     pub kind: Kind,

@@ -11,7 +11,7 @@ use Rattle.std.specs.Bool.{then_some}
 use Rattle.std.proofs.lemmas.Option.{none-some, same_Some}
 use lib.ListN.{length, get_or, take, drop, set, replicate, length-map}
 use lib.Seq.{take_at}
-use borrow.Author.Tests.{eqb-true, eq-eqb, lt-ltb, le-ltb}
+use borrow.Author.Tests.{eqb-true, eq-eqb, lt-ltb}
 use Rattle.region_graph.specs.Size.{regions, most_provided, most_listed}
 use Rattle.region_graph.specs.Lists.{All, every, ascends, member, count_from}
 use Rattle.region_graph.specs.Sets.{has, members}
@@ -54,12 +54,6 @@ module _ (unit : ℕ) (codes : List ℕ) {old : List ℕ} where
     heads_next l w = record {
       making = making_next s.making 0 l refl;
       fit = every_also (word_head unit) codes i 0 l true s.fit ∙ rw (lt-ltb (head_from unit (get_or codes i 0)) (2 ^ 32) w);
-    }
-
-    pub heads_stop : i < length codes → 2 ^ 32 ≤ head_from unit (get_or codes i 0) → HeadsPut unit codes old None new
-    heads_stop l w = record {
-      fit = rw (every_also (word_head unit) codes i 0 l true s.fit, le-ltb (head_from unit (get_or codes i 0)) (2 ^ 32) w);
-      those = λ e. absurd (none-some tt e);
     }
 
     pub heads_end : length codes ≤ i → HeadsPut unit codes old (Some tt) new

@@ -3,7 +3,7 @@ use mathlib.Core.Path.{◌≡◌, refl, sym, ap, ap₂, ◌∙◌, subst}
 use mathlib.Core.Bool.{Bool, true, false, ◌&&◌, ◌||◌, and-true, and-false, or-false}
 use mathlib.Core.List.{List, [], ◌∷◌, map}
 use Rattle.std.specs.Prelude.{Option, Some, None, option_map, cond}
-use Rattle.std.specs.List.{find, list_any}
+use Rattle.std.specs.List.{find}
 use Rattle.std.specs.Option.{MatchOption, is_some}
 use denote.Ref.{Bor}
 use Prim.Native.Nat.{ℕ, zero, suc, ◌+◌, ◌≤◌, ◌<◌}
@@ -18,7 +18,7 @@ use Rattle.region_graph.specs.Size.{regions}
 use Rattle.region_graph.specs.Lists.{pick, exists, count_from, All}
 use Rattle.region_graph.specs.Sets.{singleton, set_of}
 use Rattle.region_graph.specs.Model.{Bundle, Connection, Filter, LegalConnection}
-use Rattle.region_graph.specs.Calls.{at_location, joins}
+use Rattle.region_graph.specs.Calls.{at_location}
 use Rattle.region_graph.specs.Items.{provides_of, passes_of, provides, passes}
 use Rattle.region_graph.specs.Record.{Valid, meaning, no_bundle, no_connection, store_bundle, bundle_in, store_connection, connection_in}
 use Rattle.region_graph.specs.Places.{ShortBundle, ShortConnection, BundleStored, ConnectionStored}
@@ -375,12 +375,3 @@ place_some l (b ∷ bs) = go (at_location l b) (place_some l bs)
         → is_some (pick t (Some b.region) (place_of bs l)) ≡ (t || exists (at_location l) bs)
     go true h = refl
     go false h = h
-
--- what `any` answers of the connections' places
-pub some_joins : (r t : ℕ) (cs : List Connection) {items : List StoredConnection} → items ≡ map store_connection cs
-    → list_any (λ c. joins r t (connection_in c)) items ≡ exists (joins r t) cs
-some_joins r t cs s = ap (list_any (λ c. joins r t (connection_in c))) s ∙ go cs
-  where
-    go : (ds : List Connection) → list_any (λ c. joins r t (connection_in c)) (map store_connection ds) ≡ exists (joins r t) ds
-    go [] = refl
-    go (d ∷ ds) = ap (λ (b : Bool). joins r t d || b) (go ds)

@@ -15,15 +15,15 @@ abbrev pub entry_list : EntryList → List PackageEntry
 entry_list e = entries e.numbers.now e.lowest.now e.highest.now
 
 -- a part of a filter, by what each listed value stands for
-abbrev pub part_of : {A B : Type 0} → (A → List B) → PartList A → Part B
-part_of list PartList.Everything = Part.everything
-part_of list (PartList.Listed a) = Part.listed (list a)
+abbrev pub handed_part : {A B : Type 0} → (A → List B) → PartList A → Part B
+handed_part list PartList.Everything = Part.everything
+handed_part list (PartList.Listed a) = Part.listed (list a)
 
 abbrev pub entry_part : PartList EntryList → Part PackageEntry
-entry_part p = part_of entry_list p
+entry_part p = handed_part entry_list p
 
 abbrev pub number_part : PartList (Bor (List ℕ)) → Part ℕ
-number_part p = part_of (λ s. s.now) p
+number_part p = handed_part (λ s. s.now) p
 
 -- the bundle and the connection that a call is handed
 abbrev pub handed_bundle : ℕ → ℕ → BundleLists → Bundle

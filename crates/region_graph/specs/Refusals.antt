@@ -1,5 +1,5 @@
--- The numbers of document 01's questions, and of those that requests of document 02 add, each named after the answer "no". The constants
--- of src/refusals.rt go with them.
+-- The numbers of document 01's questions, and of those that requests of document 02 add, each named after the answer "no". The cases of
+-- `Refusal` in src/refusals.rt go with them.
 use Rattle.std.specs.Prelude.{ℕ, Result, Ok, Err}
 use Rattle.region_graph.specs.declared.refusals.Refusal.{Refusal}
 

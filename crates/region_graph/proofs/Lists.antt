@@ -339,6 +339,14 @@ member_all P n (x ∷ xs) h e = go (eqb n x) refl (member_all P n xs h.1) e
     go true f r k = subst P (sym (eqb-true n x f)) h.0
     go false f r k = r k
 
+-- a member is unlike a number that is no member
+pub other_member : (n r : ℕ) (xs : List ℕ) → member n xs ≡ true → member r xs ≡ false → eqb n r ≡ false
+other_member n r xs h k = go (eqb n r) refl
+  where
+    go : (b : Bool) → eqb n r ≡ b → b ≡ false
+    go true e = false_true (sym k ∙ ap (λ (x : ℕ). member x xs) (sym (eqb-true n r e)) ∙ h)
+    go false e = refl
+
 -- the members of a list that are kept
 pub member_kept : (q : ℕ → Bool) (n : ℕ) (xs : List ℕ) → member n (keep q xs) ≡ (member n xs && q n)
 member_kept q n [] = refl

@@ -322,8 +322,13 @@ impl<'a> Chains<'a> {
     pub fn holders(&self, number: u64) -> u64
         ensures { result ≡ Tables.held_in self.now.table.now number }
     {
-        let mut set = 0;
-        for i in self.places(number) {
+        // Most numbers that are asked for have no entry: they are answered before the loop.
+        let mut places = self.places(number);
+        let Some(first) = places.next() else {
+            return 0;
+        };
+        let mut set = singleton(place_in(self.table[first]));
+        for i in places {
             set |= singleton(place_in(self.table[i]));
         }
         set

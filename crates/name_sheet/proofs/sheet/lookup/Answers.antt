@@ -4,14 +4,14 @@ use Prim.Native.Nat.{ℕ, ◌≤◌}
 use native.Mathlib.Omega.{arith}
 use lib.ListN.{length}
 use Rattle.std.specs.Prelude.{Result, Ok}
-use Rattle.std.specs.declared.ops.Range.{Range}
 use Rattle.region_graph.specs.declared.refusals.Refusal.{Refusal}
+use Rattle.name_sheet.specs.declared.sheet.NamePlace.{NamePlace}
 use Rattle.name_sheet.specs.Promise.{Located, located_by, located, Locates}
 use Rattle.name_sheet.proofs.Meaning.{sheet_meaning, part_ordered, part_within}
 use Rattle.name_sheet.proofs.sheet.lookup.Goals as goal
 
 -- what was located lies in the sheet
-inside : (s : List ℕ) (kind number : ℕ) (r : Result (Range ℕ) Refusal) (part : Range ℕ) → r ≡ Ok part → Locates s kind number r
+inside : (s : List ℕ) (kind number : ℕ) (r : Result NamePlace Refusal) (part : NamePlace) → r ≡ Ok part → Locates s kind number r
     → (part.start ≤ part.end) × (part.end ≤ length s)
 inside s kind number r part e h =
     let f = sheet_meaning s in

@@ -44,3 +44,11 @@ pub record LookedUp {bytes : List ℕ} (f : SheetMeaning bytes) (s : Bor (List �
 
 abbrev pub LooksUp : Bor (List ℕ) → ℕ → ℕ → Result (Bor (List ℕ)) Refusal → Type 0
 LooksUp s kind number r = (f : SheetMeaning s.now) → LookedUp f s kind number r
+
+-- a lookup in the lent sheet s handed back a part in any case, and the number n; where it is refused, the part is the empty one at the start
+pub record PartLookedUp {bytes : List ℕ} (f : SheetMeaning bytes) (s : Bor (List ℕ)) (kind number : ℕ) (r : Bor (List ℕ)) (n : ℕ) : Type 0 where
+  pub refusal : n ≡ (located f kind number).refusal
+  pub part : PartOf s (located f kind number).from (located f kind number).to r
+
+abbrev pub LooksUpPart : Bor (List ℕ) → ℕ → ℕ → Bor (List ℕ) × Result (Unit {0}) Refusal → Type 0
+LooksUpPart s kind number r = (f : SheetMeaning s.now) → PartLookedUp f s kind number r.0 (answer_number r.1)

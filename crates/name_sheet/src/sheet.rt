@@ -1,6 +1,6 @@
 // Looking up a name.
 ghost use Rattle.std.specs.Prelude.{◌≡◌, ◌-◌};
-ghost use Rattle.name_sheet.specs.Promise.{Locates, LooksUp};
+ghost use Rattle.name_sheet.specs.Promise.{Locates, LooksUp, LooksUpPart};
 ghost use Rattle.name_sheet.specs.Reading.{FrontRead, StartsAsSheet};
 
 use crate::entries::entry_at;
@@ -77,4 +77,14 @@ pub fn lookup(sheet: &[u8], kind: u32, number: u32) -> Result<&[u8], Refusal>
 {
     let part = locate(sheet, kind, number)?;
     Ok(&sheet[part.start..part.end])
+}
+
+// The part of the sheet that holds a name, and the answer. Where a lookup is refused, the part is the empty one at the sheet's start.
+pub fn lookup_part(sheet: &[u8], kind: u32, number: u32) -> (&[u8], Result<(), Refusal>)
+    ensures { LooksUpPart sheet.entry kind number result }
+{
+    match locate(sheet, kind, number) {
+        Ok(part) => (&sheet[part.start..part.end], Ok(())),
+        Err(refusal) => (&sheet[..0], Err(refusal)),
+    }
 }

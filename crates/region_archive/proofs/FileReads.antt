@@ -4,7 +4,7 @@ use mathlib.Core.Bool.{Bool, true, false, ◌&&◌}
 use mathlib.Core.List.{List, [], ◌∷◌, ◌++◌, append-nil}
 use Prim.Native.Nat.{ℕ, ◌+◌, ◌-◌, ◌*◌, ◌^◌, ◌≤◌, ◌<◌}
 use native.Mathlib.Omega.{arith}
-use borrow.Author.Tests.{le-leb, lt-leb, eq-eqb, ne_eqb, eqb-true, leb-true}
+use borrow.Author.Tests.{le-leb, lt-leb, eq-eqb, ne_eqb, eqb-true, eqb-false, leb-true}
 use lib.Dec.{eqb, leb}
 use lib.ListN.{length, drop, get_or}
 use lib.Seq.{drop-length}
@@ -221,3 +221,14 @@ module _ {s : List ℕ} where
     valid = r.valid;
     says = λ f. let n = (r.says f).number in record { number = n; next = rw (← n) at (r.says f).next };
   }
+
+  -- a read over the empty record gives what the file means, or the empty record again
+  pub over_empty : {g : Graph} {r : Changed} → Empty g → ReadsOver g s r → Reads s r
+  over_empty {g} {r} e a = record {
+    valid = a.valid;
+    says = λ f. record { number = (a.says f).number; next = (a.says f).next ∙ go f (eqb (read_number f) not_refused) refl };
+  }
+    where
+      go : (f : FileMeaning s) (b : Bool) → eqb (read_number f) not_refused ≡ b → pick b (read_model f) (meaning g) ≡ read_model f
+      go f true q = refl
+      go f false q = e.model ∙ sym (refused_model f (eqb-false (read_number f) not_refused q))

@@ -16,6 +16,7 @@ use Rattle.region_graph.specs.Model.{nothing, package_before, entry_before, orde
 use Rattle.region_graph.specs.Calls.{Call, Question, first_no, end_questions, questions, number, accepted, after, run, is_region, at_location}
 use Rattle.region_graph.specs.Calls.{in_region, joins, touches, within, of_listed, part_within}
 use Rattle.region_graph.specs.Places.{ShortPart}
+use Rattle.region_graph.specs.Promise.{new_part}
 use Rattle.region_graph.proofs.Lists.{eqb_sym, and_fst, and_snd, false_true, pick_yes, keep_length, exists_insert, insert_length, exists_none}
 use Rattle.region_graph.proofs.Lists.{all_map, all_kept, all_insert, keep_all, member_all, other_member, member_kept, and_yes}
 use Rattle.region_graph.proofs.Ascending.{Strict, Rising, or_right, ascends_rising, ascends_keep, ascends_insert, strict_numbers, strict_bundles}
@@ -385,6 +386,11 @@ module _ (m : Model) (l : Legal m) where
           none_joins r s
           (λ z. let h = all_yes (end_questions m.regions r s) (refl, (refl, (refl, tt))) z in u (rw (h.0, h.1.0, h.1.1.0, e)))
       absent false e = exists_none (joins r s) m.connections e
+
+-- a part that was handed over as a flag and a list
+pub part_each : {A : Type 0} (P : A → Type 0) (all : Bool) (xs : List A) → All P xs → PartAll P (new_part all xs)
+part_each P true xs h = tt
+part_each P false xs h = h
 
 -- a part that is within its count
 pub part_short : {A : Type 0} (p : Part A) → part_within p ≡ true → ShortPart p

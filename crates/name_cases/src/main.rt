@@ -4,7 +4,7 @@
 
 ghost use Rattle.std.specs.Prelude.{◌≤◌, vec_len};
 
-use name_sheet::{locate, lookup};
+use name_sheet::{locate, lookup, lookup_part};
 use region_graph::refusals::Refusal;
 use script_text::{Hex, append_hex, has_bytes, value, word};
 use std::alloc::Global;
@@ -25,11 +25,14 @@ fn found(sheet: &[u8], kind: u32, number: u32) -> Result<(usize, &[u8]), Refusal
     ))
 }
 
-// The answer to a lookup: its number, and of the part where it starts, its length and its bytes.
+// The answer to a lookup: its number, and of the part where it starts, its length and its bytes. A refused one has an empty part at 0.
 fn answer<W: Write>(out: &mut W, sheet: &[u8], kind: u32, number: u32) -> io::Result<()> {
     match found(sheet, kind, number) {
         Ok((start, name)) => writeln!(out, "0 {start} {} {}", name.len(), Hex(name)),
-        Err(refusal) => writeln!(out, "{} 0 0 -", refusal.number()),
+        Err(refusal) => {
+            let (part, _) = lookup_part(sheet, kind, number);
+            writeln!(out, "{} 0 {} {}", refusal.number(), part.len(), Hex(part))
+        }
     }
 }
 

@@ -57,7 +57,7 @@ fn run<W: Write>(out: &mut W, alloc: Global, script: &[u8]) -> io::Result<()> {
     Ok(())
 }
 
-// As in each program of a script: a shared one would bring the heap into `script_text`.
+// As in each program of a script: a shared one would bring the streams of the host into `script_text`.
 fn main(rt: HostRuntime) -> io::Result<()> {
     let mut script = Vec::new(rt.alloc());
     rt.reader().take(SCRIPT).read_to_end(&mut script)?;

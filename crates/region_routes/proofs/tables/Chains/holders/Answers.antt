@@ -29,7 +29,7 @@ loop-i-init c =
     let es = c.args.self.now.table.now in
     let s : c.singleton-set.result ≡ singleton _ = c.singleton-set.ensures ∙ ap singleton c.place_in.ensures in
     let w : Walking (length es) (fold (with_holder es) c.singleton-set.result) (held_in es c.args.number) _ =
-        walking_next (walk es c.args.number c.places-places.ensures) c.in-Some.ensures.steps (rw s refl) in
+    walking_next (walk es c.args.number c.places-places.ensures) c.in-Some.ensures.steps (rw s refl) in
     rw c.into_iter-i-iterator.ensures.into_iter_gives w
 
 pub bounds-self-i : goal.bounds-self-i

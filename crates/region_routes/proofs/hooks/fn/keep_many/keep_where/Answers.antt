@@ -18,5 +18,5 @@ returns-else-seeing-ne0 c =
     let r = c.captures.region in
     let none : has 0 r ≡ false = rw (lt-ltb r regions c.requires, bit_zero r) refl in
     λ m k t.
-        rw c.if-seeing-ne0.false
-        (sym (has_by (sees m (item k c.args.number 0)) r (sym c.if-seeing-ne0.false ∙ c.regions_seeing-seeing.ensures m k t) c.requires (sym none) refl))
+    rw c.if-seeing-ne0.false
+    (sym (has_by (sees m (item k c.args.number 0)) r (sym c.if-seeing-ne0.false ∙ c.regions_seeing-seeing.ensures m k t) c.requires (sym none) refl))

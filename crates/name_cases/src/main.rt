@@ -50,7 +50,7 @@ fn obey<W: Write>(out: &mut W, sheet: &mut Vec<u8>, line: &[u8]) -> io::Result<(
 }
 
 fn run<W: Write>(out: &mut W, alloc: Global, script: &[u8]) -> io::Result<()> {
-    let mut sheet = Vec::new(alloc);
+    let mut sheet = Vec::with_capacity(alloc, ROOM)?;
     for line in script.split(|byte| *byte == b'\n') {
         obey(out, &mut sheet, line)?;
     }

@@ -2,8 +2,10 @@
 // write one. The file `stdout` has the answers.
 #![tactic(auto)]
 
+ghost use Rattle.std.specs.Prelude.{◌≤◌, vec_len, IfOk};
+
 use region_convert::{back, forward};
-use script_text::{Answer, Hex, put_hex, value, word};
+use script_text::{Answer, Hex, append_hex, value, word};
 use std::alloc::{AllocError, Global};
 use std::io;
 use std::io::{BufWriter, Read, Write};
@@ -18,10 +20,11 @@ const ROOM: usize = 1024;
 const BEFORE: u8 = 0xA5;
 
 // The bytes that a text has in hex, as many as have room.
-fn bytes_of(alloc: Global, text: &[u8]) -> Result<Vec<u8>, AllocError> {
-    let mut bytes = vec![in alloc; 0u8; ROOM]?;
-    let count = put_hex(&mut bytes, text);
-    bytes.truncate(count);
+fn bytes_of(alloc: Global, text: &[u8]) -> Result<Vec<u8>, AllocError>
+    ensures { IfOk result (λ bytes. vec_len bytes ≤ ROOM) }
+{
+    let mut bytes = Vec::new(alloc);
+    append_hex(&mut bytes, text, ROOM)?;
     Ok(bytes)
 }
 
@@ -47,7 +50,7 @@ fn run<W: Write>(out: &mut W, alloc: Global, script: &[u8]) -> io::Result<()> {
     Ok(())
 }
 
-// As in each program of a script: a shared one would bring the heap into `script_text`.
+// As in each program of a script: a shared one would bring the streams of the host into `script_text`.
 fn main(rt: HostRuntime) -> io::Result<()> {
     let mut script = Vec::new(rt.alloc());
     rt.reader().take(SCRIPT).read_to_end(&mut script)?;

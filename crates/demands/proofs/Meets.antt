@@ -50,6 +50,7 @@ value_changes (value.by_disconnect κs was is r s a p) = p
 value_reads : {s : List ℕ} {g h : Graph} {n : ℕ} → value.ValueRead s g n h → ReadsOver g s (record { graph = h; number = n })
 value_reads (value.by_read κs bytes g (Ok h) e p) = read_over_empty e p
 value_reads (value.by_read κs bytes g (Err refusal) e p) = read_over_empty e (refused_read refusal e p)
+value_reads (value.by_read_anew κs was is bytes g a e p) = read_over_empty e p
 value_reads (value.by_read_over κs was is bytes a p) = p
 
 value_writes : {g : Graph} {entry exit : List ℕ} {a : Written} → value.ValueWrite g entry a exit

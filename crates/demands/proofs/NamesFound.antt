@@ -21,7 +21,7 @@ use Rattle.name_sheet.proofs.Meaning.{sheet_meaning, part_ordered, part_within, 
 use Rattle.region_host.specs.CNumbers.{negative, read_back}
 use Rattle.region_host.specs.CNames.{CName, name_for_c}
 use Rattle.region_host.proofs.ReadBack.{count_back, number_back}
-use Rattle.demands.specs.Names.{Lookup, named, unnamed, lookup_refusal, NameIn, NamesGiven, given_as, ValueLookup, by_locate, by_lookup}
+use Rattle.demands.specs.Names.{Lookup, named, unnamed, lookup_refusal, NameIn, NamesGiven, given_as, ValueLookup, by_locate, by_lookup, by_lookup_part}
 use Rattle.demands.specs.Names.{LentLookup, by_region_name, StartKept}
 
 -- the number of what is given
@@ -94,6 +94,15 @@ value_given (by_lookup κs s kind number from (Err refusal) p at) f =
     let q = p f in
     sym (pick_no (named r.from (r.to - r.from)) (unnamed (refusal_number refusal)) (ne_eqb (refusal_number refusal) not_refused (refusal_numbered refusal)))
     ∙ (λ i. pick (eqb (q.refusal i) not_refused) (named r.from (r.to - r.from)) (unnamed (q.refusal i)))
+value_given (by_lookup_part κs s kind number from r p at) f =
+    let l = located f kind number in
+    let q = p f in
+    let size : length r.0.now ≡ l.to - l.from =
+    ap length q.part.bytes
+    ∙ length-take-le (l.to - l.from) (drop l.from s.now) (omega (arith, length-drop l.from s.now, part_within f kind number)) in
+    let start : from ≡ l.from = omega (arith, at, q.part.offset) in
+    let end : from + length r.0.now ≡ l.to = omega (arith, start, size, part_ordered f kind number) in
+    λ i. given_as (record { refusal = q.refusal i; from = start i; to = end i })
 
 pub names_by_value : NamesGiven ValueLookup
 names_by_value = given_names (record { gives = value_given })

@@ -28,6 +28,7 @@ use Rattle.region_routes.proofs.service_event.Reads as service_event
 use Rattle.region_routes.proofs.resolve.Reads as resolve
 use Rattle.region_archive.specs.Promise.{Written, written_answer, query_number}
 use Rattle.region_archive.proofs.read.Reads as read
+use Rattle.region_archive.proofs.read_anew.Reads as read_anew
 use Rattle.region_archive.proofs.read_over.Reads as read_over
 use Rattle.region_archive.proofs.write.Reads as write
 use Rattle.region_archive.proofs.archive_query.Reads as archive_query
@@ -55,11 +56,14 @@ abbrev pub read_graph : Graph → Result Graph Refusal → Graph
 read_graph empty (Ok g) = g
 read_graph empty (Err refusal) = empty
 
--- `read` hands back a record, `read_over` leaves the one that it was lent changed or as it was
+-- `read` hands back a record; `read_anew` leaves the lent one changed, and an empty one where it refuses; `read_over` leaves it changed or as it was
 pub data ValueRead : List ℕ → Graph → ℕ → Graph → Type 0 where
   by_read : (κs : Lfts 1) (bytes : Bor (List ℕ)) (g : Graph) (a : Result Graph Refusal) → empty.Learnt tt tt g tt
       → read.Learnt κs (bytes, tt) a (bytes, tt)
       → ValueRead bytes.now g (answer_number a) (read_graph g a)
+  by_read_anew : (κs : Lfts 2) (was is : MutBor Graph) (bytes : Bor (List ℕ)) (g : Graph) (a : Result Unit Refusal) → empty.Learnt tt tt g tt
+      → read_anew.Learnt κs (was, (bytes, tt)) a (is, (bytes, tt))
+      → ValueRead bytes.now g (answer_number a) is.now
   by_read_over : (κs : Lfts 2) (was is : MutBor Graph) (bytes : Bor (List ℕ)) (a : Result Unit Refusal)
       → read_over.Learnt κs (was, (bytes, tt)) a (is, (bytes, tt))
       → ValueRead bytes.now was.now (answer_number a) is.now

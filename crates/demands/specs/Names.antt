@@ -2,16 +2,17 @@
 use Rattle.std.specs.Prelude.{◌≡◌, false, List, ◌∷◌, ◌++◌, ℕ, ◌+◌, ◌-◌, ◌^◌, ◌≤◌, eqb, length, Result, Ok, Err, IfOk}
 use contract.Lifetimes.{Lfts}
 use Rattle.std.specs.Borrow.{Bor, MutBor}
-use Rattle.std.specs.declared.ops.Range.{Range}
-use Rattle.region_graph.specs.Refusals.{not_refused, broken_sheet, no_entry, refusal_number}
+use Rattle.region_graph.specs.Refusals.{not_refused, broken_sheet, no_entry, refusal_number, answer_number}
 use Rattle.region_graph.specs.declared.refusals.Refusal.{Refusal}
 use Rattle.region_graph.specs.Lists.{pick, exists}
 use Rattle.region_graph.specs.Calls.{first_no}
 use Rattle.name_sheet.specs.Sheet.{Entry, LegalEntries, sheet}
 use Rattle.name_sheet.specs.File.{SheetMeaning, matches, lookup_questions}
 use Rattle.name_sheet.specs.Promise.{Located, located_by, between}
+use Rattle.name_sheet.specs.declared.sheet.NamePlace.{NamePlace}
 use Rattle.name_sheet.proofs.locate.Reads as locate
 use Rattle.name_sheet.proofs.lookup.Reads as lookup
+use Rattle.name_sheet.proofs.lookup_part.Reads as lookup_part
 use Rattle.region_host.specs.CNumbers.{read_back}
 use Rattle.region_host.proofs.region_name.Reads as region_name
 
@@ -57,11 +58,14 @@ given_part from (Ok part) = named from (length part.now)
 given_part from (Err refusal) = unnamed (refusal_number refusal)
 
 pub data ValueLookup : List ℕ → ℕ → ℕ → Lookup → Type 0 where
-  by_locate : (κs : Lfts 1) (s : Bor (List ℕ)) (kind number : ℕ) (r : Result (Range ℕ) Refusal)
+  by_locate : (κs : Lfts 1) (s : Bor (List ℕ)) (kind number : ℕ) (r : Result NamePlace Refusal)
       → locate.Learnt κs (s, (kind, (number, tt))) r (s, (kind, (number, tt))) → ValueLookup s.now kind number (given_as (located_by r))
   by_lookup : (κs : Lfts 1) (s : Bor (List ℕ)) (kind number from : ℕ) (r : Result (Bor (List ℕ)) Refusal)
       → lookup.Learnt κs (s, (kind, (number, tt))) r (s, (kind, (number, tt))) → IfOk r (λ part. part.ref_ptr.1 ≡ s.ref_ptr.1 + from)
       → ValueLookup s.now kind number (given_part from r)
+  by_lookup_part : (κs : Lfts 1) (s : Bor (List ℕ)) (kind number from : ℕ) (r : Bor (List ℕ) × Result Unit Refusal)
+      → lookup_part.Learnt κs (s, (kind, (number, tt))) r (s, (kind, (number, tt))) → r.0.ref_ptr.1 ≡ s.ref_ptr.1 + from
+      → ValueLookup s.now kind number (given_as (record { refusal = answer_number r.1; from = from; to = from + length r.0.now }))
 
 -- for C: what it reads in the number, with the start that was written
 pub data LentLookup : List ℕ → ℕ → ℕ → Lookup → Type 0 where

@@ -2,10 +2,12 @@
 // to write one. The file `stdout` has the answers.
 #![tactic(auto)]
 
-use name_sheet::{locate, lookup};
+ghost use Rattle.std.specs.Prelude.{◌≤◌, vec_len};
+
+use name_sheet::{locate, lookup, lookup_part};
 use region_graph::refusals::Refusal;
-use script_text::{Hex, has_bytes, put_hex, value, word};
-use std::alloc::{AllocError, Global};
+use script_text::{Hex, append_hex, has_bytes, value, word};
+use std::alloc::Global;
 use std::io;
 use std::io::{BufWriter, Read, Write};
 
@@ -23,35 +25,39 @@ fn found(sheet: &[u8], kind: u32, number: u32) -> Result<(usize, &[u8]), Refusal
     ))
 }
 
-// The answer to a lookup: its number, and of the part where it starts, its length and its bytes.
+// The answer to a lookup: its number, and of the part where it starts, its length and its bytes. A refused one has an empty part at 0.
 fn answer<W: Write>(out: &mut W, sheet: &[u8], kind: u32, number: u32) -> io::Result<()> {
     match found(sheet, kind, number) {
         Ok((start, name)) => writeln!(out, "0 {start} {} {}", name.len(), Hex(name)),
-        Err(refusal) => writeln!(out, "{} 0 0 -", refusal.number()),
+        Err(refusal) => {
+            let (part, _) = lookup_part(sheet, kind, number);
+            writeln!(out, "{} 0 {} {}", refusal.number(), part.len(), Hex(part))
+        }
     }
 }
 
-// Adds the bytes of a line to a sheet, as many as have room.
-fn add(alloc: Global, sheet: &mut Vec<u8>, line: &[u8]) -> Result<(), AllocError> {
-    let mut bytes = vec![in alloc; 0u8; ROOM.saturating_sub(sheet.len())]?;
-    let count = put_hex(&mut bytes, line);
-    sheet.extend_from_slice(&bytes[..count])
-}
-
-fn run<W: Write>(out: &mut W, alloc: Global, script: &[u8]) -> io::Result<()> {
-    let mut sheet = Vec::new(alloc);
-    for line in script.split(|byte| *byte == b'\n') {
-        match word(line, 0) {
-            b"lookup" => answer(out, &sheet, value(line, 1), value(line, 2))?,
-            b"sheet" => sheet.clear(),
-            _ if has_bytes(line) => add(alloc, &mut sheet, line)?,
-            _ => {}
-        }
+// Obeys a line on the sheet: `lookup` answers, `sheet` starts one with no bytes, a line that has bytes adds them, as many as have room.
+fn obey<W: Write>(out: &mut W, sheet: &mut Vec<u8>, line: &[u8]) -> io::Result<()>
+    ensures { vec_len sheet.old ≤ ROOM → vec_len sheet.new ≤ ROOM }
+{
+    match word(line, 0) {
+        b"lookup" => answer(out, sheet, value(line, 1), value(line, 2))?,
+        b"sheet" => sheet.clear(),
+        _ if has_bytes(line) => append_hex(sheet, line, ROOM)?,
+        _ => {}
     }
     Ok(())
 }
 
-// As in each program of a script: a shared one would bring the heap into `script_text`.
+fn run<W: Write>(out: &mut W, alloc: Global, script: &[u8]) -> io::Result<()> {
+    let mut sheet = Vec::with_capacity(alloc, ROOM)?;
+    for line in script.split(|byte| *byte == b'\n') {
+        obey(out, &mut sheet, line)?;
+    }
+    Ok(())
+}
+
+// As in each program of a script: a shared one would bring the streams of the host into `script_text`.
 fn main(rt: HostRuntime) -> io::Result<()> {
     let mut script = Vec::new(rt.alloc());
     rt.reader().take(SCRIPT).read_to_end(&mut script)?;

@@ -1,6 +1,6 @@
 -- Each file means something as a sheet; the part that a lookup gives lies in the file and has the bytes of the name; each entry's own name is
 -- found.
-use mathlib.Core.Path.{◌≡◌, refl, sym, ap, ◌∙◌}
+use mathlib.Core.Path.{◌≡◌, refl, sym, ap, subst, ◌∙◌}
 use mathlib.Core.Bool.{Bool, true, false}
 use mathlib.Core.List.{List, [], ◌∷◌, ◌++◌}
 use mathlib.Core.Logic.{⊎_elim}
@@ -10,6 +10,8 @@ use borrow.Author.Tests.{ltb-true, eq-eqb, eqb-true}
 use lib.Dec.{eqb}
 use lib.ListN.{length, take, drop, length-append, length-drop}
 use lib.Seq.{length-take-le, drop-drop, drop_at, take_at}
+use Rattle.std.specs.Prelude.{Result, Ok}
+use Rattle.region_graph.specs.declared.refusals.Refusal.{Refusal}
 use Rattle.region_graph.specs.Lists.{pick, exists, All, ascends}
 use Rattle.region_graph.proofs.Lists.{and_yes, and_fst, and_snd}
 use Rattle.region_graph.proofs.Ascending.{or_right}
@@ -18,7 +20,8 @@ use Rattle.big_endian.proofs.SomeOrNone.{some_or_none}
 use Rattle.name_sheet.specs.Sheet.{greatest_kind, longest_name}
 use Rattle.name_sheet.specs.Sheet.{Entry, Printable, LegalSheetEntry, LegalEntries, sheet_entry_before, entry_bytes, entries_bytes, sheet}
 use Rattle.name_sheet.specs.File.{SheetMeaning, means, means_none, Span, sheet_entries, matches, name_span, front_length, head_length}
-use Rattle.name_sheet.specs.Promise.{located, between}
+use Rattle.name_sheet.specs.declared.sheet.NamePlace.{NamePlace}
+use Rattle.name_sheet.specs.Promise.{Located, located_by, located, Locates, between}
 use Rattle.name_sheet.proofs.EntryLaws.{entry_length, key, entry_elements}
 use Rattle.name_sheet.proofs.OneSheet.{sheet_rest, sheet_length, entries_read, entries_back}
 
@@ -103,6 +106,14 @@ module _ {s : List ℕ} (f : SheetMeaning s) (kind number : ℕ) where
 pub part_within : {s : List ℕ} (f : SheetMeaning s) (kind number : ℕ) → (located f kind number).to ≤ length s
 part_within (means es l e) kind number = omega (arith, span_within kind number front_length es, sheet_length es, ap length e)
 part_within (means_none n) kind number = omega arith
+
+-- what was located lies in the sheet
+pub located_inside : (s : List ℕ) (kind number : ℕ) (r : Result NamePlace Refusal) (part : NamePlace) → r ≡ Ok part → Locates s kind number r
+    → (part.start ≤ part.end) × (part.end ≤ length s)
+located_inside s kind number r part e h =
+    let f = sheet_meaning s in
+    subst (λ (l : Located). (l.from ≤ l.to) × (l.to ≤ length s)) (sym (subst (λ q. located_by q ≡ located f kind number) e (h f)))
+    (part_ordered f kind number, part_within f kind number)
 
 -- the part that a lookup gives has the bytes of the name
 pub the_name : {s : List ℕ} (f : SheetMeaning s) (kind number : ℕ)

@@ -9,7 +9,6 @@ use lib.ListN.{length, drop, length-append}
 use lib.Seq.{drop-length}
 use Rattle.std.specs.Prelude.{Option, None, Some, Err, ok_or}
 use Rattle.std.specs.Option.{option_or}
-use Rattle.std.specs.declared.ops.Range.{Range}
 use Rattle.region_graph.specs.Refusals.{not_refused, no_entry}
 use Rattle.region_graph.specs.declared.refusals.Refusal.TheVariants as Refusal
 use Rattle.region_graph.specs.Lists.{pick, exists}
@@ -17,6 +16,7 @@ use Rattle.big_endian.specs.Parsing.{Parsed}
 use Rattle.big_endian.proofs.Rows.{Going, NoNext, going_none, going_more, row_broken}
 use Rattle.name_sheet.specs.Sheet.{Entry, LegalSheetEntry, LegalEntries, entry_bytes, entries_bytes, sheet}
 use Rattle.name_sheet.specs.File.{means, means_none, matches, name_span, front_length, head_length}
+use Rattle.name_sheet.specs.declared.sheet.NamePlace.{NamePlace}
 use Rattle.name_sheet.specs.Promise.{Located, located_by, Locates}
 use Rattle.name_sheet.specs.Reading.{StartsAsSheet}
 use Rattle.name_sheet.proofs.EntryLaws.{entry_length, key, entry_elements}
@@ -29,7 +29,7 @@ broken_located kind number u (means es l e) = absurd (u es l e)
 broken_located kind number u (means_none n) = refl
 
 -- where the part that was found is, or that there is none
-abbrev pub part_or_none : Option (Range ℕ) → Located
+abbrev pub part_or_none : Option NamePlace → Located
 part_or_none part = located_by (ok_or part Refusal.NoEntry)
 
 -- what was found before, or the part of one entry more where that is the one that is looked for
@@ -38,12 +38,12 @@ noted found here from to =
     pick (eqb found.refusal not_refused) found (pick here (record { refusal = not_refused; from = from; to = to }) found)
 
 -- of an entry that is the one, and of another one
-pub noted_here : (found : Option (Range ℕ)) (from to : ℕ) {here : Bool} → here ≡ true
+pub noted_here : (found : Option NamePlace) (from to : ℕ) {here : Bool} → here ≡ true
     → part_or_none (option_or found (Some (record { start = from; end = to }))) ≡ noted (part_or_none found) here from to
 noted_here None from to e = rw e refl
 noted_here (Some part) from to e = refl
 
-pub noted_other : (found : Option (Range ℕ)) (from to : ℕ) {here : Bool} → here ≡ false → part_or_none found ≡ noted (part_or_none found) here from to
+pub noted_other : (found : Option NamePlace) (from to : ℕ) {here : Bool} → here ≡ false → part_or_none found ≡ noted (part_or_none found) here from to
 noted_other None from to e = rw e refl
 noted_other (Some part) from to e = refl
 
@@ -80,7 +80,7 @@ module _ (kind number : ℕ) where
       go false h r = rw h r
 
 -- the entries up to a place were read, in order, and what was found in them
-pub record Scanning (s : List ℕ) (kind number at least : ℕ) (found : Option (Range ℕ)) : Type 0 where
+pub record Scanning (s : List ℕ) (kind number at least : ℕ) (found : Option NamePlace) : Type 0 where
   pub rows : List Entry
   pub going : Going entry_elements s front_length rows at least
   pub found_is : part_or_none found ≡ found_in kind number front_length rows
@@ -89,8 +89,8 @@ module _ {s : List ℕ} {kind number : ℕ} where
   pub scan_start : front_length ≤ length s → Scanning s kind number front_length 0 None
   scan_start h = record { rows = []; going = going_none entry_elements h; found_is = refl }
 
-  module _ {at least : ℕ} {found : Option (Range ℕ)} (w : Scanning s kind number at least found) where
-    pub scan_more : {e : Entry} {next : ℕ} → Parsed LegalSheetEntry entry_bytes s at e next → least ≤ key e → {after : Option (Range ℕ)}
+  module _ {at least : ℕ} {found : Option NamePlace} (w : Scanning s kind number at least found) where
+    pub scan_more : {e : Entry} {next : ℕ} → Parsed LegalSheetEntry entry_bytes s at e next → least ≤ key e → {after : Option NamePlace}
         → part_or_none after ≡ noted (part_or_none found) (matches kind number e) (at + head_length) next
         → Scanning s kind number next (key e + 1) after
     scan_more {e} {next} p h f = record {

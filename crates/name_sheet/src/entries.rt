@@ -13,11 +13,15 @@ pub struct EntryAt {
     pub next: usize,
 }
 
-// Whether each byte of a text is one that a name may have.
+// Whether each byte of a text is one that a name may have. It does not stop at the first that is none, so that several are compared at once.
 fn is_text(text: &[u8]) -> bool
     ensures { TextRead text.now result }
 {
-    text.iter().all(|byte| (0x20..=0x7E).contains(byte))
+    let mut printable = true;
+    for byte in text {
+        printable &= (0x20..=0x7E).contains(byte);
+    }
+    printable
 }
 
 // The entry at a place.

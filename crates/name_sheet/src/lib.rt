@@ -4,7 +4,7 @@
 mod entries;
 mod sheet;
 
-pub use sheet::{locate, lookup};
+pub use sheet::{NamePlace, locate, lookup, lookup_part};
 
 // The first byte of a sheet.
 const VERSION: u32 = 1;

@@ -1,19 +1,20 @@
 -- The front of a file, the whole of it, and what the reader and the query answer.
 use mathlib.Core.Path.{◌≡◌, refl, sym, ap, ◌∙◌, subst}
-use mathlib.Core.Bool.{Bool, true, ◌&&◌}
+use mathlib.Core.Bool.{Bool, true, false, ◌&&◌}
 use mathlib.Core.List.{List, [], ◌∷◌, ◌++◌, append-nil}
 use Prim.Native.Nat.{ℕ, ◌+◌, ◌-◌, ◌*◌, ◌^◌, ◌≤◌, ◌<◌}
 use native.Mathlib.Omega.{arith}
-use borrow.Author.Tests.{eq-eqb, ne_eqb, eqb-true, leb-true}
+use borrow.Author.Tests.{le-leb, lt-leb, eq-eqb, ne_eqb, eqb-true, eqb-false, leb-true}
 use lib.Dec.{eqb, leb}
 use lib.ListN.{length, drop, get_or}
 use lib.Seq.{drop-length}
-use Rattle.region_graph.specs.Refusals.{not_refused, broken_layout, refusal_number}
+use Rattle.region_graph.specs.Refusals.{not_refused, not_an_archive, wrong_length, broken_layout, refusal_number}
 use Rattle.region_graph.specs.declared.refusals.Refusal.{Refusal}
 use Rattle.region_graph.specs.Lists.{pick}
 use Rattle.region_graph.specs.Model.{Model, Legal, nothing}
 use Rattle.region_graph.specs.Calls.{Question, first_no, ask}
 use Rattle.region_graph.specs.Record.{Valid, meaning}
+use Rattle.region_graph.specs.Promise.{Empty, Changed}
 use Rattle.region_graph.specs.declared.Graph.{Graph}
 use Rattle.std.specs.Prelude.{Result, Ok, Err}
 use Rattle.region_graph.proofs.Lists.{and_fst}
@@ -24,14 +25,47 @@ use Rattle.region_archive.specs.File.{FileMeaning, means, means_none, is_image, 
 use Rattle.region_archive.specs.File.{oldest, opens, length_field, front_questions}
 use Rattle.big_endian.specs.Parsing.{Parsed}
 use Rattle.big_endian.proofs.Digits.{drop_byte, digits_none, digits_more, digits_all}
-use Rattle.region_archive.specs.Promise.{ReadsOver, Given}
+use Rattle.big_endian.proofs.Delimits.{word_bytes}
+use Rattle.region_archive.specs.Promise.{Reads, ReadsOver, Given}
 use Rattle.region_archive.specs.Sections.{LegalIn, BodyRead, whole, broken}
 use Rattle.region_archive.proofs.OneImage.{image_body, first_version, one_image, image_front}
 
+-- the length field, as the four bytes after the first
+abbrev four : List ℕ → ℕ
+four t = get_or t 0 0 * 16777216 + get_or t 1 0 * 65536 + get_or t 2 0 * 256 + get_or t 3 0
+
+field_tail : (s : List ℕ) → length_field s ≡ four (drop 1 s)
+field_tail [] = refl
+field_tail (b ∷ s) = refl
+
+-- what is read there is the length field
+pub length_is : (s : List ℕ) {k end : ℕ} → Parsed (λ m. m < 256 ^ 4) (big 4) s 1 k end → length_field s ≡ k
+length_is s {k} q = field_tail s ∙ ap four q.shape ∙ word_bytes k q.is_good
+
 -- whether a file opens as an archive of a version from `low` to `high`
 module _ (low high : ℕ) (s : List ℕ) where
+  pub opens_short : length s < 5 → false ≡ opens low high s
+  opens_short h = rw (lt-leb 5 (length s) h) refl
+
+  pub opens_before : 5 ≤ length s → get_or s 0 0 < low → false ≡ opens low high s
+  opens_before h u = rw (le-leb 5 (length s) h, lt-leb low (get_or s 0 0) u) refl
+
+  pub opens_told : 5 ≤ length s → low ≤ get_or s 0 0 → leb (get_or s 0 0) high ≡ opens low high s
+  opens_told h u = rw (le-leb 5 (length s) h, le-leb low (get_or s 0 0) u) refl
+
   pub opens_long : opens low high s ≡ true → 5 ≤ length s
   opens_long e = leb-true 5 (length s) (and_fst (leb 5 (length s)) (leb low (get_or s 0 0) && leb (get_or s 0 0) high) e)
+
+  -- the questions about its front
+  pub front_closed : opens low high s ≡ false → not_an_archive ≡ first_no (front_questions low high s)
+  front_closed e = rw e refl
+
+  module _ (e : opens low high s ≡ true) {k end : ℕ} (q : Parsed (λ m. m < 256 ^ 4) (big 4) s 1 k end) where
+    pub front_misfit : (k ≡ length s - 5 → ⊥) → wrong_length ≡ first_no (front_questions low high s)
+    front_misfit u = rw (e, ne_eqb (length_field s) (length s - 5) (λ z. u (sym (length_is s q) ∙ z))) refl
+
+    pub front_fine : k ≡ length s - 5 → not_refused ≡ first_no (front_questions low high s)
+    front_fine z = rw (e, eq-eqb (length_field s) (length s - 5) (length_is s q ∙ z)) refl
 
 -- a refusal has a number above 0
 pub refusal_positive : (r : Refusal) → refusal_number r ≡ not_refused → ⊥
@@ -138,6 +172,14 @@ module _ {s : List ℕ} where
   refused_model (means v m l h e) u = absurd (u (sym (accepted (means v m l h e) v m (l, h) e).0))
   refused_model (means_none n) u = refl
 
+  -- a refused read gives the empty record
+  pub reads_refused : {r : Changed} {k : ℕ} → (r.number ≡ k) × Empty r.graph → (k ≡ not_refused → ⊥)
+      → ((f : FileMeaning s) → k ≡ read_number f) → Reads s r
+  reads_refused {r} {k} (n, z) u e = record {
+    valid = z.valid;
+    says = λ f. record { number = n ∙ e f; next = z.model ∙ sym (refused_model f (λ h. u (e f ∙ h))) };
+  }
+
   -- a refusal, with the number that the file is read with
   pub read_refused : (e : Refusal) → ((f : FileMeaning s) → refusal_number e ≡ read_number f) → Given s (Err e)
   read_refused e u f = (u f, sym (refused_model f (λ h. refusal_positive e (u f ∙ h))))
@@ -179,3 +221,14 @@ module _ {s : List ℕ} where
     valid = r.valid;
     says = λ f. let n = (r.says f).number in record { number = n; next = rw (← n) at (r.says f).next };
   }
+
+  -- a read over the empty record gives what the file means, or the empty record again
+  pub over_empty : {g : Graph} {r : Changed} → Empty g → ReadsOver g s r → Reads s r
+  over_empty {g} {r} e a = record {
+    valid = a.valid;
+    says = λ f. record { number = (a.says f).number; next = (a.says f).next ∙ go f (eqb (read_number f) not_refused) refl };
+  }
+    where
+      go : (f : FileMeaning s) (b : Bool) → eqb (read_number f) not_refused ≡ b → pick b (read_model f) (meaning g) ≡ read_model f
+      go f true q = refl
+      go f false q = e.model ∙ sym (refused_model f (eqb-false (read_number f) not_refused q))

@@ -6,7 +6,7 @@ use Prim.Native.Nat.{ℕ, ◌+◌, ◌-◌, ◌*◌, ◌/◌, ◌%◌, ◌^◌, 
 use native.Mathlib.Nat.{div-add-mod', div-lt_iff_lt-mul, lt_of_lt_of_le, lt_of_le_of_lt, mod-eq_of_lt, le-add_right}
 use native.Mathlib.Numerals.{add-one}
 use native.Mathlib.Omega.{arith}
-use borrow.Author.Tests.{le-leb, leb-true, ltb-true}
+use borrow.Author.Tests.{le-leb, leb-true, ltb-true, ne_eqb}
 use lib.Arith.{digits_lt, digits_div, digits_mod}
 use lib.Dec.{eqb, leb}
 use lib.ListN.{length, drop}
@@ -89,6 +89,18 @@ module _ {s : Section} {v field : ℕ} where
   unfolding form_of
   packages_here e f = rw (e, f)
 
+  pub no_packages_here : s ≡ Section.Bundles v → (field ≡ 2 → ⊥) → numbers_form ≡ form_of s field
+  unfolding form_of
+  no_packages_here e f = rw (e, ne_eqb field 2 f)
+
+  pub entries_here : s ≡ Section.Connections v → field ≡ 3 → entries_in v ≡ form_of s field
+  unfolding form_of
+  entries_here e f = rw (e, f)
+
+  pub no_entries_here : s ≡ Section.Connections v → (field ≡ 3 → ⊥) → numbers_form ≡ form_of s field
+  unfolding form_of
+  no_entries_here e f = rw (e, ne_eqb field 3 f)
+
 -- a shift to the left that loses no bit of a number below w
 module _ (w : ℕ) where
   shift_whole : {n : ℕ} → n < w → n % w ≡ n
@@ -104,6 +116,11 @@ module _ (w : ℕ) where
     -- what a code has below a unit
     pub shift_below : (k * u) % w ≤ c
     shift_below = subst (λ (n : ℕ). n ≤ c) (sym (shift_whole (lt_of_le_of_lt below small))) below
+
+    pub lower_left : c - (k * u) % w ≡ c % u
+    lower_left =
+        ap (λ (n : ℕ). c - n) (shift_whole (lt_of_le_of_lt below small))
+        ∙ omega (arith, kept)
 
   -- what is written of a code, and the rest
   pub shift_written : (n u r : ℕ) → n * u + r < w → (n * u) % w + r ≡ n * u + r

@@ -5,7 +5,7 @@ use mathlib.Core.List.{List, ◌∷◌, ◌++◌}
 use Prim.Native.Nat.{ℕ, ◌+◌, ◌≤◌, ◌<◌}
 use native.Mathlib.Omega.{arith}
 use lib.ListN.{length, take, drop, get_or, set, length-set, length-drop}
-use lib.Seq.{length-take-le, drop-set-add, get_or-set_other}
+use lib.Seq.{length-take-le, drop-set-add, get_or-set_same, get_or-set_other}
 use Rattle.std.specs.Prelude.{Option, Some, None}
 use Rattle.region_graph.specs.Size.{most_listed, everything_sign}
 use Rattle.region_graph.specs.Model.{Part}
@@ -16,12 +16,12 @@ use Rattle.region_archive.specs.Forms.{element_bytes, code_key, CodeGood, Coded}
 use Rattle.big_endian.specs.Parsing.{Parsed, Unparsed, ParsedInto, AnswerInto}
 use Rattle.big_endian.proofs.Digits.{drop_byte}
 use Rattle.big_endian.proofs.Delimits.{head_same}
-use Rattle.big_endian.proofs.Rows.{Going, NoNext, going_more}
+use Rattle.big_endian.proofs.Rows.{Going, NoNext, going_none, going_more}
 use Rattle.region_archive.specs.RecordFields.{PartGood}
 use Rattle.region_archive.proofs.CountedReads.{take_set}
 use Rattle.region_archive.specs.declared.forms.Form.{Form}
 use Rattle.region_archive.proofs.FormLaws.{codes}
-use Rattle.region_archive.proofs.CountedLists.{counted_stuck}
+use Rattle.region_archive.proofs.CountedLists.{counted_found, counted_stuck}
 
 drop_set : {A : Type 0} (l : List A) (n : ℕ) (x : A) → drop 1 (set l (n + 1) x) ≡ set (drop 1 l) n x
 drop_set l n x =
@@ -33,6 +33,11 @@ pub record ListGoing (f : Form) (s : List ℕ) (mid total size n : ℕ) (row : L
   pub size_is : length row ≡ size
   pub first : get_or row 0 0 ≡ total
   pub going : Going (codes f) s mid (take n (drop 1 row)) to least
+
+pub list_start : {f : Form} {s : List ℕ} {mid : ℕ} → mid ≤ length s → (total : ℕ) (row : List ℕ) → 1 ≤ length row
+    → ListGoing f s mid total (length (set row 0 total)) 0 (set row 0 total) mid 0
+list_start {f} h total row k =
+    record { size_is = refl; first = get_or-set_same row 0 total 0 (omega arith); going = going_none (codes f) h }
 
 module _ {f : Form} {s : List ℕ} {mid total size n : ℕ} {row : List ℕ} {to least : ℕ} (g : ListGoing f s mid total size n row to least) where
   pub list_more : n + 1 < size → {x next : ℕ} → Parsed (CodeGood f) (element_bytes f) s to x next → least ≤ code_key f x
@@ -49,6 +54,13 @@ module _ {f : Form} {s : List ℕ} {mid total size n : ℕ} {row : List ℕ} {to
   module _ {most : ℕ} (small : most < 256) {at : ℕ} (p : Parsed (λ m. m ≤ most) (big 1) s at total mid) (room : n < size) where
     long : length (take n (drop 1 row)) ≡ n
     long = length-take-le n (drop 1 row) (omega (arith, length-drop 1 row, g.size_is))
+
+    pub list_end : n ≡ total → ParsedInto (Coded f most) (counted (element_bytes f)) s at (λ xs. FlatPart row 0 (Part.listed xs)) to
+    list_end e = record {
+      value = take n (drop 1 row);
+      parsed = counted_found (codes f) most small p g.going (long ∙ e);
+      put = (g.first ∙ sym (long ∙ e), ap (λ (k : ℕ). take k (drop 1 row)) long);
+    }
 
     pub list_stuck : n < total → NoNext (codes f) s to least → Unparsed (Coded f most) (counted (element_bytes f)) s at
     list_stuck h u = counted_stuck (codes f) most small p g.going (omega (arith, long)) u

@@ -7,7 +7,7 @@ use Prim.Native.Nat.{ℕ, ◌≤◌, ◌<◌, ◌^◌}
 use native.Mathlib.Omega.{arith}
 use lib.Dec.{eqb, leb, ltb}
 use lib.ListN.{length}
-use borrow.Author.Tests.{lt-leb, le-leb, leb-false, eqb-true, eq-eqb}
+use borrow.Author.Tests.{lt-leb, le-leb, leb-false, eqb-true, eq-eqb, ne_eqb}
 use Rattle.region_graph.specs.Size.{regions}
 use Rattle.region_graph.specs.Lists.{pick, exists, every, All, ascends, member, count_from}
 use Rattle.region_graph.specs.Sets.{has, members}
@@ -76,6 +76,12 @@ late x h w = go (exists (leb early_regions) (members x)) refl
 -- a file of version v may have the regions rs
 abbrev pub may_have : ℕ → List ℕ → Bool
 may_have v rs = eqb v latest || eqb v (older_version rs)
+
+pub has_latest : {v : ℕ} (rs : List ℕ) → v ≡ latest → true ≡ may_have v rs
+has_latest {v} rs e = rw (eq-eqb v latest e)
+
+pub has_older : {v r : ℕ} (rs : List ℕ) → (v ≡ latest → ⊥) → r ≡ older_version rs → eqb v r ≡ may_have v rs
+has_older {v} rs u e = rw (ne_eqb v latest u, e)
 
 may_cases : (v : ℕ) (rs : List ℕ) → may_have v rs ≡ true → (v ≡ latest) ⊎ (v ≡ older_version rs)
 may_cases v rs h = go (eqb v latest) refl h

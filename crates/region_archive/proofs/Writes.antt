@@ -2,13 +2,14 @@
 use mathlib.Core.Path.{◌≡◌, sym, ap, ◌∙◌}
 use mathlib.Core.List.{List, ◌∷◌, ◌++◌}
 use Prim.Native.Nat.{ℕ, suc, ◌+◌, ◌-◌, ◌/◌, ◌%◌, ◌^◌, ◌≤◌, ◌<◌}
+use native.Mathlib.Nat.{div-one}
 use native.Mathlib.Omega.{arith}
 use lib.ListN.{length, get_or, take, set}
 use lib.Seq.{take_all, take-length}
 use Rattle.region_graph.specs.Lists.{concat_map}
 use Rattle.text_lines.specs.Written.{WrittenAt}
 use Rattle.region_graph.proofs.Lists.{concat_next, concat_within}
-use Rattle.text_lines.proofs.Writes.{wrote_then, wrote_is, wrote_before, wrote_room}
+use Rattle.text_lines.proofs.Writes.{wrote_none, wrote_then, wrote_is, wrote_before, wrote_length, wrote_room}
 use Rattle.big_endian.specs.Bytes.{big, counted}
 use Rattle.big_endian.proofs.Digits.{big_one, div_next}
 
@@ -40,10 +41,20 @@ pub wrote_counted : {A : Type 0} (f : A → List ℕ) (xs : List A) {old mid new
 wrote_counted f xs {n = n} {ys} e h g v w =
     wrote_is (ap (λ (l : List ℕ). l ++ ys) (big_one n h) ∙ ap (λ (m : ℕ). m ∷ ys) e ∙ ap (λ (l : List ℕ). length xs ∷ l) g) (wrote_then v w)
 
+-- k places are left behind what was written
+pub wrote_leaves : {old new : List ℕ} {at : ℕ} {xs : List ℕ} {next : ℕ} → WrittenAt old new at xs next → (k : ℕ)
+    → at + (length xs + k) ≤ length old → next + k ≤ length new
+wrote_leaves w k h = omega (arith, w.ends, wrote_length w)
+
 -- the lower bytes of a number stand from `left` places on, and `rest` is the number above them
 pub record Lower (old new : List ℕ) (at width number left rest : ℕ) : Type 0 where
   pub above : rest ≡ number / 256 ^ (width - left)
   pub written : WrittenAt old new (at + left) (big (width - left) number) (at + width)
+
+pub lower_none : {old : List ℕ} {at width number : ℕ} → at + width ≤ length old → Lower old old at width number width number
+lower_none {old} {at} {width} {number} h =
+    let e : width - width ≡ 0 = omega arith in
+    record { above = rw e (sym (div-one number)); written = rw e (wrote_none old (at + width) h) }
 
 module _ {old new : List ℕ} {at width number left rest : ℕ} (w : Lower old new at width number left rest) where
   -- one byte more
@@ -56,3 +67,9 @@ module _ {old new : List ℕ} {at width number left rest : ℕ} (w : Lower old n
         above = rw e (ap (λ (q : ℕ). q / 256) w.above ∙ div_next number k);
         written = rw e (wrote_is bytes (wrote_before (rest % 256) (omega arith) w.written));
       }
+
+  pub lower_all : left ≡ 0 → WrittenAt old new at (big width number) (at + width)
+  lower_all z =
+      let e : width - left ≡ width = omega arith in
+      let f : at + left ≡ at = omega arith in
+      rw (e, f) at w.written

@@ -3,9 +3,10 @@ ghost use Rattle.std.specs.Prelude.{◌≡◌};
 ghost use Rattle.region_graph.specs.Record.{Valid};
 ghost use Rattle.region_graph.specs.Calls.{first_no};
 ghost use Rattle.region_graph.specs.Refusals.{answer_number};
+ghost use Rattle.region_graph.specs.Promise.{changed};
 ghost use Rattle.region_archive.specs.File.{oldest, opens, front_questions};
 ghost use Rattle.region_archive.specs.Image.{latest};
-ghost use Rattle.region_archive.specs.Promise.{Given, ReadsOver};
+ghost use Rattle.region_archive.specs.Promise.{Given, Reads, ReadsOver};
 
 use crate::FRONT;
 use crate::record_fields::Section;
@@ -78,6 +79,14 @@ pub fn read_over(graph: &mut Graph, bytes: &[u8]) -> Result<(), Refusal>
         }
         Err(refusal) => Err(refusal),
     }
+}
+
+// Makes a graph the one whose image the bytes are, and on a refusal the empty one.
+pub fn read_anew(graph: &mut Graph, bytes: &[u8]) -> Result<(), Refusal>
+    ensures { Reads bytes.now (changed result graph.new) }
+{
+    *graph = Graph::empty();
+    read_over(graph, bytes)
 }
 
 // The graph whose image the bytes are.

@@ -209,6 +209,8 @@ impl Record for StoredConnection {
         Section::Connections(version)
     }
 
+    // Inlined: who asks for the length of an image then works no code out.
+    #[inline(always)]
     fn values(&self) -> FieldValues {
         let entries = &self.packages;
         let named = in_places(self.bundles.count, MOST_LISTED, |i| {

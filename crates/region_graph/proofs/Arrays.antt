@@ -50,6 +50,9 @@ module _ {A B : Type 0} {store : A → B} {none : B} {size : ℕ} where
     pub filled_within : count ≤ length items
     filled_within = omega (arith, h.counted, h.room, filled_length)
 
+    pub filled_part : count ≡ length (take count items)
+    filled_part = sym (length-take-le count items filled_within)
+
     -- a place is left
     pub filled_room : length xs < size → count < size
     filled_room l = omega (arith, h.counted)

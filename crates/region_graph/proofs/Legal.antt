@@ -6,18 +6,19 @@ use Prim.Native.Nat.{ℕ, ◌+◌, ◌≤◌, ◌<◌}
 use native.Mathlib.Omega.{arith}
 use lib.Dec.{eqb, ltb}
 use lib.ListN.{length}
-use borrow.Author.Tests.{leb-true, ltb-true, eqb-true, eqb-false, ne_eqb, not-true}
+use borrow.Author.Tests.{leb-true, ltb-true, lt-ltb, eqb-true, eqb-false, ne_eqb, not-true}
 use Rattle.region_graph.specs.Size.{regions, most_bundles, most_connections, most_provided, most_listed}
 use Rattle.region_graph.specs.Refusals.{not_refused}
 use Rattle.region_graph.specs.Lists.{pick, keep, exists, every, All, member, insert_by, ascends}
 use Rattle.region_graph.specs.Model.{Word, PackageFits, EntryFits, LegalEntry, Sorted, SortedPart, LegalBundle, LegalConnection, Legal}
 use Rattle.region_graph.specs.Model.{Model, PackageEntry, Bundle, Part, Connection}
 use Rattle.region_graph.specs.Model.{nothing, package_before, entry_before, ordered}
-use Rattle.region_graph.specs.Calls.{Call, Question, first_no, questions, number, accepted, after, run, at_location}
+use Rattle.region_graph.specs.Calls.{Call, Question, first_no, end_questions, questions, number, accepted, after, run, is_region, at_location}
 use Rattle.region_graph.specs.Calls.{in_region, joins, touches, within, of_listed, part_within}
 use Rattle.region_graph.specs.Places.{ShortPart}
+use Rattle.region_graph.specs.Promise.{new_part}
 use Rattle.region_graph.proofs.Lists.{eqb_sym, and_fst, and_snd, false_true, pick_yes, keep_length, exists_insert, insert_length, exists_none}
-use Rattle.region_graph.proofs.Lists.{all_map, all_kept, all_insert, member_kept, and_yes}
+use Rattle.region_graph.proofs.Lists.{all_map, all_kept, all_insert, keep_all, member_all, other_member, member_kept, and_yes}
 use Rattle.region_graph.proofs.Ascending.{Strict, Rising, or_right, ascends_rising, ascends_keep, ascends_insert, strict_numbers, strict_bundles}
 use Rattle.region_graph.proofs.Ascending.{strict_connections, numbers_differ, connections_differ}
 
@@ -310,6 +311,86 @@ legal_after m c l w = go (eqb (number m c) not_refused) refl
 pub legal_run : (m : Model) (cs : List Call) → Legal m → All Words cs → Legal (run m cs)
 legal_run m [] l w = l
 legal_run m (c ∷ cs) l w = legal_run (after m c) cs (legal_after m c l w.0) w.1
+
+-- where an add is refused, a region is there already, or the number is no region's
+pub add_idle : (m : Model) (r : ℕ) → (number m (Call.add_region r) ≡ not_refused → ⊥) → r < regions → member r m.regions ≡ true
+add_idle m r u h = go (member r m.regions) refl
+  where
+    go : (b : Bool) → member r m.regions ≡ b → b ≡ true
+    go true e = refl
+    go false e = absurd (u (rw (lt-ltb r regions h, e)))
+
+-- where an uninstall is refused, no bundle leaves
+pub uninstall_idle : (m : Model) (n : ℕ) → (number m (Call.uninstall n) ≡ not_refused → ⊥) → accepted m (Call.uninstall n) ≡ m
+uninstall_idle m n u =
+    let h = absent (exists (at_location n) m.bundles) refl in
+    λ i. record { regions = m.regions; bundles = keep_all (at_location n) m.bundles h i; connections = m.connections }
+  where
+    absent : (b : Bool) → exists (at_location n) m.bundles ≡ b → All (λ b. at_location n b ≡ false) m.bundles
+    absent true e = absurd (u (rw e))
+    absent false e = exists_none (at_location n) m.bundles e
+
+-- a legal model has nothing for a refused remove or disconnect to take away
+module _ (m : Model) (l : Legal m) where
+  region_below : (r : ℕ) → member r m.regions ≡ true → is_region r ≡ true
+  region_below r h = lt-ltb r regions (member_all (λ s. s < regions) r m.regions l.regions_legal.each h)
+
+  -- nothing is in a region that is not there, or touches it
+  none_in : (r : ℕ) → member r m.regions ≡ false → All (λ b. in_region r b ≡ false) m.bundles
+  none_in r k =
+      all_map (LegalBundle m.regions) (λ b. in_region r b ≡ false) (λ b h. other_member b.region r m.regions h.region k)
+      m.bundles l.bundles_legal.each
+
+  none_touches : (r : ℕ) → member r m.regions ≡ false → All (λ c. touches r c ≡ false) m.connections
+  none_touches r k =
+      all_map (LegalConnection m.regions) (λ c. touches r c ≡ false)
+      (λ c h. rw (other_member c.source r m.regions h.source k, other_member c.target r m.regions h.target k)) m.connections
+      l.connections_legal.each
+
+  -- a connection's ends pass the questions, so ends that are refused join nothing
+  ends_pass : (c : Connection) → LegalConnection m.regions c → first_no (end_questions m.regions c.source c.target) ≡ not_refused
+  ends_pass c h = rw (region_below c.source h.source, region_below c.target h.target, h.source, h.target, h.differ)
+
+  none_joins : (r s : ℕ) → (first_no (end_questions m.regions r s) ≡ not_refused → ⊥) → All (λ c. joins r s c ≡ false) m.connections
+  none_joins r s u =
+      all_map (LegalConnection m.regions) (λ c. joins r s c ≡ false) (λ c h. go c h (joins r s c) refl) m.connections
+      l.connections_legal.each
+    where
+      go : (c : Connection) → LegalConnection m.regions c → (b : Bool) → joins r s c ≡ b → b ≡ false
+      go c h true e =
+          let p : c.source ≡ r = eqb-true c.source r (and_fst (eqb c.source r) (eqb c.target s) e) in
+          let q : c.target ≡ s = eqb-true c.target s (and_snd (eqb c.source r) (eqb c.target s) e) in
+          absurd (u ((λ i. first_no (end_questions m.regions (sym p i) (sym q i))) ∙ ends_pass c h))
+      go c h false e = refl
+
+  pub remove_idle : (r : ℕ) → (number m (Call.remove_region r) ≡ not_refused → ⊥) → accepted m (Call.remove_region r) ≡ m
+  remove_idle r u =
+      let k = absent (member r m.regions) refl in
+      λ i. record {
+        regions = keep_all (eqb r) m.regions (exists_none (eqb r) m.regions k) i;
+        bundles = keep_all (in_region r) m.bundles (none_in r k) i;
+        connections = keep_all (touches r) m.connections (none_touches r k) i;
+      }
+    where
+      absent : (b : Bool) → member r m.regions ≡ b → member r m.regions ≡ false
+      absent true e = absurd (u (rw (region_below r e, e)))
+      absent false e = e
+
+  pub disconnect_idle : (r s : ℕ) → (number m (Call.disconnect r s) ≡ not_refused → ⊥) → accepted m (Call.disconnect r s) ≡ m
+  disconnect_idle r s u =
+      let h = absent (exists (joins r s) m.connections) refl in
+      λ i. record { regions = m.regions; bundles = m.bundles; connections = keep_all (joins r s) m.connections h i }
+    where
+      absent : (b : Bool) → exists (joins r s) m.connections ≡ b → All (λ c. joins r s c ≡ false) m.connections
+      absent true e =
+          none_joins r s
+          (λ z. let h = all_yes (end_questions m.regions r s) (refl, (refl, (refl, tt))) z in u (rw (h.0, h.1.0, h.1.1.0, e)))
+      absent false e = exists_none (joins r s) m.connections e
+
+-- a part that was handed over as a flag and a list
+pub part_each : {A : Type 0} (P : A → Type 0) (all : Bool) (xs : List A) → All P xs → PartAll P (new_part all xs)
+part_each P true xs h = tt
+part_each P false xs h = h
 
 -- a part that is within its count
 pub part_short : {A : Type 0} (p : Part A) → part_within p ≡ true → ShortPart p

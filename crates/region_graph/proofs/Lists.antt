@@ -4,7 +4,7 @@ use mathlib.Core.Bool.{Bool, true, false, not, ◌&&◌, ◌||◌, and-true, and
 use mathlib.Core.List.{List, [], ◌∷◌, ◌++◌, map, append-nil, append_assoc}
 use Prim.Native.Nat.{ℕ, zero, suc, ◌+◌, ◌*◌, ◌≤◌, ◌<◌}
 use native.Mathlib.Numerals.{add-one}
-use native.Mathlib.Nat.{zero-mul, suc-mul}
+use native.Mathlib.Nat.{add-zero, zero-mul, suc-mul}
 use native.Mathlib.Omega.{arith}
 use lib.Dec.{ltb, eqb}
 use lib.ListN.{length, get_or, take, drop, length-append, drop_of_length-le}
@@ -150,6 +150,19 @@ module _ {A : Type 0} (p : A → Bool) where
     pub every_also : (b : Bool) → every p xs ≡ (b && every p (drop i xs)) → every p xs ≡ ((b && p (get_or xs i d)) && every p (drop (i + 1) xs))
     every_also b e = e ∙ ap (λ (t : Bool). b && t) every_next ∙ sym (and_assoc b (p (get_or xs i d)) (every p (drop (i + 1) xs)))
 
+    position_next : position p (drop i xs) ≡ pick (p (get_or xs i d)) 0 (suc (position p (drop (i + 1) xs)))
+    position_next = rw add-one (ap (position p) (drop-cons xs i d h))
+
+    pub position_here : position p xs ≡ i + position p (drop i xs) → p (get_or xs i d) ≡ true → i ≡ position p xs
+    position_here e t = sym (e ∙ ap (λ (m : ℕ). i + m) (position_next ∙ pick_yes 0 (suc (position p (drop (i + 1) xs))) t) ∙ add-zero i)
+
+    pub position_later : position p xs ≡ i + position p (drop i xs) → p (get_or xs i d) ≡ false
+        → position p xs ≡ i + 1 + position p (drop (i + 1) xs)
+    position_later e t =
+        let f : position p (drop i xs) ≡ suc (position p (drop (i + 1) xs))
+        = position_next ∙ pick_no 0 (suc (position p (drop (i + 1) xs))) t in
+        omega arith
+
   pub exists_end : (xs : List A) (i : ℕ) → exists p xs ≡ exists p (drop i xs) → length xs ≤ i → false ≡ exists p xs
   exists_end xs i e h = sym (e ∙ rw (drop_of_length-le xs h))
 
@@ -158,6 +171,9 @@ module _ {A : Type 0} (p : A → Bool) where
 
   pub every_done : (xs : List A) (i : ℕ) {b : Bool} → every p xs ≡ (b && every p (drop i xs)) → length xs ≤ i → b ≡ every p xs
   every_done xs i {b} e h = sym (e ∙ rw (drop_of_length-le xs h) (and-true b))
+
+  pub position_end : (xs : List A) (i : ℕ) → position p xs ≡ i + position p (drop i xs) → length xs ≤ i → i ≡ position p xs
+  position_end xs i e h = sym (e ∙ rw (drop_of_length-le xs h) (add-zero i))
 
   -- the first element that passes stands within the list where there is one, else the place is the length
   pub exists_found : (xs : List A) → position p xs < length xs → exists p xs ≡ true
@@ -273,6 +289,13 @@ module _ {A : Type 0} (p : A → Bool) where
   keep_all [] h = refl
   keep_all (x ∷ xs) h = rw h.0 (ap (λ (l : List A). x ∷ l) (keep_all xs h.1))
 
+  pub exists_fewer : (xs : List A) → (length (keep (λ x. not (p x)) xs) ≡ length xs → ⊥) → exists p xs ≡ true
+  exists_fewer xs f = go (exists p xs) refl
+    where
+      go : (b : Bool) → exists p xs ≡ b → b ≡ true
+      go true e = refl
+      go false e = absurd (f (ap length (keep_all xs (exists_none p xs e))))
+
   pub exists_as_many : (xs : List A) → length (keep (λ x. not (p x)) xs) ≡ length xs → exists p xs ≡ false
   exists_as_many [] e = refl
   exists_as_many (x ∷ xs) e = go (p x) (exists_as_many xs) e
@@ -338,6 +361,14 @@ member_all P n (x ∷ xs) h e = go (eqb n x) refl (member_all P n xs h.1) e
     go : (b : Bool) → eqb n x ≡ b → (member n xs ≡ true → P n) → (b || member n xs) ≡ true → P n
     go true f r k = subst P (sym (eqb-true n x f)) h.0
     go false f r k = r k
+
+-- a member is unlike a number that is no member
+pub other_member : (n r : ℕ) (xs : List ℕ) → member n xs ≡ true → member r xs ≡ false → eqb n r ≡ false
+other_member n r xs h k = go (eqb n r) refl
+  where
+    go : (b : Bool) → eqb n r ≡ b → b ≡ false
+    go true e = false_true (sym k ∙ ap (λ (x : ℕ). member x xs) (sym (eqb-true n r e)) ∙ h)
+    go false e = refl
 
 -- the members of a list that are kept
 pub member_kept : (q : ℕ → Bool) (n : ℕ) (xs : List ℕ) → member n (keep q xs) ≡ (member n xs && q n)

@@ -458,6 +458,51 @@ refusal_numbered Refusal.NoEntry e = omega (arith, e)
 refusal_numbered Refusal.RangeReversed e = omega (arith, e)
 refusal_numbered Refusal.HasVersions e = omega (arith, e)
 
+-- the refusals in the order of their numbers, from 1 on
+abbrev refusals : List Refusal
+refusals =
+    Refusal.NotARegion ∷ Refusal.RegionUsed ∷ Refusal.NoSuchRegion ∷ Refusal.EndsEqual ∷ Refusal.Connected ∷ Refusal.NotConnected
+    ∷ Refusal.ListTooLong ∷ Refusal.ListOutOfOrder ∷ Refusal.Installed ∷ Refusal.Filtered ∷ Refusal.Full ∷ Refusal.NotInstalled
+    ∷ Refusal.NotAKind ∷ Refusal.NoPlace ∷ Refusal.NotAnArchive ∷ Refusal.WrongLength ∷ Refusal.BrokenLayout ∷ Refusal.BrokenSheet
+    ∷ Refusal.NoEntry ∷ Refusal.RangeReversed ∷ Refusal.HasVersions ∷ []
+
+abbrev refusal_at : ℕ → Refusal
+refusal_at n = get_or refusals (n - 1) Refusal.NotARegion
+
+refusal_found : (x : Refusal) → refusal_at (refusal_number x) ≡ x
+refusal_found Refusal.NotARegion = refl
+refusal_found Refusal.RegionUsed = refl
+refusal_found Refusal.NoSuchRegion = refl
+refusal_found Refusal.EndsEqual = refl
+refusal_found Refusal.Connected = refl
+refusal_found Refusal.NotConnected = refl
+refusal_found Refusal.ListTooLong = refl
+refusal_found Refusal.ListOutOfOrder = refl
+refusal_found Refusal.Installed = refl
+refusal_found Refusal.Filtered = refl
+refusal_found Refusal.Full = refl
+refusal_found Refusal.NotInstalled = refl
+refusal_found Refusal.NotAKind = refl
+refusal_found Refusal.NoPlace = refl
+refusal_found Refusal.NotAnArchive = refl
+refusal_found Refusal.WrongLength = refl
+refusal_found Refusal.BrokenLayout = refl
+refusal_found Refusal.BrokenSheet = refl
+refusal_found Refusal.NoEntry = refl
+refusal_found Refusal.RangeReversed = refl
+refusal_found Refusal.HasVersions = refl
+
+-- no two refusals have one number
+pub refusal_settled : (x y : Refusal) → refusal_number x ≡ refusal_number y → x ≡ y
+refusal_settled x y e = sym (refusal_found x) ∙ ap refusal_at e ∙ refusal_found y
+
+-- so an answer without a value is its number
+pub answer_settled : (a b : Result (Unit {0}) Refusal) → answer_number a ≡ answer_number b → a ≡ b
+answer_settled (Ok a) (Ok b) e = refl
+answer_settled (Ok a) (Err y) e = absurd (refusal_numbered y (sym e))
+answer_settled (Err x) (Ok b) e = absurd (refusal_numbered x e)
+answer_settled (Err x) (Err y) e = ap (λ (z : Refusal). Err z) (refusal_settled x y e)
+
 -- a call, what it answers, and the record that it leaves
 module _ (g : Graph) (c : Call) (v : Valid g) where
   -- where it is refused, the record that it got
@@ -489,6 +534,11 @@ pub settled : (g : Graph) (c : Call) (r s : Changed) → Follows g c r → Follo
 settled g c r s f h =
     let e : r.graph ≡ s.graph = meaning_injective r.graph s.graph f.valid h.valid (f.next ∙ sym h.next) in
     λ i. record { graph = e i; number = (f.number ∙ sym h.number) i }
+
+-- and so of the results: two answers of a call, each with the record that it left
+pub result_settled : (g : Graph) (c : Call) (a b : Result (Unit {0}) Refusal) (h k : Graph) → Follows g c (changed a h) → Follows g c (changed b k)
+    → (a ≡ b) × (h ≡ k)
+result_settled g c a b h k f j = (answer_settled a b (f.number ∙ sym j.number), ap (λ (r : Changed). r.graph) (settled g c (changed a h) (changed b k) f j))
 
 pub empty_settled : (g h : Graph) → Empty g → Empty h → g ≡ h
 empty_settled g h e f = meaning_injective g h e.valid f.valid (e.model ∙ sym f.model)

@@ -1,4 +1,5 @@
 -- Laws by subject, each over what stands above it.
+pub mod Refused
 pub mod Outcomes
 pub mod Nth
 pub mod ReadBack

@@ -1,5 +1,6 @@
 -- What a query answers, as one number for C. C reads the 64 bits as a signed number: a count as it is, and a number of the papers below zero.
-use Rattle.std.specs.Prelude.{ℕ, zero, suc, ◌-◌, ◌^◌, ◌<◌, eqb, ltb}
+use Rattle.std.specs.Prelude.{ℕ, zero, suc, ◌-◌, ◌^◌, ◌<◌, eqb, ltb, Result, Ok, Err, Some, None}
+use Rattle.std.specs.Prelude.{Option as Maybe}
 use Rattle.region_graph.specs.Lists.{pick}
 use Rattle.region_routes.specs.Hooks.{Outcome, Routed, Kept}
 use Rattle.region_archive.specs.Promise.{Written, hidden_number}
@@ -21,6 +22,21 @@ kept_value (Kept.Refused n) = negative n
 abbrev pub written_value : Written → ℕ
 written_value (Written.Bytes n) = n
 written_value (Written.Refused n) = negative n
+
+-- what a call returns as an answer, where a refusal has a number
+module _ {N : Type 0} (number : N → ℕ) where
+  abbrev pub routed_by : Result (Maybe ℕ) N → Routed
+  routed_by (Ok None) = Routed.Hidden
+  routed_by (Ok (Some n)) = Routed.Count n
+  routed_by (Err e) = Routed.Refused (number e)
+
+  abbrev pub kept_by : Result ℕ N → Kept
+  kept_by (Ok n) = Kept.Wrote n
+  kept_by (Err e) = Kept.Refused (number e)
+
+  abbrev pub written_by : Result ℕ N → Written
+  written_by (Ok n) = Written.Bytes n
+  written_by (Err e) = Written.Refused (number e)
 
 -- the number that C gets, and what was lent, a buffer or several, as the call leaves it
 pub record CAnswer (E : Type 0) : Type 0 where

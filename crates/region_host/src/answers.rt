@@ -1,9 +1,8 @@
 // What a call answers, as one number for C.
-ghost use Rattle.std.specs.Prelude.{◌≡◌};
-ghost use Rattle.region_graph.specs.Refusals.{answer_number};
-ghost use Rattle.region_routes.specs.Hooks.{kept_answer, routed_answer};
-ghost use Rattle.region_archive.specs.Promise.{written_answer, query_number};
-ghost use Rattle.region_host.specs.CNumbers.{negative, routed_value, kept_value, written_value};
+ghost use Rattle.std.specs.Prelude.{◌≡◌, ℕ};
+ghost use Rattle.region_graph.specs.Refusals.{refusal_number, answer_number};
+ghost use Rattle.region_archive.specs.Promise.{query_number};
+ghost use Rattle.region_host.specs.CNumbers.{negative, routed_by, kept_by, written_by, routed_value, kept_value, written_value};
 ghost use Rattle.region_host.specs.Reading.{place_value};
 
 use region_archive::{HIDDEN, SEEN};
@@ -26,9 +25,34 @@ pub fn negative(number: u32) -> u64
     u64::from(number).wrapping_neg()
 }
 
+// Why a call was refused, for C: what has a number.
+pub trait Numbered: Copy {
+    ghost number_of: { Self → ℕ };
+
+    fn number(self) -> u32
+        ensures { result ≡ number_of self };
+}
+
+impl Numbered for Refusal {
+    ghost number_of = { refusal_number };
+
+    fn number(self) -> u32 {
+        Refusal::number(self)
+    }
+}
+
+// A number alone: any one, too, that no question has.
+impl Numbered for u32 {
+    ghost number_of = { λ n. n };
+
+    fn number(self) -> u32 {
+        self
+    }
+}
+
 // The count of connections of a route.
-pub fn routed_value(answer: Result<Option<usize>, Refusal>) -> u64
-    ensures { result ≡ routed_value (routed_answer answer) }
+pub fn routed_value<N: Numbered>(answer: Result<Option<usize>, N>) -> u64
+    ensures { result ≡ routed_value (routed_by N.number_of answer) }
 {
     match answer {
         Ok(None) => negative(HIDDEN),
@@ -38,9 +62,9 @@ pub fn routed_value(answer: Result<Option<usize>, Refusal>) -> u64
 }
 
 // The count of a hook, of a write or of a conversion.
-pub fn count_value(answer: Result<usize, Refusal>) -> u64
-    ensures hook { result ≡ kept_value (kept_answer answer) }
-    ensures writer { result ≡ written_value (written_answer answer) }
+pub fn count_value<N: Numbered>(answer: Result<usize, N>) -> u64
+    ensures hook { result ≡ kept_value (kept_by N.number_of answer) }
+    ensures writer { result ≡ written_value (written_by N.number_of answer) }
 {
     match answer {
         Ok(count) => count as u64,

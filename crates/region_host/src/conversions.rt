@@ -1,4 +1,6 @@
 // The conversions of a lent archive: those of `region_convert`, with what they answer as one number for C.
+#![tactic(auto, using(crate::proofs::Refused::written_refusal))]
+
 ghost use Rattle.std.specs.Prelude.{◌≡◌};
 ghost use Rattle.region_archive.specs.File.{FileMeaning};
 ghost use Rattle.region_convert.specs.Conversion.{forward_outcome, back_outcome};

@@ -1,5 +1,7 @@
 // The queries of the lent record, and that of a lent archive, each answer made one number for C. C hands in lists one by one, and any number
 // as a kind's. A name that ends in a version has the arguments that came with that version of the interface.
+#![tactic(auto, using(crate::proofs::Refused::routed_refusal, crate::proofs::Refused::kept_refusal, crate::proofs::Refused::written_refusal))]
+
 ghost use Rattle.std.specs.Prelude.{◌≡◌, [], ◌∷◌, length};
 ghost use Rattle.region_graph.specs.Record.{Valid, meaning};
 ghost use Rattle.region_routes.specs.Hooks.{route_outcome, find_outcome, event_outcome};

@@ -213,7 +213,7 @@ module _ {items : List ℕ} {count : ℕ} {xs : List ℕ} (f : Filled (λ x. x) 
   )
 
 -- one bundle more
-held_next : (k : Kind) (bs : List Bundle) (i : ℕ) → i < length bs
+pub held_next : (k : Kind) (bs : List Bundle) (i : ℕ) → i < length bs
     → held k (take (i + 1) bs) ≡ joined_all (held k (take i bs)) (provided k (get_or bs i no_bundle))
 unfolding held
 held_next k bs i h =
@@ -226,7 +226,7 @@ provided_few b h Kind.Package = h.packages
 provided_few b h Kind.Service = omega (arith, length-map b.services without_version, h.services)
 
 -- the places hold what the bundles before one and that bundle bring
-held_room : (bs : List Bundle) → AtMost most_bundles ShortBundle bs → (k : Kind) (i : ℕ) → i < length bs
+pub held_room : (bs : List Bundle) → AtMost most_bundles ShortBundle bs → (k : Kind) (i : ℕ) → i < length bs
     → length (held k (take i bs)) + length (provided k (get_or bs i no_bundle)) ≤ most_different
 unfolding held
 held_room bs row k i h =

@@ -44,10 +44,10 @@ row bundles packages services b =
     line_of b.location b.region (get_or bundles b.region 0) (get_or packages b.region 0) (get_or services b.region 0)
 
 -- the regions of bundles are regions
-abbrev Inside : List Bundle → Type 0
+abbrev pub Inside : List Bundle → Type 0
 Inside bs = All (λ b. b.region < regions) bs
 
-legal_inside : (m : Model) → Legal m → Inside m.bundles
+pub legal_inside : (m : Model) → Legal m → Inside m.bundles
 legal_inside m l =
     all_map (LegalBundle m.regions) (λ b. b.region < regions)
     (λ b h. member_all (λ n. n < regions) b.region m.regions l.regions_legal.each h.region)

@@ -26,11 +26,12 @@ use Rattle.region_routes.specs.Chosen.{chosen_by, found, chosen, sees, PassesTo,
 use Rattle.region_routes.specs.Hooks.{Outcome, Routed, routed, shown, sees_from}
 use Rattle.region_routes.specs.Resolve.{reaches}
 use Rattle.region_routes.specs.Tables.{stands_in}
-use Rattle.region_routes.specs.Search.{In, Conn, At, Searched, InLayer, Walkable, Walked}
+use Rattle.region_routes.specs.Search.{In, RegionSets, Conn, At, Searched, InLayer, Walkable, Walked, end_set}
+use Rattle.region_routes.specs.declared.search.Ends.{Ends}
 use Rattle.region_routes.proofs.Choosing.{crosses_inside, by_best, by_none, found_is}
 use Rattle.region_routes.proofs.Layers.{trail, shallower}
 use Rattle.region_routes.proofs.RouteLaws.{lt_or_ge, carry, carry_best}
-use Rattle.region_routes.proofs.SetLaws.{not_in_empty}
+use Rattle.region_routes.proofs.SetLaws.{counted_sets, not_in_empty}
 
 -- the members of a set by a test
 set_in : (p : ℕ → Bool) (n : ℕ) → In (set_of p) n → p n ≡ true
@@ -84,6 +85,10 @@ held_inside rs h i r (b ∷ bs) a e = go (eqb b.region r && provides i b) refl (
         subst (λ (x : ℕ). x < regions) (eqb-true b.region r (and_fst (eqb b.region r) (provides i b) f))
         (member_all (λ x. x < regions) b.region rs h a.0.region)
     go false f g k = g k
+
+pub predecessors_sets : (m : Model) (i : Item) → RegionSets (predecessor_sets m i)
+unfolding predecessor_sets
+predecessors_sets m i = counted_sets (λ s r. crosses m i r s)
 
 -- the predecessor sets are those of a crossing test, and the holder set that of an ending test
 pub record Tied (cross : ℕ → ℕ → Bool) (ends : ℕ → Bool) (pred : List ℕ) (holders : ℕ) : Type 0 where
@@ -234,6 +239,11 @@ module _ (m : Model) (i : Item) (h : Legal m) where
   -- where nobody holds an item, nobody sees it
   pub none_sees : holder_set m i ≡ 0 → 0 ≡ set_of (sees m i)
   none_sees e = reached_sees {sets = []} {deep = 0} (rw e (none_searched (predecessor_sets m i)))
+
+-- the regions in which a route may end are a set of regions
+pub end_set_small : (m : Model) (i : Item) (e : Ends) → end_set m i e < 2 ^ regions
+end_set_small m i Ends.Holders = set_below_lt regions (holds m i)
+end_set_small m i (Ends.Region t) = alone_lt regions t
 
 -- listeners stand in the set of the regions that see the item exactly where they see it
 pub stands_sees : (m : Model) (i : Item) → Legal m → (l : ℕ)

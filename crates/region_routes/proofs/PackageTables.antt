@@ -26,7 +26,7 @@ use Rattle.region_routes.specs.Hooks.{item}
 use Rattle.region_routes.specs.Tables.{width, everything_number, packed, number_in, ends, source_in, target_in, version_span, span_has, part_spans}
 use Rattle.region_routes.specs.Tables.{passed, listed_numbers, offer, passage, owner, passage_spans, offers, passages, owners, spans, step_in}
 use Rattle.region_routes.specs.Tables.{step_between, step_or_between, predecessors_by, place_beside, ExportTables}
-use Rattle.region_routes.proofs.TableLaws.{packed_number, packed_place, packed_of, packed_source, packed_target, connection_source, target_inside}
+use Rattle.region_routes.proofs.TableLaws.{packed_number, packed_place, packed_of, packed_source, packed_target, source_inside, target_inside}
 
 -- owners
 
@@ -210,7 +210,7 @@ module _ (m : Model) (h : Legal m) (n v : ℕ) where
           ∙ apart (all (passage 1 c)) (all (passages 1 cs)) (step_between (passage 1 c) (passage_spans c) n v r s)
           (step_between (passages 1 cs) (spans cs) n v r s)
           ∙ ap₂ ◌||◌
-          (part_says n v r s (connection_source m h {c = c} l.0) (target_inside m h {c = c} l.0) c.filter.packages l.0.filter.packages)
+          (part_says n v r s (source_inside m h {c = c} l.0) (target_inside m h {c = c} l.0) c.filter.packages l.0.filter.packages)
           (go cs l.1)
 
   stepped_spans : predecessors_by

@@ -1,5 +1,5 @@
 -- Candidates from lists of their parts, and a loop that writes the parts of those that pass a test to the starts of three lent lists.
-use mathlib.Core.Path.{◌≡◌, refl, ap, subst}
+use mathlib.Core.Path.{◌≡◌, refl, sym, ap, subst}
 use mathlib.Core.Bool.{Bool, true, false}
 use mathlib.Core.List.{List, [], ◌∷◌}
 use Prim.Native.Nat.{ℕ, zero, suc, ◌+◌, ◌≤◌, ◌<◌, min}
@@ -51,9 +51,9 @@ module _ {T : Type 0} {p : T → Candidate → Bool} {cs : List Candidate} {entr
       at_place : {b : Bool} → ((t : T) → p t c ≡ b) → (t : T) → p t (get_or cs i no_candidate) ≡ b
       at_place {b} h t = subst (λ (x : Candidate). p t x ≡ b) e (h t)
 
-      pub resolving_passed : ((t : T) → p t c ≡ true)
+      pub resolving_wrote : ((t : T) → p t c ≡ true)
           → Resolving p cs (i + 1) (n + 1) entry (columns (set out.exporters n c.exporter) (set out.numbers n c.number) (set out.versions n c.version))
-      resolving_passed h = record {
+      resolving_wrote h = record {
         exporters = part_passed k.exporters no_candidate l (ap (λ (x : Candidate). x.exporter) e) (at_place h);
         numbers = part_passed k.numbers no_candidate l (ap (λ (x : Candidate). x.number) e) (at_place h);
         versions = part_passed k.versions no_candidate l (ap (λ (x : Candidate). x.version) e) (at_place h);
@@ -72,3 +72,11 @@ module _ {T : Type 0} {p : T → Candidate → Bool} {cs : List Candidate} {entr
     resolving_end h t =
         λ j. kept (Kept.Wrote (part_count k.exporters h t j))
         (part_exit k.exporters h t j ∷ part_exit k.numbers h t j ∷ part_exit k.versions h t j ∷ [])
+
+-- each part of a candidate has its own list, in and out, at equal places
+module _ {T : Type 0} {p : T → Candidate → Bool} (es ns vs : List ℕ) {entry out : Columns} {i n : ℕ} (k : Resolving p (candidates es ns vs) i n entry out)
+    (l : i < length (candidates es ns vs)) where
+  pub resolving_passed : {x y z : ℕ} → x ≡ get_or es i 0 → y ≡ get_or ns i 0 → z ≡ get_or vs i 0
+      → ((t : T) → p t (record { exporter = get_or es i 0; number = get_or ns i 0; version = get_or vs i 0 }) ≡ true)
+      → Resolving p (candidates es ns vs) (i + 1) (n + 1) entry (columns (set out.exporters n x) (set out.numbers n y) (set out.versions n z))
+  resolving_passed e f g h = rw (e, f, g) (resolving_wrote k l (sym (candidate_at es ns vs i l)) h)

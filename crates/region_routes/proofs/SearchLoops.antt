@@ -153,6 +153,12 @@ pub record SearchState (pred : List ℕ) (holders : ℕ) (sets : List ℕ) (k re
   pub into : (i n : ℕ) → i ≤ k → At sets i n → In reached n
   pub from : (n : ℕ) → In reached n → (i : ℕ) × (i ≤ k) × (At sets i n)
 
+-- the last layer has regions only
+pub last_regions : {pred : List ℕ} {holders : ℕ} {sets : List ℕ} {k reached prev : ℕ} → SearchState pred holders sets k reached prev
+    → (n : ℕ) → In prev n → n < regions
+last_regions {k = k} {reached = reached} st n h =
+    in_lt regions reached n st.small (st.into k n (le_refl k) (subst (λ (x : ℕ). In x n) (sym st.here) h))
+
 -- layer 0 is the holders
 pub search_start : {pred : List ℕ} {holders : ℕ} {sets : List ℕ} → holders < 2 ^ regions → length sets ≡ regions → get_or sets 0 0 ≡ holders
     → SearchState pred holders sets 0 holders holders

@@ -82,7 +82,7 @@ module _ (es : List ℕ) (test : ℕ → Bool) (sets : List ℕ) (i : ℕ) (rest
 abbrev pub number_steps : List ℕ → ℕ → (ℕ → ℕ → Bool) → ℕ → ℕ → ℕ → Bool
 number_steps es n step i = step_or step (take i es) n
 
-stepping_number : {es : List ℕ} {n : ℕ} → Stepping es n (number_steps es n) (λ i. true)
+pub stepping_number : {es : List ℕ} {n : ℕ} → Stepping es n (number_steps es n) (λ i. true)
 stepping_number {es} {n} = record {
   none = λ step r s. or-false (step r s);
   more = λ step i r s h.
@@ -112,7 +112,7 @@ module _ (n v r s : ℕ) where
       ∙ sym (or_assoc first (step_between (take i es) (take i ss) n v r s)
       ((eqb (source_in (get_or es i 0)) r && eqb (target_in (get_or es i 0)) s) && (eqb (number_in (get_or es i 0)) n && span_has v (get_or ss i 0))))
 
-stepping_span : {es ss : List ℕ} {n v : ℕ} → length ss ≡ length es
+pub stepping_span : {es ss : List ℕ} {n v : ℕ} → length ss ≡ length es
     → Stepping es n (span_steps es ss n v) (λ i. span_has v (get_or ss i 0))
 stepping_span {es} {ss} {n} {v} e = record {
   none = λ step r s. or-false (step r s);

@@ -30,7 +30,7 @@ use Rattle.region_routes.specs.Tables.{width, everything_number, packed, number_
 use Rattle.region_routes.specs.Tables.{listed_numbers, part_numbers, passed, offer, passage, offers, passages, held_in, step_in, step_or}
 use Rattle.region_routes.specs.Tables.{predecessors_by, place_at, all_placed, most_entries, NumberTables}
 use Rattle.region_routes.proofs.SetLaws.{counted_sets}
-use Rattle.region_routes.proofs.TableLoops.{Source, source_inside, source_at, gathering_room}
+use Rattle.region_routes.proofs.TableLoops.{Source, stored_inside, source_at, gathering_room}
 
 -- what an entry says
 
@@ -137,8 +137,8 @@ module _ (m : Model) (h : Legal m) where
 
   -- passages
 
-  pub connection_source : {c : Connection} → LegalConnection m.regions c → c.source < regions
-  connection_source {c} l = member_all (λ x. x < regions) c.source m.regions h.regions_legal.each l.source
+  pub source_inside : {c : Connection} → LegalConnection m.regions c → c.source < regions
+  source_inside {c} l = member_all (λ x. x < regions) c.source m.regions h.regions_legal.each l.source
 
   pub target_inside : {c : Connection} → LegalConnection m.regions c → c.target < regions
   target_inside {c} l = member_all (λ x. x < regions) c.target m.regions h.regions_legal.each l.target
@@ -164,7 +164,7 @@ module _ (m : Model) (h : Legal m) where
       → exists (λ e. (eqb (source_in e) r && eqb (target_in e) s) && (eqb (number_in e) everything_number || eqb (number_in e) n)) (passage k c)
       ≡ ((eqb c.source r && eqb c.target s) && passes (item k n 0) c.filter)
   passage_says k n r s q c l =
-      let a = connection_source l in
+      let a = source_inside l in
       let b = target_inside l in
       let xs = passed (part_numbers k c.filter) in
       exists_map (λ x. packed x (ends c.source c.target))
@@ -230,7 +230,7 @@ module _ (m : Model) (h : Legal m) where
     bundles_asked {i = i} s g e l =
         let b = get_or m.bundles i no_bundle in (
           stored_as store_bundle bundle_in ShortBundle (λ b s. bundle_back b) b (source_at s i e no_bundle l)
-              (short_bundle (all_at (LegalBundle m.regions) m.bundles i no_bundle (source_inside s l) h.bundles_legal.each)),
+              (short_bundle (all_at (LegalBundle m.regions) m.bundles i no_bundle (stored_inside s l) h.bundles_legal.each)),
           gathering_room s g e no_bundle l,
         )
 
@@ -255,9 +255,9 @@ module _ (m : Model) (h : Legal m) where
         × (length out + length (f (connection_in (get_or stored i e))) ≤ most_entries))
     connections_asked {i = i} s g e l =
         let c = get_or m.connections i no_connection in
-        let legal = all_at (LegalConnection m.regions) m.connections i no_connection (source_inside s l) h.connections_legal.each in (
+        let legal = all_at (LegalConnection m.regions) m.connections i no_connection (stored_inside s l) h.connections_legal.each in (
           stored_as store_connection connection_in ShortConnection connection_back c (source_at s i e no_connection l) (short_connection legal),
-          (rw (source_at s i e no_connection l) (connection_source {c = c} legal, target_inside {c = c} legal), gathering_room s g e no_connection l),
+          (rw (source_at s i e no_connection l) (source_inside {c = c} legal, target_inside {c = c} legal), gathering_room s g e no_connection l),
         )
 
 -- the places in the table of the bundles are the regions of the locations

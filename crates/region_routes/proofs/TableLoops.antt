@@ -64,25 +64,25 @@ pub record Source {A B : Type 0} (store : A → B) (out : B → A) (f : A → Li
 
 -- a loop over them has put the entries of the first i elements
 module _ {A B : Type 0} {store : A → B} {w : ℕ} {out : B → A} {f : A → List ℕ} {stored : List B} {xs : List A} (s : Source store out f w stored xs) where
-  pub source_inside : {i : ℕ} → i < length stored → i < length xs
-  source_inside l = omega (arith, ap length s.stored_is, length-map xs store)
+  pub stored_inside : {i : ℕ} → i < length stored → i < length xs
+  stored_inside l = omega (arith, ap length s.stored_is, length-map xs store)
 
   pub source_at : (i : ℕ) (e : B) (d : A) → i < length stored → get_or stored i e ≡ store (get_or xs i d)
-  source_at i e d l = ap (λ (bs : List B). get_or bs i e) s.stored_is ∙ getD_map_in store xs i e d (source_inside l)
+  source_at i e d l = ap (λ (bs : List B). get_or bs i e) s.stored_is ∙ getD_map_in store xs i e d (stored_inside l)
 
   source_means : (i : ℕ) (e : B) (d : A) → i < length stored → out (get_or stored i e) ≡ get_or xs i d
-  source_means i e d l = ap out (source_at i e d l) ∙ all_at (λ x. out (store x) ≡ x) xs i d (source_inside l) s.back
+  source_means i e d l = ap out (source_at i e d l) ∙ all_at (λ x. out (store x) ≡ x) xs i d (stored_inside l) s.back
 
   module _ {items : List ℕ} {i : ℕ} (g : items ≡ concat_map f (take i xs)) where
     module _ (e : B) (d : A) (l : i < length stored) where
       pub gathering_room : length items + length (f (out (get_or stored i e))) ≤ most_entries
       gathering_room =
-          let within : suc i ≤ length xs = omega (arith, source_inside l) in
-          let most : length (f (get_or xs i d)) ≤ w = all_at (λ x. length (f x) ≤ w) xs i d (source_inside l) s.few in
+          let within : suc i ≤ length xs = omega (arith, stored_inside l) in
+          let most : length (f (get_or xs i d)) ≤ w = all_at (λ x. length (f x) ≤ w) xs i d (stored_inside l) s.few in
           rw (source_means i e d l) (omega (arith, ap length g, concat_few f w xs s.few i, mul-le-mul_right w within, s.fits))
 
       pub gathering_next : {after : List ℕ} → after ≡ items ++ f (out (get_or stored i e)) → after ≡ concat_map f (take (i + 1) xs)
-      gathering_next h = h ∙ rw (concat_next f xs i d (source_inside l), ← g, source_means i e d l) refl
+      gathering_next h = h ∙ rw (concat_next f xs i d (stored_inside l), ← g, source_means i e d l) refl
 
     pub gathering_end : length stored ≤ i → items ≡ concat_map f xs
     gathering_end l = g ∙ ap (concat_map f) (take_all i xs (omega (arith, ap length s.stored_is, length-map xs store)))

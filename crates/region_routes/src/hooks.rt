@@ -57,7 +57,10 @@ fn keep_many(graph: &Graph, kind: Kind, region: u32, candidates: &[u32], out: &m
         |number|
             requires { region < regions }
             ensures { (m : Model) (kind : ℕ) → NumberTables m kind tables.entry.offered.table.now tables.entry.passing.table.now → result ≡ sees m (item kind number 0) region }
-        { has(tables.regions_seeing(number), region) },
+        {
+            let seeing = tables.regions_seeing(number);
+            seeing != 0 && has(seeing, region)
+        },
     )
 }
 

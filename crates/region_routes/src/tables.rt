@@ -84,6 +84,27 @@ fn provided(b: &StoredBundle, kind: Kind) -> &[u32]
     }
 }
 
+// Puts each item of an iterator behind the first `count` places, and gives the count with them: a local one, which is not stored for each.
+fn put_all<I: Iterator<Item = u64> + Drop>(
+    places: &mut [u64; MOST_ENTRIES],
+    count: usize,
+    items: I,
+) -> usize
+    requires can { I.can_next items }
+    requires ends { IsFinite (I.remaining items) }
+    requires fits { count + size (I.remaining items) ≤ Tables.most_entries }
+    ensures inside { result ≤ Tables.most_entries }
+    ensures ran { (xs : List ℕ) × Drains I.next_gives items xs × (take result places.new ≡ take count places.old ++ xs) }
+    ensures runs { WholeRun I.next_gives items (λ p. take result places.new ≡ take count places.old ++ p.items) }
+{
+    let mut put = count;
+    for item in items {
+        places[put] = item;
+        put += 1;
+    }
+    put
+}
+
 // A table: entries in memory of a fixed size.
 #[derive(Drop)]
 pub struct Table {
@@ -134,9 +155,7 @@ impl Table {
         ensures ran { (xs : List ℕ) × Drains I.next_gives entries xs × (self.new ≡ self.old ++ xs) }
         ensures runs { WholeRun I.next_gives entries (λ p. self.new ≡ self.old ++ p.items) }
     {
-        for entry in entries {
-            self.push(entry);
-        }
+        self.count = put_all(&mut self.entries, self.count, entries);
     }
 
     // Puts an entry for each number of a list.
@@ -322,8 +341,13 @@ impl<'a> Chains<'a> {
     pub fn holders(&self, number: u64) -> u64
         ensures { result ≡ Tables.held_in self.now.table.now number }
     {
-        let mut set = 0;
-        for i in self.places(number) {
+        // Most numbers that are asked for have no entry: they are answered before the loop.
+        let mut places = self.places(number);
+        let Some(first) = places.next() else {
+            return 0;
+        };
+        let mut set = singleton(place_in(self.table[first]));
+        for i in places {
             set |= singleton(place_in(self.table[i]));
         }
         set

@@ -11,7 +11,7 @@ use script_text::{Answer, Hex, value, version};
 use std::io::Write;
 use std::{fmt, io};
 
-// How many regions a route has, or `hidden` where there is none.
+// How many connections a route has, or `hidden` where there is none.
 #[derive(Clone, Copy)]
 struct Length(Option<usize>);
 

@@ -1,4 +1,6 @@
 // The lists of a line, and the buffers that a call is lent, with their values before it.
+ghost use Rattle.std.specs.Prelude.{◌≤◌, vec_len, IfOk};
+
 use script_text::{number, version_of};
 use std::alloc::{AllocError, Global};
 use std::fmt;
@@ -23,19 +25,25 @@ pub fn bytes(alloc: Global, count: usize) -> Result<Vec<u8>, AllocError> {
 }
 
 // Places before a call: so many, or all that have room.
-pub fn places(alloc: Global, count: u32) -> Result<Vec<u32>, AllocError> {
+pub fn places(alloc: Global, count: u32) -> Result<Vec<u32>, AllocError>
+    ensures { IfOk result (λ places. vec_len places ≤ PLACES) }
+{
     (FIRST..).take(PLACES.min(count as usize)).collect(alloc)
 }
 
 // The same of places for versions: a range of another type and start.
-pub fn version_places(alloc: Global, count: u32) -> Result<Vec<u16>, AllocError> {
+pub fn version_places(alloc: Global, count: u32) -> Result<Vec<u16>, AllocError>
+    ensures { IfOk result (λ places. vec_len places ≤ PLACES) }
+{
     (FIRST_VERSION..)
         .take(PLACES.min(count as usize))
         .collect(alloc)
 }
 
 // The numbers of a word, so many at most: those before its first part that does not end in a digit. There is a comma between two parts.
-pub fn numbers(alloc: Global, word: &[u8], most: usize) -> Result<Vec<u32>, AllocError> {
+pub fn numbers(alloc: Global, word: &[u8], most: usize) -> Result<Vec<u32>, AllocError>
+    ensures { IfOk result (λ numbers. vec_len numbers ≤ most) }
+{
     word.split(|byte| *byte == b',')
         .take_while(|part| part.last().is_some_and(|byte| byte.is_ascii_digit()))
         .take(most)
@@ -44,7 +52,9 @@ pub fn numbers(alloc: Global, word: &[u8], most: usize) -> Result<Vec<u32>, Allo
 }
 
 // The versions that the numbers of a word stand for, so many at most.
-pub fn versions(alloc: Global, word: &[u8], most: usize) -> Result<Vec<u16>, AllocError> {
+pub fn versions(alloc: Global, word: &[u8], most: usize) -> Result<Vec<u16>, AllocError>
+    ensures { IfOk result (λ versions. vec_len versions ≤ most) }
+{
     let numbers = numbers(alloc, word, most)?;
     numbers
         .iter()

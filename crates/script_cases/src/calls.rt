@@ -7,12 +7,11 @@
 //   disconnect SOURCE TARGET
 //   start empty
 //   read, lent or over
-// The last three read the file that stands: by value, over the graph at hand, and over the graph of the base.
-ghost use Rattle.region_graph.specs.Record.{Valid};
+// The last three read the file that stands: anew, over the graph at hand, and over the graph of the base.
 
 use crate::buffers::{numbers, versions};
 use crate::session::Session;
-use region_archive::{read, read_over};
+use region_archive::{read_anew, read_over};
 use region_graph::refusals::Refusal;
 use region_graph::{BundleLists, EntryList, FilterLists, Graph, PackageList, PartList};
 use script_text::{value, word};
@@ -33,15 +32,6 @@ fn part<T: Copy>(word: &[u8], list: T) -> PartList<T> {
     } else {
         PartList::Listed(list)
     }
-}
-
-// Reads an archive by value. Where it is refused, the graph is the empty one.
-fn read_anew(graph: &mut Graph, bytes: &[u8]) -> Result<(), Refusal>
-    ensures { Valid graph.new }
-{
-    *graph = Graph::empty();
-    *graph = read(bytes)?;
-    Ok(())
 }
 
 impl Session {

@@ -1,6 +1,8 @@
 // The file that stands, which calls read and query, and the base, a file over whose graph others are read.
+ghost use Rattle.std.specs.Prelude.{◌≡◌, ◌+◌, ◌≤◌, vec_len};
+
 use crate::buffers::ROOM;
-use script_text::{has_bytes, put_hex, word};
+use script_text::{append_hex, has_bytes, word};
 use std::alloc::{AllocError, Global};
 
 #[derive(Drop)]
@@ -10,7 +12,9 @@ pub struct Files {
 }
 
 impl Files {
-    pub fn new(alloc: Global) -> Files {
+    pub fn new(alloc: Global) -> Files
+        ensures { (vec_len result.base ≡ 0) × (vec_len result.file ≡ 0) }
+    {
         Files {
             base: Vec::new(alloc),
             file: Vec::new(alloc),
@@ -19,7 +23,9 @@ impl Files {
 
     // Follows a line: `archive` starts a file with no bytes, `keep` moves the file to the end of the base, a line that has bytes adds
     // them to the file. Base and file have so many bytes as there is room for.
-    pub fn follow(&mut self, alloc: Global, line: &[u8]) -> Result<(), AllocError> {
+    pub fn follow(&mut self, line: &[u8]) -> Result<(), AllocError>
+        ensures { vec_len self.old.base + vec_len self.old.file ≤ ROOM → vec_len self.new.base + vec_len self.new.file ≤ ROOM }
+    {
         match word(line, 0) {
             b"archive" => self.file.clear(),
             b"keep" => {
@@ -27,12 +33,8 @@ impl Files {
                 self.file.clear();
             }
             _ if has_bytes(line) => {
-                let left = ROOM
-                    .saturating_sub(self.base.len())
-                    .saturating_sub(self.file.len());
-                let mut bytes = vec![in alloc; 0u8; left]?;
-                let count = put_hex(&mut bytes, line);
-                self.file.extend_from_slice(&bytes[..count])?;
+                let room = ROOM.saturating_sub(self.base.len());
+                append_hex(&mut self.file, line, room)?;
             }
             _ => {}
         }

@@ -16,7 +16,7 @@ use std::io::{BufWriter, Read, Write};
 // Room for the script. A longer one is obeyed as far as its first 131,072 bytes go.
 const ROOM: usize = 131072;
 
-// As in each program of a script: a shared one would bring the heap into `script_text`.
+// As in each program of a script: a shared one would bring the streams of the host into `script_text`.
 fn main(rt: HostRuntime) -> io::Result<()> {
     let mut script = Vec::new(rt.alloc());
     rt.reader().take(ROOM as u64).read_to_end(&mut script)?;

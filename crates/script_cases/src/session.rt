@@ -15,16 +15,18 @@ pub struct Session {
     pub files: Files,
 }
 
-// A contract sees the graph alone, which is valid.
+// A contract sees the graph alone, which is valid. The base and the file are inside the room.
 impl Model for Session {
+    ghost use Rattle.std.specs.Prelude.{◌+◌, ◌≤◌, vec_len};
     ghost use Rattle.region_graph.specs.Record.{Valid};
     ghost use Rattle.region_graph.specs.declared.Graph.{Graph};
+    ghost use Rattle.script_cases.specs.declared.buffers.TheConstants.{ROOM};
 
     ghost Value = { Graph };
 
     ghost view = { λ s. s.graph };
 
-    ghost invariant = { λ s. Valid s.graph };
+    ghost invariant = { λ s. Valid s.graph × (vec_len s.files.base + vec_len s.files.file ≤ ROOM) };
 }
 
 // Whether a line has no answer: it is empty or a comment, or has bytes.
@@ -61,7 +63,7 @@ pub fn run<W: Write>(out: &mut W, alloc: Global, script: &[u8]) -> io::Result<()
     let mut session = Session::new(alloc);
     for line in script.split(|byte| *byte == b'\n') {
         session.obey(out, line)?;
-        session.files.follow(alloc, line)?;
+        session.files.follow(line)?;
     }
     Ok(())
 }

@@ -1,6 +1,7 @@
 // Bytes as text in hex.
-ghost use Rattle.std.specs.Prelude.{◌≤◌, length};
+ghost use Rattle.std.specs.Prelude.{◌≡◌, ◌≤◌, length, take, vec_len, OnErr};
 
+use std::alloc::AllocError;
 use std::fmt;
 
 // Puts the bytes of a text at the start of `bytes`, as many as have room, and hands back how many they are. What is no digit is passed
@@ -18,6 +19,20 @@ pub fn put_hex(bytes: &mut [u8], text: &[u8]) -> usize
         *byte = (high * 16 + low) as u8;
     }
     bytes.len()
+}
+
+// Adds the bytes of a text to `bytes`, as many as have room where it has so many places.
+pub fn append_hex(bytes: &mut Vec<u8>, text: &[u8], room: usize) -> Result<(), AllocError>
+    ensures room { vec_len bytes.old ≤ room → vec_len bytes.new ≤ room }
+    ensures kept { take (vec_len bytes.old) bytes.new.items ≡ bytes.old.items }
+    ensures err { OnErr result (bytes.new.items ≡ bytes.old.items) }
+{
+    let start = bytes.len();
+    let most = room.saturating_sub(start).min(text.len() / 2);
+    bytes.resize(start + most, 0)?;
+    let count = put_hex(&mut bytes[start..], text);
+    bytes.truncate(start + count);
+    Ok(())
 }
 
 // Bytes as an answer has them: in hex, or `-` where there are none.

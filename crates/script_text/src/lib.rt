@@ -6,5 +6,5 @@ mod hex;
 mod lines;
 
 pub use answers::Answer;
-pub use hex::{Hex, put_hex};
+pub use hex::{Hex, append_hex, put_hex};
 pub use lines::{has_bytes, number, value, version, version_of, word};

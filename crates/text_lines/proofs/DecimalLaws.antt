@@ -110,6 +110,12 @@ module _ {old : List ℕ} {at width n : ℕ} where
               (wrote_before (rest % 10 + 48) (omega arith) d.wrote);
         }
 
+    pub last_end : left ≡ 0 → WrittenAt old new at (last_digits width n) (at + width)
+    last_end z =
+        let e : width - left ≡ width = omega arith in
+        let f : at + left ≡ at = omega arith in
+        rw (e, f) at d.wrote
+
 -- the number that digits say, after a number in front of them
 abbrev pub said : ℕ → List ℕ → ℕ
 said v [] = v

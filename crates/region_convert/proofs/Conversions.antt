@@ -5,7 +5,7 @@ use mathlib.Core.List.{List, ◌++◌}
 use Prim.Native.Nat.{ℕ, ◌≤◌}
 use native.Mathlib.Omega.{arith}
 use borrow.Author.Tests.{le-leb, leb-true, eq-eqb, ne_eqb, not-true, not-false}
-use Rattle.std.specs.Prelude.{Err}
+use Rattle.std.specs.Prelude.{Ok, Err}
 use lib.Dec.{leb}
 use lib.ListN.{length, get_or}
 use Rattle.region_graph.specs.Refusals.{not_refused, not_an_archive, refusal_number}
@@ -120,7 +120,11 @@ module _ (low high : ℕ) (rest : Model → List Question) (image_of : Model →
     then_written z e f =
         e ∙ ap (λ (m : Model). image_outcome (rest m) (image_of m) entry) (read.next z f) ∙ then_asked f (sym z ∙ read.number f)
 
-  -- what is refused by a read that hands back no record
-  pub not_given : opens low high s ≡ true → oldest ≤ low → high ≤ latest → (e : Refusal) → Given s (Err e) → (f : FileMeaning s)
-      → archived (written_answer (Err e)) entry ≡ outcome f
-  not_given opened l h e read f = not_asked e (λ m. (read m).0 ∙ asked_alike low high s opened l h m) f
+  -- what is refused by a read that hands back no record, and what is written of one that it hands back
+  module _ (opened : opens low high s ≡ true) (l : oldest ≤ low) (h : high ≤ latest) where
+    pub not_given : (e : Refusal) → Given s (Err e) → (f : FileMeaning s) → archived (written_answer (Err e)) entry ≡ outcome f
+    not_given e read f = not_asked e (λ m. (read m).0 ∙ asked_alike low high s opened l h m) f
+
+    pub given_written : (g : Graph) → Given s (Ok g) → {o : Outcome Written (List ℕ)}
+        → o ≡ image_outcome (rest (meaning g)) (image_of (meaning g)) entry → (f : FileMeaning s) → o ≡ outcome f
+    given_written g read e f = then_written (opened_read low high (sym opened) refl l h read) refl e f
